@@ -1,0 +1,13 @@
+-- Which specification a text spells.
+use Rattle.std.specs.Prelude.{ℕ, ◌≤◌, List, length}
+use Rattle.lotos_text.specs.Tree.{Def}
+use Rattle.lotos_text.specs.Cut.{Cut}
+use Rattle.lotos_text.specs.Grammar.{Specifies}
+use Rattle.lotos_text.specs.declared.token.Token.{Token}
+
+-- the text is short enough, and is cut into tokens that spell the specification
+pub record Spelled (text : List ℕ) (whole : Def) : Type 0 where
+  pub tokens : List Token
+  pub short : length text ≤ 1048576
+  pub cut : Cut text tokens
+  pub spells : Specifies text tokens whole

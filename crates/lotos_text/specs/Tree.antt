@@ -1,0 +1,36 @@
+-- The trees of specifications, without where they lie in memory.
+use Rattle.std.specs.Prelude.{List}
+use Rattle.lotos_text.specs.declared.tree.Placed.{Placed}
+use Rattle.lotos_text.specs.declared.tree.Action.{Action}
+use Rattle.lotos_text.specs.declared.tree.Functionality.{Functionality}
+
+-- a behaviour expression
+pub data Tree : Type 0 where
+  stop : Tree
+  exit : Tree
+  prefix : Action → Tree → Tree
+  choice : Tree → Tree → Tree
+
+-- a definition (its name, formal gates, declared functionality, body and the definitions of its `where`), and a row of them
+mutual
+  pub data Def : Type 0 where
+    def : Placed → List Placed → Functionality → Tree → Defs → Def
+
+  pub data Defs : Type 0 where
+    no_defs : Defs
+    more_defs : Def → Defs → Defs
+
+abbrev pub name_of : Def → Placed
+name_of (def name formals declared body inner) = name
+
+abbrev pub formals_of : Def → List Placed
+formals_of (def name formals declared body inner) = formals
+
+abbrev pub declared_of : Def → Functionality
+declared_of (def name formals declared body inner) = declared
+
+abbrev pub body_of : Def → Tree
+body_of (def name formals declared body inner) = body
+
+abbrev pub inner_of : Def → Defs
+inner_of (def name formals declared body inner) = inner

@@ -1,0 +1,78 @@
+//! Tokens: the words and marks of a text.
+
+/// A reserved word. `behaviour` and `behavior` are one word.
+///
+/// From `AcceptWord` on they are words of full LOTOS, which basic LOTOS does not use.
+#[derive(Clone, Copy, Debug, PartialEq, Eq)]
+pub enum Word {
+    SpecificationWord,
+    EndspecWord,
+    BehaviourWord,
+    ProcessWord,
+    EndprocWord,
+    WhereWord,
+    StopWord,
+    ExitWord,
+    NoexitWord,
+    HideWord,
+    InWord,
+    IWord,
+    AcceptWord,
+    ChoiceWord,
+    LetWord,
+    ParWord,
+    LibraryWord,
+    TypeWord,
+}
+
+/// A mark.
+#[derive(Clone, Copy, Debug, PartialEq, Eq)]
+pub enum Sign {
+    /// `;`
+    Semicolon,
+    /// `:`
+    Colon,
+    /// `:=`
+    Define,
+    /// `,`
+    Comma,
+    /// `(`
+    LeftParenthesis,
+    /// `)`
+    RightParenthesis,
+    /// `[`
+    LeftBracket,
+    /// `]`
+    RightBracket,
+    /// `[]`
+    Choice,
+    /// `[>`
+    Disable,
+    /// `>>`
+    Enable,
+    /// `|[`
+    LeftSync,
+    /// `||`
+    Full,
+    /// `|||`
+    Interleave,
+    /// `|`
+    Bar,
+}
+
+/// What a token is.
+#[derive(Clone, Copy, Debug, PartialEq, Eq)]
+pub enum TokenKind {
+    /// A word that is not reserved: a gate, a process or the specification.
+    Identifier,
+    Reserved(Word),
+    Sign(Sign),
+}
+
+/// A token, whose text is `text[at..end]`. Both offsets count bytes from the start of the text.
+#[derive(Clone, Copy, Debug, PartialEq, Eq)]
+pub struct Token {
+    pub at: usize,
+    pub end: usize,
+    pub kind: TokenKind,
+}
