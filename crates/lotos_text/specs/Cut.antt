@@ -90,13 +90,13 @@ token at len kind = record { at = at; end = at + len; kind = kind }
 pub data Cuts : ℕ → List ℕ → List Token → ℕ → List ℕ → Type 0 where
   nothing : {at : ℕ} {text : List ℕ} → Cuts at text [] at text
   blank : {at end b : ℕ} {text rest : List ℕ} {ts : List Token} →
-    IsTrue (is_blank b) → Cuts (at + 1) text ts end rest → Cuts at (b ∷ text) ts end rest
+      IsTrue (is_blank b) → Cuts (at + 1) text ts end rest → Cuts at (b ∷ text) ts end rest
   word : {at end : ℕ} (found : List ℕ) {text rest : List ℕ} {ts : List Token} →
-    IsWord found → EndsWord text → Cuts (at + length found) text ts end rest →
-    Cuts at (found ++ text) (token at (length found) (word_kind found) ∷ ts) end rest
+      IsWord found → EndsWord text → Cuts (at + length found) text ts end rest →
+      Cuts at (found ++ text) (token at (length found) (word_kind found) ∷ ts) end rest
   mark : {at end : ℕ} (sign : Sign) {text rest : List ℕ} {ts : List Token} →
-    IsLongest sign text → Cuts (at + length (spelled sign)) text ts end rest →
-    Cuts at (spelled sign ++ text) (token at (length (spelled sign)) (of_sign sign) ∷ ts) end rest
+      IsLongest sign text → Cuts (at + length (spelled sign)) text ts end rest →
+      Cuts at (spelled sign ++ text) (token at (length (spelled sign)) (of_sign sign) ∷ ts) end rest
 
 -- the whole text is cut into these tokens
 abbrev pub Cut : List ℕ → List Token → Type 0

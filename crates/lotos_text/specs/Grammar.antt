@@ -26,13 +26,13 @@ placed text n = record { name = map to_ascii_uppercase (slice_range text n.at n.
 pub data Names (text : List ℕ) : List Token → List Placed → Type 0 where
   one_name : {n : Token} → Is n Identifier → Names text (n ∷ []) (placed text n ∷ [])
   more_names : {n comma : Token} {ts : List Token} {names : List Placed} →
-    Is n Identifier → Is comma (Sign s.Comma) → Names text ts names → Names text (n ∷ comma ∷ ts) (placed text n ∷ names)
+      Is n Identifier → Is comma (Sign s.Comma) → Names text ts names → Names text (n ∷ comma ∷ ts) (placed text n ∷ names)
 
 -- nothing, or names in brackets
 pub data GateList (text : List ℕ) : List Token → List Placed → Type 0 where
   no_gates : GateList text [] []
   gates : {left right : Token} {ts : List Token} {names : List Placed} →
-    Is left (Sign s.LeftBracket) → Names text ts names → Is right (Sign s.RightBracket) → GateList text (left ∷ ts ++ right ∷ []) names
+      Is left (Sign s.LeftBracket) → Names text ts names → Is right (Sign s.RightBracket) → GateList text (left ∷ ts ++ right ∷ []) names
 
 -- the levels of behaviour expressions, from the loosest to the tightest
 pub data Level : Type 0 where
@@ -73,16 +73,16 @@ pub data Spells (text : List ℕ) : Level → Bool → List Token → Tree → T
   stop : {n : Token} → Is n (Reserved w.StopWord) → Spells text prefixing false (n ∷ []) t.stop
   exit : {n : Token} → Is n (Reserved w.ExitWord) → Spells text prefixing false (n ∷ []) t.exit
   brackets : {left right : Token} {o : Bool} {ts : List Token} {x : Tree} →
-    Is left (Sign s.LeftParenthesis) → Spells text hiding o ts x → Is right (Sign s.RightParenthesis) →
-    Spells text prefixing false (left ∷ ts ++ right ∷ []) x
+      Is left (Sign s.LeftParenthesis) → Spells text hiding o ts x → Is right (Sign s.RightParenthesis) →
+      Spells text prefixing false (left ∷ ts ++ right ∷ []) x
   prefix : {act semicolon : Token} {a : Action} {o : Bool} {ts : List Token} {x : Tree} →
-    Acts text act a → Is semicolon (Sign s.Semicolon) → Spells text prefixing o ts x →
-    Spells text prefixing o (act ∷ semicolon ∷ ts) (t.prefix a x)
+      Acts text act a → Is semicolon (Sign s.Semicolon) → Spells text prefixing o ts x →
+      Spells text prefixing o (act ∷ semicolon ∷ ts) (t.prefix a x)
   tighter : {l m : Level} {o : Bool} {ts : List Token} {x : Tree} →
-    Below l m → Spells text m o ts x → Spells text l o ts x
+      Below l m → Spells text m o ts x → Spells text l o ts x
   operation : {l m : Level} {o : Bool} {left op right : List Token} {x y : Tree} {how : Operator} →
-    Below l m → Spells text m false left x → Operates text l op how → Spells text l o right y →
-    Spells text l o (left ++ op ++ right) (join how x y)
+      Below l m → Spells text m false left x → Operates text l op how → Spells text l o right y →
+      Spells text l o (left ++ op ++ right) (join how x y)
 
 -- the declared functionality
 pub data Declares : Token → Functionality → Type 0 where
@@ -92,10 +92,10 @@ pub data Declares : Token → Functionality → Type 0 where
 -- the tokens spell the specification
 pub data Specifies (text : List ℕ) : List Token → Def → Type 0 where
   specification : {word name colon returns define end : Token} {gates body : List Token} {formals : List Placed} {func : Functionality}
-    {o : Bool} {x : Tree} →
-    Is word (Reserved w.SpecificationWord) → Is name Identifier → GateList text gates formals → Is colon (Sign s.Colon) →
-    Declares returns func → Is define (Reserved w.BehaviourWord) → Spells text hiding o body x → Is end (Reserved w.EndspecWord) →
-    Specifies text (word ∷ name ∷ gates ++ colon ∷ returns ∷ define ∷ body ++ end ∷ []) (t.def (placed text name) formals func x t.no_defs)
+      {o : Bool} {x : Tree} →
+      Is word (Reserved w.SpecificationWord) → Is name Identifier → GateList text gates formals → Is colon (Sign s.Colon) →
+      Declares returns func → Is define (Reserved w.BehaviourWord) → Spells text hiding o body x → Is end (Reserved w.EndspecWord) →
+      Specifies text (word ∷ name ∷ gates ++ colon ∷ returns ∷ define ∷ body ++ end ∷ []) (t.def (placed text name) formals func x t.no_defs)
 
 -- some list that starts with these tokens spells a specification
 pub record BeginsSpecification (text : List ℕ) (ts : List Token) : Type 0 where

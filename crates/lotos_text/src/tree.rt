@@ -40,7 +40,10 @@ pub enum Behaviour {
     /// Successful termination, `exit`.
     Exit,
     /// Action prefix, `action; body`.
-    Prefix { action: Action, body: Box<Behaviour> },
+    Prefix {
+        action: Action,
+        body: Box<Behaviour>,
+    },
     /// Choice, `left [] right`.
     Choice {
         left: Box<Behaviour>,
@@ -65,7 +68,11 @@ pub struct Specification {
     pub whole: Definition,
 }
 
-pub(crate) fn choice(alloc: Global, left: Behaviour, right: Behaviour) -> Result<Behaviour, AllocError>
+pub(crate) fn choice(
+    alloc: Global,
+    left: Behaviour,
+    right: Behaviour,
+) -> Result<Behaviour, AllocError>
     ensures { IfOk result (λ b. tree_of b ≡ plain_tree.choice (tree_of left) (tree_of right)) }
 {
     Ok(Behaviour::Choice {
@@ -74,7 +81,11 @@ pub(crate) fn choice(alloc: Global, left: Behaviour, right: Behaviour) -> Result
     })
 }
 
-pub(crate) fn prefix(alloc: Global, action: Action, body: Behaviour) -> Result<Behaviour, AllocError>
+pub(crate) fn prefix(
+    alloc: Global,
+    action: Action,
+    body: Behaviour,
+) -> Result<Behaviour, AllocError>
     ensures { IfOk result (λ b. tree_of b ≡ plain_tree.prefix action (tree_of body)) }
 {
     Ok(Behaviour::Prefix {

@@ -1,0 +1,16 @@
+pub mod Labels
+pub mod Patterns
+pub mod Derivations
+pub mod Listing
+pub mod Steps
+pub mod Rules
+pub mod Accepted
+pub mod LabelWords
+pub mod Misuses
+pub mod Lines
+pub mod Device
+pub mod Reading
+pub mod Writing
+pub mod Answers
+pub mod Wrapped
+pub mod WriteFaults

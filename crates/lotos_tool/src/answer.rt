@@ -1,0 +1,23 @@
+//! How a search ended.
+
+use crate::refusal::Refusal;
+
+/// How a search ended.
+#[derive(Debug, Drop)]
+pub enum Ended {
+    /// The whole listing was written: so many lines, or the greatest `u64` where there are more.
+    Complete { lines: u64 },
+    /// Nothing was written, and this is why.
+    Refused(Refusal),
+    /// The search stopped. `last` is the last sequence whose line was written whole.
+    Stopped { last: Option<String>, why: Why },
+}
+
+/// Why a search stopped.
+#[derive(Clone, Copy, Debug, PartialEq, Eq)]
+pub enum Why {
+    /// A growth of the heap was refused.
+    Memory,
+    /// The output could not be written.
+    Write,
+}

@@ -1,0 +1,28 @@
+//! What the words of the command ask for.
+
+/// What the words of the command ask for.
+#[derive(Debug, Drop)]
+pub enum Request {
+    /// List the sequences that match a pattern.
+    Search(SearchRequest),
+}
+
+/// A search.
+#[derive(Debug, Drop)]
+pub struct SearchRequest {
+    /// The most steps of a derivation, internal ones counted.
+    pub depth: u8,
+    /// The words of the pattern.
+    pub words: Vec<String>,
+}
+
+/// Why the words ask for nothing that can be done.
+#[derive(Debug, Drop)]
+pub enum CommandFault {
+    /// The words ask for help, and this is its text.
+    Help(String),
+    /// The words fit no command, and this text says why.
+    Wrong(String),
+    /// A growth of the heap was refused.
+    Memory,
+}

@@ -1,0 +1,159 @@
+//! Where bytes come from and where they go.
+//!
+//! A device remembers whether one of its calls has failed. Contracts speak of the bytes that it has left or has got, where
+//! it tells them: those over memory do, and for a file or a terminal the claim is as honest as the system is.
+ghost use Rattle.std.specs.Prelude.{◌≡◌, ℕ, Bool, false, List, Option};
+ghost use Rattle.std.specs.Io.KnownBytes.{Keeps};
+ghost use Rattle.lotos_tool.specs.Device.{Reads, Writes, Flags};
+ghost use Rattle.lotos_tool.specs.Wrapped.{wrapped_reader, reader_failed, wrapped_writer, writer_failed};
+
+use std::io::{Read, Write};
+
+/// A device refused a call.
+#[derive(Clone, Copy, Debug, PartialEq, Eq)]
+pub struct DeviceFailed;
+
+/// Where bytes come from.
+pub trait Source {
+    /// The bytes that are left, where the source tells them.
+    ghost left: { Self → Option (List ℕ) };
+
+    /// Whether a call has failed.
+    ghost has_failed: { Self → Bool };
+
+    /// Moves bytes to the front of `into` and answers how many: none, where there is room, only at the end.
+    fn read(&mut self, into: &mut [u8]) -> Result<usize, DeviceFailed>
+        ensures bytes { Reads (left self.old) (left self.new) result into.new }
+        ensures flag { Flags (has_failed self.old) (has_failed self.new) result };
+
+    /// Whether a call has failed. No call takes that back.
+    fn failed(&self) -> bool
+        ensures { result ≡ has_failed self.now };
+}
+
+/// Where bytes go.
+pub trait Sink {
+    /// The bytes that were got so far, where the sink tells them.
+    ghost got: { Self → Option (List ℕ) };
+
+    /// Whether a call has failed.
+    ghost has_failed: { Self → Bool };
+
+    /// Takes bytes from the front of `bytes` and answers how many: at least one, where there is one.
+    fn write(&mut self, bytes: &[u8]) -> Result<usize, DeviceFailed>
+        ensures bytes { Writes (got self.old) (got self.new) result bytes.now }
+        ensures flag { Flags (has_failed self.old) (has_failed self.new) result };
+
+    /// Passes on what was got.
+    fn flush(&mut self) -> Result<(), DeviceFailed>
+        ensures bytes { Keeps (got self.old) (got self.new) }
+        ensures flag { Flags (has_failed self.old) (has_failed self.new) result };
+
+    /// Whether a call has failed. No call takes that back.
+    fn failed(&self) -> bool
+        ensures { result ≡ has_failed self.now };
+}
+
+/// A source over std's reader, whose bytes it has.
+#[derive(Drop)]
+pub struct FromRead<R> {
+    inner: R,
+    failed: bool,
+}
+
+impl<R: Read> FromRead<R> {
+    /// Wraps a reader, as a source that has not failed.
+    pub fn new(inner: R) -> FromRead<R>
+        ensures inner { wrapped_reader result ≡ inner }
+        ensures unfailed { reader_failed result ≡ false }
+    {
+        FromRead {
+            inner,
+            failed: false,
+        }
+    }
+
+    /// Hands back what was wrapped.
+    pub fn into_inner(self) -> R
+        ensures { result ≡ wrapped_reader self }
+    {
+        self.inner
+    }
+}
+
+impl<R: Read> Source for FromRead<R> {
+    ghost left = { λ s. R.remaining (wrapped_reader s) };
+
+    ghost has_failed = { reader_failed };
+
+    fn read(&mut self, into: &mut [u8]) -> Result<usize, DeviceFailed> {
+        match self.inner.read(into) {
+            Ok(count) => Ok(count),
+            Err(_) => {
+                self.failed = true;
+                Err(DeviceFailed)
+            }
+        }
+    }
+
+    fn failed(&self) -> bool {
+        self.failed
+    }
+}
+
+/// A sink over std's writer, whose bytes it has. A write that takes no byte of a slice that isn't empty is a failure.
+#[derive(Drop)]
+pub struct FromWrite<W> {
+    inner: W,
+    failed: bool,
+}
+
+impl<W: Write> FromWrite<W> {
+    /// Wraps a writer, as a sink that has not failed.
+    pub fn new(inner: W) -> FromWrite<W>
+        ensures inner { wrapped_writer result ≡ inner }
+        ensures unfailed { writer_failed result ≡ false }
+    {
+        FromWrite {
+            inner,
+            failed: false,
+        }
+    }
+
+    /// Hands back what was wrapped.
+    pub fn into_inner(self) -> W
+        ensures { result ≡ wrapped_writer self }
+    {
+        self.inner
+    }
+}
+
+impl<W: Write> Sink for FromWrite<W> {
+    ghost got = { λ s. W.contents (wrapped_writer s) };
+
+    ghost has_failed = { writer_failed };
+
+    fn write(&mut self, bytes: &[u8]) -> Result<usize, DeviceFailed> {
+        match self.inner.write(bytes) {
+            Ok(count) if count > 0 || bytes.is_empty() => Ok(count),
+            _ => {
+                self.failed = true;
+                Err(DeviceFailed)
+            }
+        }
+    }
+
+    fn flush(&mut self) -> Result<(), DeviceFailed> {
+        match self.inner.flush() {
+            Ok(()) => Ok(()),
+            Err(_) => {
+                self.failed = true;
+                Err(DeviceFailed)
+            }
+        }
+    }
+
+    fn failed(&self) -> bool {
+        self.failed
+    }
+}

@@ -1,0 +1,36 @@
+//! Reads a whole text, and no more than a text may have.
+ghost use Rattle.std.specs.Prelude.{◌≡◌, false, IfOk, IsErrOf};
+ghost use Rattle.lotos_tool.specs.Reading.{ReadsWhole, TakesAtMost, TakesExactly, is_device_fault};
+
+use crate::device::Source;
+use std::alloc::{AllocError, Global};
+
+/// Why a text could not be read.
+#[derive(Clone, Copy, Debug, PartialEq, Eq)]
+pub enum ReadFault {
+    Device,
+    TooLong,
+    Memory,
+}
+
+impl From<AllocError> for ReadFault {
+    ghost use Rattle.std.specs.Prelude.{◌≡◌};
+    ghost use Rattle.lotos_tool.specs.declared.reading.ReadFault.TheVariants.{Memory};
+
+    ghost from_gives = { λ _ e. e ≡ Memory };
+
+    fn from(_error: AllocError) -> ReadFault {
+        ReadFault::Memory
+    }
+}
+
+/// Reads all that the reader has left. One byte more than a text may have is the most that is taken, and is too long.
+pub fn read_text<R: Source>(alloc: Global, reader: &mut R) -> Result<Vec<u8>, ReadFault>
+    requires { R.has_failed reader.old ≡ false }
+    ensures whole { IfOk result (λ text. ReadsWhole (R.left reader.old) (R.left reader.new) text.items) }
+    ensures failed { R.has_failed reader.new ≡ is_device_fault result }
+    ensures too_long { IsErrOf result ReadFault.TooLong → TakesExactly (R.left reader.old) (R.left reader.new) 1048577 }
+    ensures memory { IsErrOf result ReadFault.Memory → TakesAtMost (R.left reader.old) (R.left reader.new) 1048577 }
+{
+    Err(ReadFault::Memory)
+}
