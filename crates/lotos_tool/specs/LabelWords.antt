@@ -6,6 +6,8 @@ use Rattle.lotos_tool.specs.Labels.{Label, internal}
 use Rattle.lotos_tool.specs.Patterns.{Element, one, Names, Reads, PatternOf}
 use Rattle.lotos_tool.specs.declared.interim_pattern.LabelFault.{LabelFault}
 use Rattle.lotos_tool.specs.declared.interim_pattern.LabelFault.TheVariants.{E41, E44, E45}
+use Rattle.lotos_tool.specs.declared.interim_pattern.Naming.{Naming}
+use Rattle.lotos_tool.specs.declared.interim_pattern.Naming.TheVariants as naming
 use Rattle.lotos_tool.specs.declared.interim_pattern.Unread.{Unread}
 use Rattle.lotos_tool.specs.declared.interim_pattern.Unread.TheVariants.{Fault, Memory}
 
@@ -27,3 +29,9 @@ IsCause words (E45 n) = HasWord words n (λ word. Reads word internal)
 abbrev pub IsLabelFault : List (List ℕ) → Unread → Type 0
 IsLabelFault words (Fault fault) = IsCause words fault × ((p : List Element) → PatternOf words p → ⊥)
 IsLabelFault words Memory = Unit {0}
+
+-- what the word names
+abbrev pub IsNaming : List ℕ → Naming → Type 0
+IsNaming word (naming.Label label) = Names word (string_bytes label)
+IsNaming word naming.Internal = Reads word internal
+IsNaming word naming.Nothing = (l : Label) → Names word l → ⊥
