@@ -6,3 +6,4 @@ pub mod Grammar
 pub mod Spelled
 pub mod Refused
 pub mod Place
+pub mod Inside

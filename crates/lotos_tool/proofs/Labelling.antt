@@ -11,7 +11,7 @@ use Rattle.lotos_tool.specs.LabelWords.{elements_of}
 
 -- one word more names one label more
 joined_more : (es : List Element) (words : List (List ℕ)) (l : Label) (word : List ℕ) → IsJoin Spelling es words → Names word l →
-  IsJoin Spelling (es ++ one l ∷ []) (words ++ word ∷ [])
+    IsJoin Spelling (es ++ one l ∷ []) (words ++ word ∷ [])
 joined_more [] words l word e n = (word ∷ [], [], (word, refl, n), refl, ap (λ ws. ws ++ word ∷ []) e)
 joined_more (f ∷ es) words l word (front, rest, part, others, e) n =
     (front, rest ++ word ∷ [], part, joined_more es rest l word others n, ap (λ ws. ws ++ word ∷ []) e ∙ append_assoc front rest (word ∷ []))
@@ -26,7 +26,7 @@ length_joined (one l ∷ es) words (front, rest, (word, f, n), others, e) =
 
 -- each word names a label
 each_names : (es : List Element) (words : List (List ℕ)) (k : ℕ) (word : List ℕ) → IsJoin Spelling es words → slice_get words k ≡ Some word →
-  (l : Label) × Names word l
+    (l : Label) × Names word l
 each_names [] words k word e at = absurd (let h : slice_get [] k ≡ Some word = subst (λ ws. slice_get ws k ≡ Some word) e at in cc)
 each_names (one l ∷ es) words k word (front, rest, (first, f, n), others, e) at =
     go k (λ j h. each_names es rest j word others h) (subst (λ ws. slice_get ws k ≡ Some word) (e ∙ ap (λ ws. ws ++ rest) f) at)
@@ -50,12 +50,12 @@ word_at (w ∷ ws) (suc i) word h e = word_at ws i word (omega arith) e
 
 -- the words so far and one more, and the labels so far and one more
 pub labelled_more : (labels more : List (String Global)) (words : List (String Global)) (i : ℕ) (word label : String Global) →
-  IsJoin Spelling (elements_of labels) (map string_bytes (take i words)) → i < length words → word ≡ get_or words i word → Names (string_bytes word) (string_bytes label) →
-  more ≡ labels ++ label ∷ [] → IsJoin Spelling (elements_of more) (map string_bytes (take (i + 1) words))
+    IsJoin Spelling (elements_of labels) (map string_bytes (take i words)) → i < length words → word ≡ get_or words i word → Names (string_bytes word) (string_bytes label) →
+    more ≡ labels ++ label ∷ [] → IsJoin Spelling (elements_of more) (map string_bytes (take (i + 1) words))
 labelled_more labels more words i word label joined h e n grown =
     let es : elements_of more ≡ elements_of labels ++ one (string_bytes label) ∷ [] = ap elements_of grown ∙ map-append (λ l. one (string_bytes l)) labels (label ∷ []) in
     let ws : map string_bytes (take (i + 1) words) ≡ map string_bytes (take i words) ++ string_bytes word ∷ [] =
-      ap (map string_bytes) (take_more words i word h ∙ ap (λ w. take i words ++ w ∷ []) (sym e)) ∙ map-append string_bytes (take i words) (word ∷ []) in
+    ap (map string_bytes) (take_more words i word h ∙ ap (λ w. take i words ++ w ∷ []) (sym e)) ∙ map-append string_bytes (take i words) (word ∷ []) in
     let grows = joined_more (elements_of labels) (map string_bytes (take i words)) (string_bytes label) (string_bytes word) joined n in
     subst (λ xs. IsJoin Spelling xs (map string_bytes (take (i + 1) words))) (sym es) (subst (λ xs. IsJoin Spelling (elements_of labels ++ one (string_bytes label) ∷ []) xs) (sym ws) grows)
 
