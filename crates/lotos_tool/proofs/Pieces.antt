@@ -11,8 +11,8 @@ pub got_more : (old mid new : Option (List ℕ)) (bytes rest : List ℕ) (at cou
     → Appends old new (take (at + count) bytes)
 got_more old mid new bytes rest at count before now e =
     subst (Appends old new) (sym (take-add at count bytes))
-        (Appends-trans old mid new (take at bytes) (take count (drop at bytes)) before
-            (subst (λ xs. Appends mid new (take count xs)) e now))
+    (Appends-trans old mid new (take at bytes) (take count (drop at bytes)) before
+    (subst (λ xs. Appends mid new (take count xs)) e now))
 
 -- after the bytes before the place, a write failed
 pub got_part : (old mid new : Option (List ℕ)) (bytes : List ℕ) (at : ℕ)

@@ -14,3 +14,4 @@ pub mod Writing
 pub mod Answers
 pub mod Wrapped
 pub mod WriteFaults
+pub mod Gates

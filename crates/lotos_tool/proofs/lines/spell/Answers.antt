@@ -15,4 +15,4 @@ spelled_whole bytes labels rest first start text i cut begun written passed =
 pub returns : goal.returns
 returns c =
     spelled_whole string_bytes c.args.labels.now c.in-Some.rest.now c.in-Some.first.now _ _ c.loop-label.label-index
-        (search rules) (search rules) c.loop-label.invariant (omega arith)
+    (search rules) (search rules) c.loop-label.invariant (omega arith)
