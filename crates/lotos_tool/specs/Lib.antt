@@ -15,3 +15,4 @@ pub mod Answers
 pub mod Wrapped
 pub mod WriteFaults
 pub mod Searching
+pub mod Gates

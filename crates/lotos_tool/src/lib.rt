@@ -19,6 +19,8 @@ mod reading;
 mod refusal;
 mod running;
 mod searching;
+#[cfg(test)]
+mod tests;
 mod words;
 mod writing;
 

@@ -2,8 +2,12 @@
 ghost use Rattle.std.specs.Prelude.{◌≡◌, false, IfOk, IsErrOf};
 ghost use Rattle.lotos_tool.specs.Reading.{ReadsWhole, TakesAtMost, TakesExactly, is_device_fault};
 
-use crate::device::Source;
+use crate::device::{DeviceFailed, Source};
+use lotos_text::TEXT_LIMIT;
 use std::alloc::{AllocError, Global};
+
+/// The most bytes that one read asks for.
+const PIECE_SIZE: usize = 4096;
 
 /// Why a text could not be read.
 #[derive(Clone, Copy, Debug, PartialEq, Eq)]
@@ -32,5 +36,18 @@ pub fn read_text<R: Source>(alloc: Global, reader: &mut R) -> Result<Vec<u8>, Re
     ensures too_long { IsErrOf result ReadFault.TooLong → TakesExactly (R.left reader.old) (R.left reader.new) 1048577 }
     ensures memory { IsErrOf result ReadFault.Memory → TakesAtMost (R.left reader.old) (R.left reader.new) 1048577 }
 {
-    Err(ReadFault::Memory)
+    let mut text = Vec::new(alloc);
+    let mut piece = [0; PIECE_SIZE];
+    loop {
+        let room = PIECE_SIZE.min(TEXT_LIMIT + 1 - text.len());
+        let count = match reader.read(&mut piece[..room]) {
+            Ok(0) => return Ok(text),
+            Ok(count) => count,
+            Err(DeviceFailed) => return Err(ReadFault::Device),
+        };
+        text.extend_from_slice(&piece[..count])?;
+        if text.len() > TEXT_LIMIT {
+            return Err(ReadFault::TooLong);
+        }
+    }
 }

@@ -1,0 +1,7 @@
+//! Runs over readers and writers in memory.
+
+mod devices;
+mod reading;
+mod running;
+mod wrapping;
+mod writing;
