@@ -14,3 +14,6 @@ pub mod Writing
 pub mod Answers
 pub mod Wrapped
 pub mod WriteFaults
+pub mod Command
+pub mod Request
+pub mod Fitting
