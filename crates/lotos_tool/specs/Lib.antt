@@ -17,3 +17,4 @@ pub mod WriteFaults
 pub mod Command
 pub mod Request
 pub mod Fitting
+pub mod Runs
