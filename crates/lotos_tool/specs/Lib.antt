@@ -16,3 +16,7 @@ pub mod Wrapped
 pub mod WriteFaults
 pub mod Searching
 pub mod Gates
+pub mod Command
+pub mod Request
+pub mod Fitting
+pub mod Runs

@@ -1,5 +1,7 @@
 //! What the words of the command ask for.
 
+use std::alloc::AllocError;
+
 /// What the words of the command ask for.
 #[derive(Debug, Drop)]
 pub enum Request {
@@ -25,4 +27,15 @@ pub enum CommandFault {
     Wrong(String),
     /// A growth of the heap was refused.
     Memory,
+}
+
+impl From<AllocError> for CommandFault {
+    ghost use Rattle.std.specs.Prelude.{◌≡◌};
+    ghost use Rattle.lotos_tool.specs.declared.command.CommandFault.TheVariants.{Memory};
+
+    ghost from_gives = { λ _ e. e ≡ Memory };
+
+    fn from(_error: AllocError) -> CommandFault {
+        CommandFault::Memory
+    }
 }

@@ -7,22 +7,31 @@ ghost use Rattle.lotos_tool.specs.Rules as rules;
 ghost use Rattle.lotos_tool.specs.Rules.{In, texts, Func, WellTyped};
 ghost use Rattle.lotos_tool.specs.Misuses.{IsMisuse};
 
+<<<<<<< HEAD
 use indexmap::IndexSet;
 use lotos_text::{Action, Behaviour, Definition, Functionality, Placed};
+=======
+use crate::message::Declared;
+use lotos_text::{Definition, Functionality};
+>>>>>>> words
 use std::alloc::{AllocError, Global};
+use thiserror::Error;
 
 /// How a specification breaks a static rule.
-#[derive(Debug, Drop)]
+#[derive(Debug, Drop, Error)]
 pub enum StaticFault {
     /// The formal gate is declared twice.
+    #[error("E20 gate {gate} is declared twice")]
     E20 {
         gate: String,
     },
     /// The gate is not declared where it is used.
+    #[error("E21 gate {gate} is not declared")]
     E21 {
         gate: String,
     },
     /// The declared functionality differs from the body's.
+    #[error("E25 {} {}", .name, Declared(*.declared))]
     E25 {
         name: String,
         declared: Functionality,

@@ -1,1 +1,77 @@
-//! Messages for standard error.
+//! Messages for standard error. They take no memory, and a writer that fails is let be.
+
+use crate::answer::Why;
+use crate::refusal::Refusal;
+use itoa::Buffer;
+use lotos_text::Functionality;
+use std::fmt;
+use std::io::Write;
+
+/// Says why a search is refused.
+pub(crate) fn tell_refusal<E: Write>(err: &mut E, refusal: &Refusal) {
+    let _ = writeln!(err, "lotosseq: {refusal}");
+}
+
+/// Says after which sequence a search stopped, and why.
+pub(crate) fn tell_stop<E: Write>(err: &mut E, last: &Option<String>, why: Why) {
+    let _ = match last {
+        Some(sequence) => writeln!(err, "lotosseq: stopped after {sequence}: {why}"),
+        None => writeln!(err, "lotosseq: stopped before the first line: {why}"),
+    };
+}
+
+/// Says why a command that is no search failed.
+pub(crate) fn tell_failure<E: Write>(err: &mut E, why: Why) {
+    let _ = writeln!(err, "lotosseq: {why}");
+}
+
+/// Passes on a text that has its own line feeds.
+pub(crate) fn tell_text<E: Write>(err: &mut E, text: &str) {
+    let _ = write!(err, "{text}");
+}
+
+impl fmt::Display for Why {
+    fn fmt<W: fmt::Write>(&self, f: &mut fmt::Formatter<W>) -> fmt::Result {
+        f.write_str(match self {
+            Why::Memory => "E99 out of memory",
+            Why::Write => "output cannot be written",
+        })
+    }
+}
+
+/// A number in decimal digits.
+#[derive(Clone, Copy, Debug)]
+pub(crate) struct Number(pub usize);
+
+impl fmt::Display for Number {
+    fn fmt<W: fmt::Write>(&self, f: &mut fmt::Formatter<W>) -> fmt::Result {
+        let mut digits = Buffer::new();
+        f.write_str(digits.format(self.0))
+    }
+}
+
+/// A line and a column before what is said of them, or nothing.
+#[derive(Clone, Copy, Debug)]
+pub(crate) struct At(pub Option<(usize, usize)>);
+
+impl fmt::Display for At {
+    fn fmt<W: fmt::Write>(&self, f: &mut fmt::Formatter<W>) -> fmt::Result {
+        match self.0 {
+            Some((line, column)) => write!(f, "{}:{}: ", Number(line), Number(column)),
+            None => Ok(()),
+        }
+    }
+}
+
+/// A declared functionality, and the other one, which the body has.
+#[derive(Clone, Copy, Debug)]
+pub(crate) struct Declared(pub Functionality);
+
+impl fmt::Display for Declared {
+    fn fmt<W: fmt::Write>(&self, f: &mut fmt::Formatter<W>) -> fmt::Result {
+        f.write_str(match self.0 {
+            Functionality::Exit => "is declared exit and is noexit",
+            Functionality::NoExit => "is declared noexit and is exit",
+        })
+    }
+}

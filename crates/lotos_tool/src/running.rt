@@ -1,11 +1,23 @@
 //! The command from its words to its status.
-ghost use Rattle.std.specs.Prelude.{◌≡◌, false};
+ghost use Rattle.std.specs.Prelude.{◌≡◌, false, OnOk, OnErr};
+ghost use Rattle.std.specs.Io.KnownBytes.{Appends};
+ghost use Rattle.lotos_tool.specs.Request.{texts_of};
+ghost use Rattle.lotos_tool.specs.Runs.{AppendsBeginning, Ran, Shown, status_of};
 
-use crate::device::{Sink, Source};
+use crate::answer::{Ended, Why};
+use crate::command::{CommandFault, Request};
+use crate::device::{DeviceFailed, Sink, Source};
+use crate::message::{tell_failure, tell_refusal, tell_stop, tell_text};
+use crate::searching::list;
+use crate::words::request;
+use crate::writing::write_bytes;
 use std::alloc::Global;
 use std::io::Write;
 
-/// Runs the command.
+/// Runs the command and answers its status.
+///
+/// The first of the words is the program's own name. The listing, or the help where the words ask for it, goes to `out`, and
+/// every message to `err`, whose faults change no status. The reader and the output have not failed yet.
 pub fn run<R: Source, W: Sink, E: Write>(
     alloc: Global,
     words: &[&str],
@@ -15,6 +27,63 @@ pub fn run<R: Source, W: Sink, E: Write>(
 ) -> u8
     requires reader { R.has_failed reader.old ≡ false }
     requires out { W.has_failed out.old ≡ false }
+    ensures { Ran (texts_of words.now) (R.left reader.old) (R.left reader.new) (W.got out.old) (W.got out.new) result }
 {
-    5
+    match request(alloc, words) {
+        Ok(Request::Search(search)) => finish(&list(alloc, &search, reader, out), err),
+        Err(CommandFault::Help(text)) => show_help(text.as_str(), out, err),
+        Err(CommandFault::Wrong(text)) => {
+            tell_text(err, text.as_str());
+            2
+        }
+        Err(CommandFault::Memory) => {
+            tell_failure(err, Why::Memory);
+            5
+        }
+    }
+}
+
+/// Tells of a search that is not complete, and answers its status.
+fn finish<E: Write>(ended: &Ended, err: &mut E) -> u8
+    ensures { result ≡ status_of ended.now }
+{
+    match ended {
+        Ended::Complete { lines: 0 } => 1,
+        Ended::Complete { lines: _ } => 0,
+        Ended::Refused(refusal) => {
+            tell_refusal(err, refusal);
+            2
+        }
+        Ended::Stopped { last, why } => {
+            tell_stop(err, last, *why);
+            match why {
+                Why::Memory => 5,
+                Why::Write => 6,
+            }
+        }
+    }
+}
+
+/// Writes the help, and answers the status.
+fn show_help<W: Sink, E: Write>(text: &str, out: &mut W, err: &mut E) -> u8
+    requires { W.has_failed out.old ≡ false }
+    ensures { Shown (W.got out.old) (W.got out.new) text.now result }
+{
+    match write_whole(text, out) {
+        Ok(()) => 0,
+        Err(DeviceFailed) => {
+            tell_failure(err, Why::Write);
+            6
+        }
+    }
+}
+
+/// Writes a text and flushes.
+fn write_whole<W: Sink>(text: &str, out: &mut W) -> Result<(), DeviceFailed>
+    requires { W.has_failed out.old ≡ false }
+    ensures whole { OnOk result (Appends (W.got out.old) (W.got out.new) text.now) }
+    ensures beginning { OnErr result (AppendsBeginning (W.got out.old) (W.got out.new) text.now) }
+{
+    write_bytes(out, text.as_bytes())?;
+    out.flush()
 }

@@ -1,0 +1,35 @@
+-- The command line is one whose matches clap states, and what it makes of some words.
+use Rattle.std.proofs.Common.{◌≡◌, refl, true, codes, List, [], ◌∷◌, Some}
+use Rattle.clap.specs.Words.{Text, fault_of, is_simple, is_simple_and_free, takes}
+use Rattle.clap.specs.declared.error.kind.ErrorKind.TheVariants.{ValueValidation}
+use Rattle.clap.proofs.OnLiterals.{clap_on_literals}
+use Rattle.lotos_tool.specs.Command.{lotosseq}
+use Rattle.lotos_tool.specs.Request.{RequestOf, request_of, search}
+
+pub simple_and_free : is_simple_and_free lotosseq ≡ true
+simple_and_free = refl
+
+pub simple : is_simple lotosseq ≡ true
+simple = refl
+
+abbrev row : List Text
+row = codes "lotosseq" ∷ codes "search" ∷ codes "--depth" ∷ codes "3" ∷ codes "A" ∷ codes "exit" ∷ []
+
+row_is_taken : takes lotosseq row ≡ true
+unfolding clap_on_literals
+row_is_taken = refl
+
+row_asks : RequestOf row (search (record { depth = 3; words = codes "A" ∷ codes "exit" ∷ [] }))
+unfolding clap_on_literals
+row_asks = record { faultless = refl; reads = refl }
+
+abbrev hyphen_row : List Text
+hyphen_row = codes "lotosseq" ∷ codes "search" ∷ codes "--depth=007" ∷ codes "--" ∷ codes "-x" ∷ []
+
+hyphen_asks : RequestOf hyphen_row (search (record { depth = 7; words = codes "-x" ∷ [] }))
+unfolding clap_on_literals
+hyphen_asks = record { faultless = refl; reads = refl }
+
+too_deep : fault_of lotosseq (codes "lotosseq" ∷ codes "search" ∷ codes "--depth" ∷ codes "256" ∷ []) ≡ ValueValidation ∷ []
+unfolding clap_on_literals
+too_deep = refl

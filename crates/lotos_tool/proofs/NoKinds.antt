@@ -1,0 +1,23 @@
+-- Where clap finds no kind of fault.
+use Rattle.std.proofs.Common.{◌≡◌, ◌∙◌, Bool, refl, ap, List, [], ◌∷◌, ◌++◌}
+use Rattle.clap.specs.Kinds.{Kinds, or_else, value_kinds, values_kinds}
+use Rattle.clap.specs.Walk.{Text}
+use Rattle.clap.specs.declared.builder.value_parser.ValueParser.{ValueParser}
+use Rattle.clap.specs.declared.error.kind.ErrorKind.{ErrorKind}
+
+-- a fault is some fault
+pub not_empty : (k : ErrorKind) (ks : Kinds) → k ∷ ks ≡ [] → ⊥
+not_empty k ks e = cc
+
+-- no fault in one or else the other is none in either
+pub both_empty : (one other : Kinds) → or_else one other ≡ [] → (one ≡ []) × (other ≡ [])
+both_empty [] other e = (refl, e)
+both_empty (k ∷ ks) other e = cc
+
+-- values that pass a parser, and further ones that do
+pub values_join : (ignore : Bool) (parser : ValueParser) (xs ys : List Text) → values_kinds ignore parser xs ≡ []
+    → values_kinds ignore parser ys ≡ [] → values_kinds ignore parser (xs ++ ys) ≡ []
+values_join ignore parser [] ys passed more = more
+values_join ignore parser (x ∷ xs) ys passed more =
+    let parts = both_empty (value_kinds ignore parser x) (values_kinds ignore parser xs) passed in
+    ap (λ ks. or_else ks (values_kinds ignore parser (xs ++ ys))) parts.0 ∙ values_join ignore parser xs ys parts.1 more

@@ -1,0 +1,40 @@
+use Rattle.std.proofs.Common.{◌≡◌, ℕ, List, Option, inl, inr, refl, rules, subst}
+use Rattle.std.proofs.KnownBytes.{Keeps-refl}
+use Rattle.clap.specs.Words.{Text}
+use Rattle.lotos_tool.specs.Answers.{Answers}
+use Rattle.lotos_tool.specs.Request.{RequestOf, request_view}
+use Rattle.lotos_tool.specs.Runs.{Searched, status_of}
+use Rattle.lotos_tool.specs.Runs.Told.{helped, wrong}
+use Rattle.lotos_tool.specs.declared.answer.Ended.{Ended}
+use Rattle.lotos_tool.specs.declared.command.Request.{Request}
+use Rattle.lotos_tool.specs.declared.command.Request.TheVariants as one
+use Rattle.lotos_tool.specs.declared.command.SearchRequest.{SearchRequest}
+use Rattle.lotos_tool.proofs.running.run.Goals as goal
+
+module _ (words : List Text) (left left' got got' : Option (List ℕ)) (status : ℕ) where
+  searched : (asked : Request) (request : SearchRequest) (ended : Ended) → Answers request left left' got got' ended
+      → status ≡ status_of ended → asked ≡ one.Search request → RequestOf words (request_view asked)
+      → Searched words left left' got got' status
+  searched asked request ended answers status_is is asks =
+      let Asks : Request → Type 0 = λ r. RequestOf words (request_view r) in
+      record { request = request; asked = subst Asks is asks; ended = ended; answered = answers; status_is = status_is }
+
+pub returns-in-Ok-Search : goal.returns-in-Ok-Search
+returns-in-Ok-Search g c =
+    inl (searched _ _ _ _ _ _ c.in-Ok-Search.field-0 _ c.list.result c.list.ensures.answers c.finish.ensures (search rules) c.in-Ok-Search.ensures.is)
+
+pub returns-in-Err-Help : goal.returns-in-Err-Help
+returns-in-Err-Help g c =
+    inr (record {
+      kept = Keeps-refl _;
+      told = helped _ c.show_help.ensures;
+      taken = λ t. let m = c.in-Err-Help.ensures.taken t in let e = c.in-Err-Help.field-0-is in cc;
+    })
+
+pub returns-in-Err-Wrong : goal.returns-in-Err-Wrong
+returns-in-Err-Wrong g c =
+    inr (record {
+      kept = Keeps-refl _;
+      told = wrong refl (Keeps-refl _);
+      taken = λ t. let m = c.in-Err-Wrong.ensures.taken t in let e = c.in-Err-Wrong.field-0-is in cc;
+    })

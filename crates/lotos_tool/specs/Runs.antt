@@ -1,0 +1,60 @@
+-- What a run of the command does, and the status that it ends with.
+use Rattle.std.specs.Prelude.{◌≡◌, ℕ, ◌⊎◌, ◌==◌, List, ◌++◌, Option, true, if◌then◌else◌}
+use Rattle.std.specs.Io.KnownBytes.{Appends, Keeps}
+use Rattle.clap.specs.Words.{Text, takes}
+use Rattle.lotos_tool.specs.Answers.{Answers}
+use Rattle.lotos_tool.specs.Command.{lotosseq}
+use Rattle.lotos_tool.specs.Request.{RequestOf, request_view}
+use Rattle.lotos_tool.specs.declared.answer.Ended.{Ended}
+use Rattle.lotos_tool.specs.declared.answer.Ended.TheVariants.{Complete, Refused, Stopped}
+use Rattle.lotos_tool.specs.declared.answer.Why.TheVariants as why
+use Rattle.lotos_tool.specs.declared.command.SearchRequest.{SearchRequest}
+use Rattle.lotos_tool.specs.declared.command.Request.TheVariants as asked
+
+-- the status of a search: 0 and 1 where it is complete, with lines and with none, 2 where it is refused, 5 where memory was
+-- wanting, 6 where the output could not be written
+abbrev pub status_of : Ended → ℕ
+status_of (Complete lines) = if lines == 0 then 1 else 0
+status_of (Refused cause) = 2
+status_of (Stopped last why.Memory) = 5
+status_of (Stopped last why.Write) = 6
+
+-- the words ask for a search, its answer is true, and the status is that of the answer
+pub record Searched (words : List Text) (left left' got got' : Option (List ℕ)) (status : ℕ) : Type 0 where
+  pub request : SearchRequest
+  pub asked : RequestOf words (request_view (asked.Search request))
+  pub ended : Ended
+  pub answered : Answers request left left' got got' ended
+  pub status_is : status ≡ status_of ended
+
+-- the output got a beginning of the text, or all of it
+pub record AppendsBeginning (got got' : Option (List ℕ)) (text : List ℕ) : Type 0 where
+  pub part : List ℕ
+  pub rest : List ℕ
+  pub whole : text ≡ part ++ rest
+  pub written : Appends got got' part
+
+-- the text was written and the status is 0, or the output failed and the status is 6
+pub data Shown (got got' : Option (List ℕ)) (text : List ℕ) (status : ℕ) : Type 0 where
+  written : status ≡ 0 → Appends got got' text → Shown got got' text status
+  broken_off : status ≡ 6 → AppendsBeginning got got' text → Shown got got' text status
+
+-- what the output got where nothing is searched, by the status
+pub data Told (got got' : Option (List ℕ)) (status : ℕ) : Type 0 where
+  -- the help that the words ask for
+  helped : (text : List ℕ) → Shown got got' text status → Told got got' status
+  -- nothing, the words being wrong
+  wrong : status ≡ 2 → Keeps got got' → Told got got' status
+  -- nothing, memory being wanting
+  wanting : status ≡ 5 → Keeps got got' → Told got got' status
+
+-- nothing is searched, nothing is read, and words without a fault are left only for want of memory
+pub record NotSearched (words : List Text) (left left' got got' : Option (List ℕ)) (status : ℕ) : Type 0 where
+  pub kept : Keeps left left'
+  pub told : Told got got' status
+  pub taken : takes lotosseq words ≡ true → status ≡ 5
+
+-- what the run of the words did and the status that it ended with
+abbrev pub Ran : List Text → Option (List ℕ) → Option (List ℕ) → Option (List ℕ) → Option (List ℕ) → ℕ → Type 0
+Ran words left left' got got' status =
+    Searched words left left' got got' status ⊎ NotSearched words left left' got got' status
