@@ -7,13 +7,9 @@ ghost use Rattle.lotos_tool.specs.Rules as rules;
 ghost use Rattle.lotos_tool.specs.Rules.{In, texts, Func, WellTyped};
 ghost use Rattle.lotos_tool.specs.Misuses.{IsMisuse};
 
-<<<<<<< HEAD
+use crate::message::Declared;
 use indexmap::IndexSet;
 use lotos_text::{Action, Behaviour, Definition, Functionality, Placed};
-=======
-use crate::message::Declared;
-use lotos_text::{Definition, Functionality};
->>>>>>> words
 use std::alloc::{AllocError, Global};
 use thiserror::Error;
 
