@@ -2,6 +2,7 @@
 
 mod devices;
 mod reading;
+mod rows;
 mod running;
 mod wrapping;
 mod writing;
