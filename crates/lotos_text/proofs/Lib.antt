@@ -1,1 +1,7 @@
+pub mod Words
+pub mod Reserved
+pub mod Marks
+pub mod Fronts
+pub mod Cutting
+pub mod Standing
 pub mod Cuts
