@@ -19,6 +19,7 @@ data Next (at : ℕ) (text : List ℕ) (ts : List Token) (end : ℕ) : Type 0 wh
   at_token : (n : ℕ) (kind : TokenKind) (us : List Token) → Front text (a_token n kind) → ts ≡ token at n kind ∷ us →
       Cuts (at + n) (drop n text) us end [] → Next at text ts end
 
+-- what stands at the front of a text begins its cut
 next : {at end : ℕ} {text : List ℕ} {ts : List Token} → Cuts at text ts end [] → Next at text ts end
 next nothing = at_end refl refl
 next (blank {b} {text} i d) = at_blank (a_blank b text refl i) d
@@ -29,6 +30,7 @@ next (mark {at} {end} sign {text} {ts} i d) =
     at_token (length (spelled sign)) (of_sign sign) ts (a_mark sign text refl i) refl
     (subst (λ t. Cuts (at + length (spelled sign)) t ts end []) (sym (drop-append_seam (spelled sign) text)) d)
 
+-- an empty text has no piece
 nothing_in : {p : Piece} → Front [] p → ⊥
 nothing_in f = omega (arith, front_some f)
 
@@ -44,6 +46,7 @@ record Past (at n : ℕ) (kind : TokenKind) (text : List ℕ) (ts : List Token) 
   begins : ts ≡ token at n kind ∷ more
   cut : Cuts (at + n) (drop n text) more end []
 
+-- a cut of the whole text takes the token that stands at its front
 past_token : {at end n : ℕ} {kind : TokenKind} {text : List ℕ} {ts : List Token} → Front text (a_token n kind) → Next at text ts end → Past at n kind text ts end
 past_token {n} {kind} f (at_end e g) = absurd (nothing_in (subst (λ t. Front t (a_token n kind)) e f))
 past_token f (at_blank g d) = absurd (cc (one_front f g))
@@ -63,9 +66,11 @@ record Meets (us ts : List Token) (at : ℕ) (rest : List ℕ) (end : ℕ) : Typ
   begins : ts ≡ us ++ more
   cut : Cuts at rest more end []
 
+-- two cuts that meet do so with one token more before both
 meet_token : {us ts : List Token} {at : ℕ} {rest : List ℕ} {end : ℕ} (t : Token) (ws : List Token) → ws ≡ t ∷ ts → Meets us ts at rest end → Meets (t ∷ us) ws at rest end
 meet_token t ws e m = record { more = m.more; begins = e ∙ ap (λ k. t ∷ k) m.begins; cut = m.cut }
 
+-- a cut of the whole text begins with the tokens of each cut of its beginning
 meet : {at fin : ℕ} {text rest : List ℕ} {us : List Token} → Cuts at text us fin rest → (ts : List Token) (end : ℕ) → Cuts at text ts end [] → Meets us ts fin rest end
 meet nothing ts end d = record { more = ts; begins = refl; cut = d }
 meet (blank {b} {text} i c) ts end d = meet c ts end (past_blank (a_blank b text refl i) (next d))
@@ -78,6 +83,7 @@ meet (mark {at} sign {text} i c) ts end d =
     meet_token (token at (length (spelled sign)) (of_sign sign)) ts past.begins
     (meet c past.more end (subst (λ t. Cuts (at + length (spelled sign)) t past.more end []) (drop-append_seam (spelled sign) text) past.cut))
 
+-- the cut of an empty text has no token
 ended : {at end : ℕ} {ts : List Token} → Next at [] ts end → ts ≡ []
 ended (at_end e g) = g
 ended (at_blank f d) = absurd (nothing_in f)
@@ -88,6 +94,7 @@ one_cut text ts us c d =
     let m = meet d ts (length text) c in
     m.begins ∙ ap (λ k. us ++ k) (ended (next m.cut)) ∙ append-nil us
 
+-- no cut of the whole text passes a byte that begins no piece
 stuck : {at end : ℕ} {text : List ℕ} {ts : List Token} → Front text Unknown → Next at text ts end → ⊥
 stuck f (at_end e g) = nothing_in (subst (λ t. Front t Unknown) e f)
 stuck f (at_blank g d) = cc (one_front f g)

@@ -26,6 +26,7 @@ join (blank i c) d = blank i (join c d)
 join (word found i f c) d = word found i f (join c d)
 join (mark sign i c) d = mark sign i (join c d)
 
+-- the piece at the front is cut off
 cut_blank : (text : List ℕ) (at : ℕ) → Front (drop at text) Blank → Cuts at (drop at text) [] (at + 1) (drop (at + 1) text)
 cut_blank text at (a_blank b rest e i) =
     let C : List ℕ → List ℕ → Type 0 = λ t r. Cuts at t [] (at + 1) r in
@@ -40,6 +41,7 @@ cut_token text at n kind (a_mark sign rest e i) =
     let C : List ℕ → List ℕ → Type 0 = λ t r. Cuts at t (token at n kind ∷ []) (at + n) r in
     subst (λ t. C t (drop (at + n) text)) (sym e) (subst (λ r. C (spelled sign ++ rest) r) (sym (behind text at (spelled sign) rest e)) (mark sign i nothing))
 
+-- a word and a mark have a byte at least
 word_some : (found : List ℕ) → IsWord found → 0 < length found
 word_some [] i = absurd i
 word_some (b ∷ bs) i = omega arith
@@ -60,6 +62,7 @@ front_some (a_word found rest e i f) = omega (arith, ap length e, length-append 
 front_some (a_mark sign rest e i) = omega (arith, ap length e, length-append (spelled sign) rest, mark_some sign)
 front_some (no_piece b rest e i) = omega (arith, ap length e)
 
+-- a token at the front ends in the text
 token_fits : (text : List ℕ) (at n : ℕ) (kind : TokenKind) → at ≤ length text → Front (drop at text) (a_token n kind) → at + n ≤ length text
 token_fits text at n kind h (a_word found rest e i f) = fits text at found rest h e
 token_fits text at n kind h (a_mark sign rest e i) = fits text at (spelled sign) rest h e
@@ -73,12 +76,15 @@ pub record Reached (text : List ℕ) (at : ℕ) (found : List Token) : Type 0 wh
 abbrev pub rest_of : List ℕ → ℕ → List ℕ
 rest_of text at = take (length text - at) (drop at text)
 
+-- what stands at the front of the rest stands at the offset
 front_at : (text : List ℕ) (at : ℕ) (p : Piece) → Front (rest_of text at) p → Front (drop at text) p
 front_at text at p f = subst (λ t. Front t p) (take_all (length text - at) (drop at text) (omega (arith, length-drop at text))) f
 
+-- nothing is cut at the start
 pub reached_start : (text : List ℕ) → Reached text 0 []
 reached_start text = record { inside = omega arith; cut = nothing }
 
+-- the piece at the offset takes the cut on
 pub reached_blank : (text : List ℕ) (at : ℕ) (found : List Token) → Reached text at found → Front (rest_of text at) Blank → Reached text (at + 1) found
 reached_blank text at found r f =
     let g = front_at text at Blank f in

@@ -15,10 +15,12 @@ use Rattle.lotos_text.specs.declared.token.Sign.{Sign}
 use Rattle.lotos_text.proofs.Words.{letter_no_blank, front_word, front_ends, word_length}
 use Rattle.lotos_text.proofs.Marks.{mark_found, no_mark_found, mark_of_longest, mark_no_blank, mark_no_letter}
 
+-- a mark, or nothing
 abbrev pub mark_piece : Option Sign → Piece
 mark_piece None = Unknown
 mark_piece (Some sign) = a_token (length (spelled sign)) (of_sign sign)
 
+-- the word of so many bytes
 abbrev pub word_piece : List ℕ → ℕ → Piece
 word_piece text n = a_token n (word_kind (take n text))
 
@@ -28,6 +30,7 @@ piece_of text =
     cond (is_blank (slice_index text 0)) Blank
     (cond (is_ascii_alphabetic (slice_index text 0)) (word_piece text (prefix_len is_word_byte text)) (mark_piece (mark_of text)))
 
+-- the piece at each kind of first byte
 piece_blank : (text : List ℕ) → is_blank (slice_index text 0) ≡ true → piece_of text ≡ Blank
 piece_blank text h = cond-true (is_blank (slice_index text 0)) _ _ h
 
@@ -38,10 +41,12 @@ piece_word text h =
 piece_mark : (text : List ℕ) → is_blank (slice_index text 0) ≡ false → is_ascii_alphabetic (slice_index text 0) ≡ false → piece_of text ≡ mark_piece (mark_of text)
 piece_mark text h k = cond-false (is_blank (slice_index text 0)) _ _ h ∙ cond-false (is_ascii_alphabetic (slice_index text 0)) _ _ k
 
+-- a word begins with a letter
 word_head : (found rest : List ℕ) → IsWord found → is_ascii_alphabetic (slice_index (found ++ rest) 0) ≡ true
 word_head [] rest h = absurd h
 word_head (b ∷ bs) rest h = h.0
 
+-- where no mark begins, none is found
 mark_none : (text : List ℕ) → ((sign : Sign) → (rest : List ℕ) → text ≡ spelled sign ++ rest → ⊥) → mark_of text ≡ None
 mark_none text h =
     (elim (mark_of text) as (λ o. mark_of text ≡ o → o ≡ None) [
@@ -49,6 +54,7 @@ mark_none text h =
       | Some sign ↦ λ e. let found = mark_found text sign e in absurd (h sign found.0 found.1)
     ]) refl
 
+-- the piece at the front is the one that is computed
 front_is : {text : List ℕ} {p : Piece} → Front text p → p ≡ piece_of text
 front_is {text} (a_blank b rest e i) = sym (piece_blank text (ap (λ t. is_blank (slice_index t 0)) e ∙ i))
 front_is {text} (a_word found rest e i f) =
@@ -70,6 +76,7 @@ front_is {text} (no_piece b rest e i) =
 pub one_front : {text : List ℕ} {p q : Piece} → Front text p → Front text q → p ≡ q
 one_front f g = front_is f ∙ sym (front_is g)
 
+-- the piece at the front, from what `front` tests
 pub blank_front : (text : List ℕ) → is_blank (slice_index text 0) ≡ true → Front text Blank
 blank_front [] h = absurd (cc)
 blank_front (b ∷ bs) h = a_blank b bs refl h
@@ -78,9 +85,9 @@ pub word_front : (text : List ℕ) → is_ascii_alphabetic (slice_index text 0) 
 word_front text h =
     let n = prefix_len is_word_byte text in
     let found = take n text in
-    let front : Front text (a_token (length found) (word_kind found)) =
-    a_word found (drop n text) (sym (take-append-drop n text)) (front_word text h) (front_ends text) in
-    subst (λ m. Front text (a_token m (word_kind found))) (length-prefix_len is_word_byte text) front
+    let whole = sym (take-append-drop n text) in
+    subst (λ m. Front text (a_token m (word_kind found))) (length-prefix_len is_word_byte text)
+    (a_word found (drop n text) whole (front_word text h) (front_ends text))
 
 pub mark_front : (text : List ℕ) (sign : Sign) → mark_of text ≡ Some sign → Front text (a_token (length (spelled sign)) (of_sign sign))
 mark_front text sign e = let found = mark_found text sign e in a_mark sign found.0 found.1 found.2
@@ -90,5 +97,5 @@ pub unknown_front : (text : List ℕ) → 0 < length text → is_blank (slice_in
 unknown_front [] h i k e = absurd (omega arith)
 unknown_front (b ∷ bs) h i k e = no_piece b bs refl (record { no_blank = i; no_letter = k; no_mark = no_mark_found (b ∷ bs) e })
 
--- what `front` finds
+-- what `front` cites
 pub ruleset found_fronts = (blank_front, word_front, mark_front, unknown_front)

@@ -15,6 +15,7 @@ use Rattle.lotos_text.specs.declared.token.Sign.TheVariants as s
 abbrev pub begins : List ℕ → Sign → Bool
 begins text sign = starts_with nat_eq text (spelled sign)
 
+-- the test says whether the mark begins the text
 begins_true : (text : List ℕ) (sign : Sign) → begins text sign ≡ true → text ≡ spelled sign ++ drop (length (spelled sign)) text
 begins_true text sign = (starts_is {E = nat_eq} Decides-eqb text (spelled sign) (begins text sign) refl).0
 
@@ -44,6 +45,7 @@ of_each P h s.LeftBracket = h.1.1.1.1.1.1.1.1.1.1.1.1.0
 of_each P h s.RightBracket = h.1.1.1.1.1.1.1.1.1.1.1.1.1.0
 of_each P h s.Bar = h.1.1.1.1.1.1.1.1.1.1.1.1.1.1.0
 
+-- a list of which no mark is longer
 none_shorter : (m : Sign) (ms : List Sign) (test : Sign → Bool) → list_all (λ n. nat_le (length (spelled n)) (length (spelled m))) ms ≡ true →
     AllByRecursion (λ n. test n ≡ true → length (spelled n) ≤ length (spelled m)) ms
 none_shorter m [] test h = tt
@@ -56,6 +58,7 @@ record IsLongestOf (test : Sign → Bool) (ms : List Sign) (m : Sign) : Type 0 w
   passes : test m ≡ true
   longest : AllByRecursion (λ n. test n ≡ true → length (spelled n) ≤ length (spelled m)) ms
 
+-- the first mark that passes is the longest that does
 find_longest : (test : Sign → Bool) (ms : List Sign) (m : Sign) → descends ms ≡ true → find test ms ≡ Some m → IsLongestOf test ms m
 find_longest test [] m d e = absurd (cc)
 find_longest test (n ∷ ms) m d e =
@@ -69,6 +72,7 @@ find_longest test (n ∷ ms) m d e =
           record { passes = found.passes; longest = ((λ t. absurd (both_ways (test n) f t)), found.longest) }
     ]
 
+-- where none is found, none passes
 find_none : (test : Sign → Bool) (ms : List Sign) → find test ms ≡ None → AllByRecursion (λ n. test n ≡ true → ⊥) ms
 find_none test [] e = tt
 find_none test (n ∷ ms) e =
@@ -89,9 +93,11 @@ mark_found text sign e =
           (begins_from text other (b.0, front ∙ b.1)),
     )
 
+-- where none is found, no mark begins the text
 pub no_mark_found : (text : List ℕ) → mark_of text ≡ None → (sign : Sign) → Begins (spelled sign) text → ⊥
 no_mark_found text e sign b = of_each (λ n. begins text n ≡ true → ⊥) (find_none (begins text) marks e) sign (begins_from text sign b)
 
+-- at the front of its own bytes a mark is found
 mark_of_spelled : (sign : Sign) → mark_of (spelled sign) ≡ Some sign
 mark_of_spelled s.Semicolon = refl
 mark_of_spelled _ = refl

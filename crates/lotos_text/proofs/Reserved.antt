@@ -29,32 +29,42 @@ pub record Left (rows : List Row) (found : List ℕ) : Type 0 where
   pub decides : kind_by rows found ≡ word_kind found
   pub lower : are_lower rows ≡ true
 
-is_not : (word found : List ℕ) → bytes_eq (map to_ascii_lowercase word) word ≡ true → (map to_ascii_lowercase found ≡ map to_ascii_lowercase word → ⊥) → is word found ≡ false
+-- the two are one, but for upper and lower case
+abbrev pub Alike : List ℕ → List ℕ → Type 0
+Alike a b = map to_ascii_lowercase a ≡ map to_ascii_lowercase b
+
+-- alike to a word in lower case is what is that word
+is_from : (word found : List ℕ) → bytes_eq (map to_ascii_lowercase word) word ≡ true → Alike found word → is word found ≡ true
+is_from word found h k = let lower = (bytes_eq-Decides (map to_ascii_lowercase word) word).0 h in (bytes_eq-Decides word _).1 (sym (k ∙ lower))
+
+is_not : (word found : List ℕ) → bytes_eq (map to_ascii_lowercase word) word ≡ true → (Alike found word → ⊥) → is word found ≡ false
 is_not word found h k =
     let lower = (bytes_eq-Decides (map to_ascii_lowercase word) word).0 h in
     false_from_ne_true (is word found) (λ t. k (sym (lower ∙ (bytes_eq-Decides word (map to_ascii_lowercase found)).0 t)))
 
-first_out : (row : Row) (rows : List Row) (found : List ℕ) → (map to_ascii_lowercase found ≡ map to_ascii_lowercase row.0.now → ⊥) → Left (row ∷ rows) found → Left rows found
+-- the first row is left out or decides
+first_out : (row : Row) (rows : List Row) (found : List ℕ) → (Alike found row.0.now → ⊥) → Left (row ∷ rows) found → Left rows found
 first_out row rows found h left =
     let parts = and_parts (bytes_eq (map to_ascii_lowercase row.0.now) row.0.now) (are_lower rows) left.lower in
     let other = cond-false (is row.0.now found) (Reserved row.1) (kind_by rows found) (is_not row.0.now found parts.0 h) in
     record { decides = sym other ∙ left.decides; lower = parts.1 }
 
--- a row with another spelling is left out
-pub row_out : (rows : List Row) (i : ℕ) (row : Row) (found : List ℕ) → i < length rows →
-    (map to_ascii_lowercase found ≡ map to_ascii_lowercase (get_or rows i row).0.now → ⊥) → Left (drop i rows) found → Left (drop (i + 1) rows) found
-row_out rows i row found lt h left =
-    let next = first_out (get_or rows i row) (drop (suc i) rows) found h (subst (λ r. Left r found) (drop-cons rows i row lt) left) in
-    rw add-one next
-
-first_in : (row : Row) (rows : List Row) (found : List ℕ) → map to_ascii_lowercase found ≡ map to_ascii_lowercase row.0.now → Left (row ∷ rows) found → Reserved row.1 ≡ word_kind found
+first_in : (row : Row) (rows : List Row) (found : List ℕ) → Alike found row.0.now → Left (row ∷ rows) found → Reserved row.1 ≡ word_kind found
 first_in row rows found h left =
     let parts = and_parts (bytes_eq (map to_ascii_lowercase row.0.now) row.0.now) (are_lower rows) left.lower in
-    let lower = (bytes_eq-Decides (map to_ascii_lowercase row.0.now) row.0.now).0 parts.0 in
-    let this = (bytes_eq-Decides row.0.now (map to_ascii_lowercase found)).1 (sym lower ∙ sym h) in
-    sym (cond-true (is row.0.now found) (Reserved row.1) (kind_by rows found) this) ∙ left.decides
+    sym (cond-true (is row.0.now found) (Reserved row.1) (kind_by rows found) (is_from row.0.now found parts.0 h)) ∙ left.decides
+
+first_left : (rows : List Row) (i : ℕ) (row : Row) (found : List ℕ) → i < length rows → Left (drop i rows) found → Left (get_or rows i row ∷ drop (suc i) rows) found
+first_left rows i row found lt left = subst (λ r. Left r found) (drop-cons rows i row lt) left
+
+-- a row with another spelling is left out
+pub row_out : (rows : List Row) (i : ℕ) (row : Row) (found : List ℕ) → i < length rows → (Alike found (get_or rows i row).0.now → ⊥) →
+    Left (drop i rows) found → Left (drop (i + 1) rows) found
+row_out rows i row found lt h left =
+    let next = first_out (get_or rows i row) (drop (suc i) rows) found h (first_left rows i row found lt left) in
+    rw add-one next
 
 -- a row with this spelling decides
-pub row_in : (rows : List Row) (i : ℕ) (row : Row) (found : List ℕ) → i < length rows →
-    map to_ascii_lowercase found ≡ map to_ascii_lowercase (get_or rows i row).0.now → Left (drop i rows) found → Reserved (get_or rows i row).1 ≡ word_kind found
-row_in rows i row found lt h left = first_in (get_or rows i row) (drop (suc i) rows) found h (subst (λ r. Left r found) (drop-cons rows i row lt) left)
+pub row_in : (rows : List Row) (i : ℕ) (row : Row) (found : List ℕ) → i < length rows → Alike found (get_or rows i row).0.now →
+    Left (drop i rows) found → Reserved (get_or rows i row).1 ≡ word_kind found
+row_in rows i row found lt h left = first_in (get_or rows i row) (drop (suc i) rows) found h (first_left rows i row found lt left)

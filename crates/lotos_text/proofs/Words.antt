@@ -13,6 +13,7 @@ use Rattle.lotos_text.specs.Names.{is_name_byte, IsName}
 abbrev AreWordBytes : List ℕ → Type 0
 AreWordBytes bs = AllByRecursion (λ c. IsTrue (is_word_byte c)) bs
 
+-- what holds of each letter, and of each byte of words
 letter_in_word : (b : ℕ) → is_ascii_alphabetic b ≡ true → is_word_byte b ≡ true
 letter_in_word b h = grind (arith, nat_tests)
 
@@ -28,6 +29,7 @@ letter_raised b h = grind (arith, nat_tests)
 word_byte_raised : (b : ℕ) → is_word_byte b ≡ true → is_name_byte (to_ascii_uppercase b) ≡ true
 word_byte_raised b h = grind (arith, nat_tests)
 
+-- the same of the bytes of a word
 bytes_ascii : (bs : List ℕ) → AreWordBytes bs → IsAscii bs
 bytes_ascii [] h = IsAscii-nil
 bytes_ascii (b ∷ bs) h = IsAscii-cons b bs (word_byte_ascii b h.0) (bytes_ascii bs h.1)
@@ -45,6 +47,7 @@ pub word_raised : (word : List ℕ) → IsWord word → IsName (map to_ascii_upp
 word_raised [] h = absurd h
 word_raised (b ∷ bs) h = (letter_raised b h.0, bytes_raised bs h.1)
 
+-- the bytes of words at the front of a text are such bytes
 front_bytes : (text : List ℕ) → AreWordBytes (take (prefix_len is_word_byte text) text)
 front_bytes [] = tt
 front_bytes (b ∷ bs) =
@@ -71,6 +74,7 @@ front_word (b ∷ bs) h =
     let e : suc n ≡ 1 + n = omega arith in
     subst P (e ∙ sym (cond-true (is_word_byte b) (1 + n) 0 (letter_in_word b h))) (h, front_bytes bs)
 
+-- before the end of a word there are just its bytes
 bytes_length : (bs rest : List ℕ) → AreWordBytes bs → EndsWord rest → prefix_len is_word_byte (bs ++ rest) ≡ length bs
 bytes_length [] [] h e = refl
 bytes_length [] (b ∷ rest) h e = cond-false (is_word_byte b) _ _ e

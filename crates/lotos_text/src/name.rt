@@ -37,9 +37,10 @@ impl Name {
         ensures { IfOk result (λ n. n ≡ map to_ascii_uppercase word.now) }
     {
         match str::from_utf8(word) {
-            Ok(text) => Ok(Name {
-                text: text.to_ascii_uppercase(alloc)?,
-            }),
+            Ok(text) => {
+                let text = text.to_ascii_uppercase(alloc)?;
+                Ok(Name { text })
+            }
             Err(_) => unreachable!(),
         }
     }

@@ -7,7 +7,7 @@ use Rattle.lotos_text.proofs.name.Name.of_word.Goals as goal
 
 pub invariant_of-result : goal.invariant_of-result
 invariant_of-result c =
-    let raised = c.in_ok-to_ascii_uppercase-in-Ok.ensures.ok ∙ ap (map to_ascii_uppercase) c.in-Ok.ensures.cases.0 in
+    let raised = c.in_ok-text-in-Ok.ensures.ok ∙ ap (map to_ascii_uppercase) c.in-Ok.ensures.cases.0 in
     subst IsName (sym raised) (word_raised c.args.word.now c.requires)
 
 pub unreachable-requires : goal.unreachable-requires
