@@ -2,6 +2,7 @@ pub mod Names
 pub mod Tree
 pub mod View
 pub mod Cut
+pub mod Front
 pub mod Grammar
 pub mod Spelled
 pub mod Refused

@@ -1,11 +1,13 @@
 //! Cuts a text into tokens.
-ghost use Rattle.std.specs.Prelude.{◌≤◌, length, IfOk, IfErr};
-ghost use Rattle.lotos_text.specs.Cut.{Cut, AllStand};
+ghost use Rattle.std.specs.Prelude.{◌≡◌, ◌<◌, ◌≤◌, length, IfOk, IfErr};
+ghost use Rattle.lotos_text.specs.Cut.{Cut, AllStand, is_blank, is_word_byte, spelled, word_kind};
+ghost use Rattle.lotos_text.specs.Front.{Front, mark_of};
 ghost use Rattle.lotos_text.specs.Refused.{IsStuck};
+ghost use Rattle.std.specs.List.{prefix_len};
 
 use crate::fault::TextFault;
-use crate::token::Token;
-use std::alloc::{AllocError, Global};
+use crate::token::{Sign, Token, TokenKind, Word};
+use std::alloc::Global;
 
 /// The most bytes that a text may have (this project's profile).
 pub const TEXT_LIMIT: usize = 1_048_576;
@@ -20,5 +22,391 @@ pub fn tokens(alloc: Global, text: &[u8]) -> Result<Vec<Token>, TextFault>
     ensures stand { IfOk result (λ found. AllStand text.now found.items) }
     ensures stuck { IfErr result (IsStuck text.now) }
 {
-    Err(TextFault::E99(AllocError))
+    if text.len() > TEXT_LIMIT {
+        return Err(TextFault::E03);
+    }
+    let mut found = Vec::new(alloc);
+    let mut at = 0;
+    while at < text.len() {
+        match front(&text[at..]) {
+            Piece::Blank => at += 1,
+            Piece::Token(length, kind) => {
+                let end = at + length;
+                found.push(Token { at, end, kind })?;
+                at = end;
+            }
+            Piece::Unknown => return Err(TextFault::E01(at)),
+        }
+    }
+    Ok(found)
+}
+
+/// What stands at the front of a text.
+#[derive(Clone, Copy)]
+enum Piece {
+    /// One blank byte.
+    Blank,
+    /// A token of so many bytes.
+    Token(usize, TokenKind),
+    /// A byte that begins no token.
+    Unknown,
+}
+
+/// What stands at the front of a text that is not empty.
+#[tactic(auto, using(crate::proofs::Fronts::found_fronts))]
+fn front(text: &[u8]) -> Piece
+    requires { 0 < length text.now }
+    ensures { Front text.now result }
+{
+    let first = text[0];
+    if is_blank(first) {
+        Piece::Blank
+    } else if first.is_ascii_alphabetic() {
+        let length = word_length(text);
+        Piece::Token(length, word_kind(&text[..length]))
+    } else {
+        match mark(text) {
+            Some(sign) => Piece::Token(spelling(sign).len(), TokenKind::Sign(sign)),
+            None => Piece::Unknown,
+        }
+    }
+}
+
+fn is_blank(byte: u8) -> bool
+    ensures { result ≡ is_blank byte }
+{
+    matches!(byte, 9..=13 | b' ')
+}
+
+fn is_word_byte(byte: u8) -> bool
+    ensures { result ≡ is_word_byte byte }
+{
+    byte.is_ascii_alphanumeric() || byte == b'_'
+}
+
+/// How many bytes that words are made of stand at the front of a text.
+fn word_length(text: &[u8]) -> usize
+    ensures { result ≡ prefix_len is_word_byte text.now }
+{
+    text.iter().take_while(|byte| is_word_byte(**byte)).count()
+}
+
+/// The reserved words, as they are spelled in lower case.
+const RESERVED: [(&[u8], Word); 19] = [
+    (b"specification", Word::SpecificationWord),
+    (b"endspec", Word::EndspecWord),
+    (b"behaviour", Word::BehaviourWord),
+    (b"behavior", Word::BehaviourWord),
+    (b"process", Word::ProcessWord),
+    (b"endproc", Word::EndprocWord),
+    (b"where", Word::WhereWord),
+    (b"stop", Word::StopWord),
+    (b"exit", Word::ExitWord),
+    (b"noexit", Word::NoexitWord),
+    (b"hide", Word::HideWord),
+    (b"in", Word::InWord),
+    (b"i", Word::IWord),
+    (b"accept", Word::AcceptWord),
+    (b"choice", Word::ChoiceWord),
+    (b"let", Word::LetWord),
+    (b"par", Word::ParWord),
+    (b"library", Word::LibraryWord),
+    (b"type", Word::TypeWord),
+];
+
+/// What a word is, in upper or lower case.
+fn word_kind(found: &[u8]) -> TokenKind
+    ensures { result ≡ word_kind found.now }
+{
+    for (word, reserved) in &RESERVED {
+        if found.eq_ignore_ascii_case(word) {
+            return TokenKind::Reserved(*reserved);
+        }
+    }
+    TokenKind::Identifier
+}
+
+/// All marks, a longer one before each shorter one.
+const MARKS: [Sign; 15] = [
+    Sign::Interleave,
+    Sign::Define,
+    Sign::Choice,
+    Sign::Disable,
+    Sign::Enable,
+    Sign::LeftSync,
+    Sign::Full,
+    Sign::Semicolon,
+    Sign::Colon,
+    Sign::Comma,
+    Sign::LeftParenthesis,
+    Sign::RightParenthesis,
+    Sign::LeftBracket,
+    Sign::RightBracket,
+    Sign::Bar,
+];
+
+/// The longest mark at the front of a text.
+fn mark(text: &[u8]) -> Option<Sign>
+    ensures { result ≡ mark_of text.now }
+{
+    MARKS
+        .iter()
+        .copied()
+        .find(|sign| text.starts_with(spelling(*sign)))
+}
+
+/// The bytes of a mark.
+fn spelling(sign: Sign) -> &'static [u8]
+    ensures { result.now ≡ spelled sign }
+{
+    match sign {
+        Sign::Semicolon => b";",
+        Sign::Colon => b":",
+        Sign::Define => b":=",
+        Sign::Comma => b",",
+        Sign::LeftParenthesis => b"(",
+        Sign::RightParenthesis => b")",
+        Sign::LeftBracket => b"[",
+        Sign::RightBracket => b"]",
+        Sign::Choice => b"[]",
+        Sign::Disable => b"[>",
+        Sign::Enable => b">>",
+        Sign::LeftSync => b"|[",
+        Sign::Full => b"||",
+        Sign::Interleave => b"|||",
+        Sign::Bar => b"|",
+    }
+}
+
+#[cfg(test)]
+mod tests {
+    use super::*;
+    use std::test::Fail;
+
+    const NAME: TokenKind = TokenKind::Identifier;
+
+    const fn sign(sign: Sign) -> TokenKind {
+        TokenKind::Sign(sign)
+    }
+
+    fn kinds(alloc: Global, text: &[u8]) -> Result<Vec<TokenKind>, TextFault> {
+        let mut kinds = Vec::new(alloc);
+        for token in &tokens(alloc, text)? {
+            kinds.push(token.kind)?;
+        }
+        Ok(kinds)
+    }
+
+    #[test]
+    fn cuts_each_mark(rt: HostRuntime) -> Result<(), Fail> {
+        let rows: [(&[u8], Sign); 15] = [
+            (b";", Sign::Semicolon),
+            (b":", Sign::Colon),
+            (b":=", Sign::Define),
+            (b",", Sign::Comma),
+            (b"(", Sign::LeftParenthesis),
+            (b")", Sign::RightParenthesis),
+            (b"[", Sign::LeftBracket),
+            (b"]", Sign::RightBracket),
+            (b"[]", Sign::Choice),
+            (b"[>", Sign::Disable),
+            (b">>", Sign::Enable),
+            (b"|[", Sign::LeftSync),
+            (b"||", Sign::Full),
+            (b"|||", Sign::Interleave),
+            (b"|", Sign::Bar),
+        ];
+        for (text, want) in &rows {
+            let found = kinds(rt.alloc(), text)?;
+            assert_eq!(rt;
+                found.as_slice(),
+                [sign(*want)].as_slice(),
+                "the mark {want:?} alone"
+            );
+        }
+        Ok(())
+    }
+
+    #[test]
+    fn takes_the_longest_mark(rt: HostRuntime) -> Result<(), Fail> {
+        let bar = sign(Sign::Bar);
+        let left = sign(Sign::LeftBracket);
+        let right = sign(Sign::RightBracket);
+        let sync = sign(Sign::LeftSync);
+        let full = sign(Sign::Full);
+        let interleave = sign(Sign::Interleave);
+        let rows: [(&str, &[u8], &[TokenKind]); 9] = [
+            ("four bars", b"||||", &[interleave, bar]),
+            ("three bars before a bracket", b"|||[", &[interleave, left]),
+            (
+                "disabling before enabling",
+                b"[>>>",
+                &[sign(Sign::Disable), sign(Sign::Enable)],
+            ),
+            (
+                "a colon before a definition",
+                b"::=",
+                &[sign(Sign::Colon), sign(Sign::Define)],
+            ),
+            (
+                "a bracket before a choice",
+                b"[[]",
+                &[left, sign(Sign::Choice)],
+            ),
+            ("an empty list of gates", b"|[]|", &[sync, right, bar]),
+            (
+                "full synchronization without blanks",
+                b"P[A]||Q[A]",
+                &[NAME, left, NAME, right, full, NAME, left, NAME, right],
+            ),
+            (
+                "interleaving without blanks",
+                b"P[A]|||Q[B]",
+                &[NAME, left, NAME, right, interleave, NAME, left, NAME, right],
+            ),
+            (
+                "synchronization without blanks",
+                b"P[A]|[B]|Q[B]",
+                &[
+                    NAME, left, NAME, right, sync, NAME, right, bar, NAME, left, NAME, right,
+                ],
+            ),
+        ];
+        for (row, text, want) in &rows {
+            let found = kinds(rt.alloc(), text)?;
+            assert_eq!(rt; found.as_slice(), *want, "{row}");
+        }
+        Ok(())
+    }
+
+    #[test]
+    fn knows_each_word(rt: HostRuntime) -> Result<(), Fail> {
+        let rows: [(&[u8], TokenKind); 30] = [
+            (
+                b"Specification",
+                TokenKind::Reserved(Word::SpecificationWord),
+            ),
+            (b"endSPEC", TokenKind::Reserved(Word::EndspecWord)),
+            (b"behaviouR", TokenKind::Reserved(Word::BehaviourWord)),
+            (b"BehavioR", TokenKind::Reserved(Word::BehaviourWord)),
+            (b"PROCESS", TokenKind::Reserved(Word::ProcessWord)),
+            (b"endProc", TokenKind::Reserved(Word::EndprocWord)),
+            (b"Where", TokenKind::Reserved(Word::WhereWord)),
+            (b"sTOP", TokenKind::Reserved(Word::StopWord)),
+            (b"eXiT", TokenKind::Reserved(Word::ExitWord)),
+            (b"noExit", TokenKind::Reserved(Word::NoexitWord)),
+            (b"Hide", TokenKind::Reserved(Word::HideWord)),
+            (b"In", TokenKind::Reserved(Word::InWord)),
+            (b"I", TokenKind::Reserved(Word::IWord)),
+            (b"accepT", TokenKind::Reserved(Word::AcceptWord)),
+            (b"chOIce", TokenKind::Reserved(Word::ChoiceWord)),
+            (b"Let", TokenKind::Reserved(Word::LetWord)),
+            (b"pAr", TokenKind::Reserved(Word::ParWord)),
+            (b"Library", TokenKind::Reserved(Word::LibraryWord)),
+            (b"tyPe", TokenKind::Reserved(Word::TypeWord)),
+            (b"i", TokenKind::Reserved(Word::IWord)),
+            (b"stop1", NAME),
+            (b"exit_", NAME),
+            (b"in_", NAME),
+            (b"ii", NAME),
+            (b"i0", NAME),
+            (b"behaviou", NAME),
+            (b"endspe", NAME),
+            (b"a", NAME),
+            (b"Z", NAME),
+            (b"z_9", NAME),
+        ];
+        for (text, want) in &rows {
+            let found = kinds(rt.alloc(), text)?;
+            assert_eq!(rt;
+                found.as_slice(),
+                [*want].as_slice(),
+                "the word {:?}",
+                str::from_utf8(text)?
+            );
+        }
+        Ok(())
+    }
+
+    #[test]
+    fn places_tokens(rt: HostRuntime) -> Result<(), Fail> {
+        let rows: [(&str, &[u8], &[(usize, usize)]); 9] = [
+            ("no text", b"", &[]),
+            ("blanks alone", b"\t\n\x0b\x0c\r ", &[]),
+            ("a blank on each side", b" ab ", &[(1, 3)]),
+            ("a tabulator", b"a\tb", &[(0, 1), (2, 3)]),
+            ("a line feed", b"a\nb", &[(0, 1), (2, 3)]),
+            ("a vertical tabulator", b"a\x0bb", &[(0, 1), (2, 3)]),
+            ("a form feed", b"a\x0cb", &[(0, 1), (2, 3)]),
+            ("a carriage return", b"a\rb", &[(0, 1), (2, 3)]),
+            (
+                "marks and words",
+                b"a1; stop|||b",
+                &[(0, 2), (2, 3), (4, 8), (8, 11), (11, 12)],
+            ),
+        ];
+        for (row, text, want) in &rows {
+            let found = tokens(rt.alloc(), text)?;
+            let mut places = Vec::new(rt.alloc());
+            for token in &found {
+                places.push((token.at, token.end))?;
+            }
+            assert_eq!(rt; places.as_slice(), *want, "{row}");
+        }
+        Ok(())
+    }
+
+    #[test]
+    fn refuses_what_begins_no_token(rt: HostRuntime) {
+        let rows: [(&str, &[u8], usize); 17] = [
+            ("an asterisk", b"*", 0),
+            (
+                "an opened comment, which is a mark and an asterisk",
+                b"a (* b *)",
+                3,
+            ),
+            ("an arrow's head alone", b"a > b", 2),
+            ("an odd arrow's head", b">>>", 2),
+            ("an equals sign", b"=", 0),
+            ("an equals sign behind a definition", b":==", 2),
+            ("a digit", b"a 1", 2),
+            ("an underscore", b"stop _", 5),
+            ("the greatest byte", b"a\xff", 1),
+            ("the least byte", b"\x00", 0),
+            ("the byte before the blanks", b"\x08", 0),
+            ("the byte behind the blanks of control", b"\x0e", 0),
+            ("the byte before the blank", b"\x1f", 0),
+            ("the byte before the letters in upper case", b"a@", 1),
+            ("the byte behind the small letters", b"{", 0),
+            ("a byte behind a name of other letters", b"caf\xc3\xa9", 3),
+            ("the first of two", b"; ? ;\n?", 2),
+        ];
+        for (row, text, want) in &rows {
+            match tokens(rt.alloc(), text) {
+                Err(TextFault::E01(at)) => assert_eq!(rt; at, *want, "{row}"),
+                _ => assert!(rt; false, "{row} is not refused with E01"),
+            }
+        }
+    }
+
+    #[test]
+    fn limits_the_length(rt: HostRuntime) -> Result<(), Fail> {
+        let mut text = Vec::new(rt.alloc());
+        for _ in 0..1_048_576 {
+            text.push(b' ')?;
+        }
+        assert_eq!(rt;
+            tokens(rt.alloc(), &text)?.len(),
+            0,
+            "the longest text, of blanks"
+        );
+        text.clear();
+        for _ in 0..1_048_577 {
+            text.push(255)?;
+        }
+        match tokens(rt.alloc(), &text) {
+            Err(TextFault::E03) => Ok(()),
+            _ => Err("a text one byte too long is not refused with E03")?,
+        }
+    }
 }

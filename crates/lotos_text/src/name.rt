@@ -1,7 +1,10 @@
 //! Names of gates, processes and specifications.
-ghost use Rattle.std.specs.Prelude.{◌≡◌};
+ghost use Rattle.std.specs.Prelude.{◌≡◌, IfOk, map};
+ghost use Rattle.std.specs.Char.{to_ascii_uppercase};
 ghost use Rattle.lotos_text.specs.Names.{IsName};
+ghost use Rattle.lotos_text.specs.Cut.{IsWord};
 
+use std::alloc::{AllocError, Global};
 use std::marker::Model;
 
 /// An identifier in upper case: a letter `A` to `Z`, then letters `A` to `Z`, digits and underscores.
@@ -28,6 +31,20 @@ impl Model for Name {
 }
 
 impl Name {
+    /// The name of a word of a text.
+    pub(crate) fn of_word(alloc: Global, word: &[u8]) -> Result<Name, AllocError>
+        requires { IsWord word.now }
+        ensures { IfOk result (λ n. n ≡ map to_ascii_uppercase word.now) }
+    {
+        match str::from_utf8(word) {
+            Ok(text) => {
+                let text = text.to_ascii_uppercase(alloc)?;
+                Ok(Name { text })
+            }
+            Err(_) => unreachable!(),
+        }
+    }
+
     /// The identifier in upper case.
     pub fn text(&self) -> &str
         ensures bytes { result.now ≡ self.now }

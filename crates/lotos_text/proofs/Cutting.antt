@@ -1,0 +1,113 @@
+-- The cut of a text so far, and the piece that takes it on.
+use Rattle.std.proofs.Common.{◌≡◌, ℕ, ◌+◌, ◌-◌, ◌<◌, ◌≤◌, List, [], ◌∷◌, ◌++◌, length, take, drop, sym, ap, ◌∙◌, subst, arith, length-append, length-drop}
+use Rattle.std.proofs.lemmas.List.{drop-drop, take_all, append-nil}
+use Rattle.std.proofs.Math.ListN.{drop_of_length-le}
+use Rattle.std.proofs.Math.Seq.{drop-append_seam}
+use Rattle.lotos_text.specs.Cut.{Cuts, nothing, blank, word, mark, Cut, Sticks, IsWord, spelled, token}
+use Rattle.lotos_text.specs.Front.{Front, a_blank, a_word, a_mark, no_piece}
+use Rattle.lotos_text.specs.declared.lexer.Piece.{Piece}
+use Rattle.lotos_text.specs.declared.lexer.Piece.TheVariants.{Blank, Token as a_token, Unknown}
+use Rattle.lotos_text.specs.declared.token.Sign.{Sign}
+use Rattle.lotos_text.specs.declared.token.Sign.TheVariants as s
+use Rattle.lotos_text.specs.declared.token.Token.{Token}
+use Rattle.lotos_text.specs.declared.token.TokenKind.{TokenKind}
+
+-- behind the bytes at an offset the rest follows, and the text reaches so far
+pub behind : (text : List ℕ) (at : ℕ) (found rest : List ℕ) → drop at text ≡ found ++ rest → drop (at + length found) text ≡ rest
+behind text at found rest e = sym (drop-drop (length found) at text) ∙ ap (drop (length found)) e ∙ drop-append_seam found rest
+
+pub fits : (text : List ℕ) (at : ℕ) (found rest : List ℕ) → at ≤ length text → drop at text ≡ found ++ rest → at + length found ≤ length text
+fits text at found rest h e = omega (arith, ap length e, length-drop at text, length-append found rest)
+
+-- a cut goes on with another one
+join : {at mid end : ℕ} {text more rest : List ℕ} {ts us : List Token} → Cuts at text ts mid more → Cuts mid more us end rest → Cuts at text (ts ++ us) end rest
+join nothing d = d
+join (blank i c) d = blank i (join c d)
+join (word found i f c) d = word found i f (join c d)
+join (mark sign i c) d = mark sign i (join c d)
+
+-- the piece at the front is cut off
+cut_blank : (text : List ℕ) (at : ℕ) → Front (drop at text) Blank → Cuts at (drop at text) [] (at + 1) (drop (at + 1) text)
+cut_blank text at (a_blank b rest e i) =
+    let C : List ℕ → List ℕ → Type 0 = λ t r. Cuts at t [] (at + 1) r in
+    subst (λ t. C t (drop (at + 1) text)) (sym e) (subst (λ r. C (b ∷ rest) r) (sym (behind text at (b ∷ []) rest e)) (blank i nothing))
+
+cut_token : (text : List ℕ) (at n : ℕ) (kind : TokenKind) → Front (drop at text) (a_token n kind) →
+    Cuts at (drop at text) (token at n kind ∷ []) (at + n) (drop (at + n) text)
+cut_token text at n kind (a_word found rest e i f) =
+    let C : List ℕ → List ℕ → Type 0 = λ t r. Cuts at t (token at n kind ∷ []) (at + n) r in
+    subst (λ t. C t (drop (at + n) text)) (sym e) (subst (λ r. C (found ++ rest) r) (sym (behind text at found rest e)) (word found i f nothing))
+cut_token text at n kind (a_mark sign rest e i) =
+    let C : List ℕ → List ℕ → Type 0 = λ t r. Cuts at t (token at n kind ∷ []) (at + n) r in
+    subst (λ t. C t (drop (at + n) text)) (sym e) (subst (λ r. C (spelled sign ++ rest) r) (sym (behind text at (spelled sign) rest e)) (mark sign i nothing))
+
+-- a word and a mark have a byte at least
+word_some : (found : List ℕ) → IsWord found → 0 < length found
+word_some [] i = absurd i
+word_some (b ∷ bs) i = omega arith
+
+mark_some : (sign : Sign) → 0 < length (spelled sign)
+mark_some s.Semicolon = omega arith
+mark_some _ = omega arith
+
+-- a token has a byte at least
+pub token_some : {text : List ℕ} {n : ℕ} {kind : TokenKind} → Front text (a_token n kind) → 0 < n
+token_some (a_word found rest e i f) = word_some found i
+token_some (a_mark sign rest e i) = mark_some sign
+
+-- a text with a piece at its front is not empty
+pub front_some : {text : List ℕ} {p : Piece} → Front text p → 0 < length text
+front_some (a_blank b rest e i) = omega (arith, ap length e)
+front_some (a_word found rest e i f) = omega (arith, ap length e, length-append found rest, word_some found i)
+front_some (a_mark sign rest e i) = omega (arith, ap length e, length-append (spelled sign) rest, mark_some sign)
+front_some (no_piece b rest e i) = omega (arith, ap length e)
+
+-- a token at the front ends in the text
+token_fits : (text : List ℕ) (at n : ℕ) (kind : TokenKind) → at ≤ length text → Front (drop at text) (a_token n kind) → at + n ≤ length text
+token_fits text at n kind h (a_word found rest e i f) = fits text at found rest h e
+token_fits text at n kind h (a_mark sign rest e i) = fits text at (spelled sign) rest h e
+
+-- up to the offset the text is cut into these tokens
+pub record Reached (text : List ℕ) (at : ℕ) (found : List Token) : Type 0 where
+  pub inside : at ≤ length text
+  pub cut : Cuts 0 text found at (drop at text)
+
+-- the rest of the text, as the program takes it
+abbrev pub rest_of : List ℕ → ℕ → List ℕ
+rest_of text at = take (length text - at) (drop at text)
+
+-- what stands at the front of the rest stands at the offset
+front_at : (text : List ℕ) (at : ℕ) (p : Piece) → Front (rest_of text at) p → Front (drop at text) p
+front_at text at p f = subst (λ t. Front t p) (take_all (length text - at) (drop at text) (omega (arith, length-drop at text))) f
+
+-- nothing is cut at the start
+pub reached_start : (text : List ℕ) → Reached text 0 []
+reached_start text = record { inside = omega arith; cut = nothing }
+
+-- the piece at the offset takes the cut on
+pub reached_blank : (text : List ℕ) (at : ℕ) (found : List Token) → Reached text at found → Front (rest_of text at) Blank → Reached text (at + 1) found
+reached_blank text at found r f =
+    let g = front_at text at Blank f in
+    record {
+      inside = omega (arith, front_some g, length-drop at text);
+      cut = subst (λ ts. Cuts 0 text ts (at + 1) (drop (at + 1) text)) (append-nil found) (join r.cut (cut_blank text at g));
+    }
+
+pub reached_token : (text : List ℕ) (at n : ℕ) (kind : TokenKind) (found : List Token) → Reached text at found → Front (rest_of text at) (a_token n kind) →
+    Reached text (at + n) (found ++ token at n kind ∷ [])
+reached_token text at n kind found r f =
+    let g = front_at text at (a_token n kind) f in
+    record { inside = token_fits text at n kind r.inside g; cut = join r.cut (cut_token text at n kind g) }
+
+-- at a byte that begins no piece the text sticks
+pub reached_stuck : (text : List ℕ) (at : ℕ) (found : List Token) → Reached text at found → Front (rest_of text at) Unknown → Sticks text at
+reached_stuck text at found r f = sticks (front_at text at Unknown f) where
+  sticks : Front (drop at text) Unknown → Sticks text at
+  sticks (no_piece b rest e i) =
+      record { before = found; byte = b; rest = rest; cut = subst (λ t. Cuts 0 text found at t) e r.cut; strange = i }
+
+-- at the text's end it is cut
+pub reached_end : (text : List ℕ) (at : ℕ) (found : List Token) → Reached text at found → length text ≤ at → Cut text found
+reached_end text at found r h =
+    let e : at ≡ length text = omega (arith, r.inside) in
+    subst (λ n. Cuts 0 text found n []) e (subst (λ t. Cuts 0 text found at t) (drop_of_length-le text h) r.cut)

@@ -1,0 +1,101 @@
+-- The piece at the front of a text: which one it is, and that there is no other.
+use Rattle.std.proofs.Common.{◌≡◌, ℕ, ◌<◌, true, false, cond, List, [], ◌∷◌, ◌++◌, length, take, drop, Option, Some, None, slice_index, refl, sym, ap, ◌∙◌, subst, arith}
+use Rattle.std.proofs.lemmas.Bool.{cond-true, cond-false}
+use Rattle.std.proofs.lemmas.List.{take-append-drop}
+use Rattle.std.proofs.lemmas.List.Folds.{length-prefix_len}
+use Rattle.std.proofs.Math.Seq.{take-append_seam}
+use Rattle.std.specs.Char.{is_ascii_alphabetic}
+use Rattle.std.specs.List.{prefix_len}
+use Rattle.lotos_text.specs.Cut.{is_blank, is_word_byte, IsWord, word_kind, spelled}
+use Rattle.lotos_text.specs.Front.{mark_of, Front, a_blank, a_word, a_mark, no_piece}
+use Rattle.lotos_text.specs.declared.lexer.Piece.{Piece}
+use Rattle.lotos_text.specs.declared.lexer.Piece.TheVariants.{Blank, Token as a_token, Unknown}
+use Rattle.lotos_text.specs.declared.token.TokenKind.TheVariants.{Sign as of_sign}
+use Rattle.lotos_text.specs.declared.token.Sign.{Sign}
+use Rattle.lotos_text.proofs.Words.{letter_no_blank, front_word, front_ends, word_length}
+use Rattle.lotos_text.proofs.Marks.{mark_found, no_mark_found, mark_of_longest, mark_no_blank, mark_no_letter}
+
+-- a mark, or nothing
+abbrev pub mark_piece : Option Sign → Piece
+mark_piece None = Unknown
+mark_piece (Some sign) = a_token (length (spelled sign)) (of_sign sign)
+
+-- the word of so many bytes
+abbrev pub word_piece : List ℕ → ℕ → Piece
+word_piece text n = a_token n (word_kind (take n text))
+
+-- the piece at the front, computed
+abbrev pub piece_of : List ℕ → Piece
+piece_of text =
+    cond (is_blank (slice_index text 0)) Blank
+    (cond (is_ascii_alphabetic (slice_index text 0)) (word_piece text (prefix_len is_word_byte text)) (mark_piece (mark_of text)))
+
+-- the piece at each kind of first byte
+piece_blank : (text : List ℕ) → is_blank (slice_index text 0) ≡ true → piece_of text ≡ Blank
+piece_blank text h = cond-true (is_blank (slice_index text 0)) _ _ h
+
+piece_word : (text : List ℕ) → is_ascii_alphabetic (slice_index text 0) ≡ true → piece_of text ≡ word_piece text (prefix_len is_word_byte text)
+piece_word text h =
+    cond-false (is_blank (slice_index text 0)) _ _ (letter_no_blank (slice_index text 0) h) ∙ cond-true (is_ascii_alphabetic (slice_index text 0)) _ _ h
+
+piece_mark : (text : List ℕ) → is_blank (slice_index text 0) ≡ false → is_ascii_alphabetic (slice_index text 0) ≡ false → piece_of text ≡ mark_piece (mark_of text)
+piece_mark text h k = cond-false (is_blank (slice_index text 0)) _ _ h ∙ cond-false (is_ascii_alphabetic (slice_index text 0)) _ _ k
+
+-- a word begins with a letter
+word_head : (found rest : List ℕ) → IsWord found → is_ascii_alphabetic (slice_index (found ++ rest) 0) ≡ true
+word_head [] rest h = absurd h
+word_head (b ∷ bs) rest h = h.0
+
+-- where no mark begins, none is found
+mark_none : (text : List ℕ) → ((sign : Sign) → (rest : List ℕ) → text ≡ spelled sign ++ rest → ⊥) → mark_of text ≡ None
+mark_none text h =
+    (elim (mark_of text) as (λ o. mark_of text ≡ o → o ≡ None) [
+      | None ↦ λ _. refl
+      | Some sign ↦ λ e. let found = mark_found text sign e in absurd (h sign found.0 found.1)
+    ]) refl
+
+-- the piece at the front is the one that is computed
+front_is : {text : List ℕ} {p : Piece} → Front text p → p ≡ piece_of text
+front_is {text} (a_blank b rest e i) = sym (piece_blank text (ap (λ t. is_blank (slice_index t 0)) e ∙ i))
+front_is {text} (a_word found rest e i f) =
+    let n = prefix_len is_word_byte text in
+    let long : n ≡ length found = ap (prefix_len is_word_byte) e ∙ word_length found rest i f in
+    let kind : take n text ≡ found = ap (λ m. take m text) long ∙ ap (take (length found)) e ∙ take-append_seam found rest in
+    let head = ap (λ t. is_ascii_alphabetic (slice_index t 0)) e ∙ word_head found rest i in
+    sym (piece_word text head ∙ cc)
+front_is {text} (a_mark sign rest e i) =
+    let head = ap (λ t. is_blank (slice_index t 0)) e ∙ mark_no_blank sign rest in
+    let letter = ap (λ t. is_ascii_alphabetic (slice_index t 0)) e ∙ mark_no_letter sign rest in
+    sym (piece_mark text head letter ∙ ap mark_piece (mark_of_longest text sign rest e i))
+front_is {text} (no_piece b rest e i) =
+    let head = ap (λ t. is_blank (slice_index t 0)) e ∙ i.no_blank in
+    let letter = ap (λ t. is_ascii_alphabetic (slice_index t 0)) e ∙ i.no_letter in
+    sym (piece_mark text head letter ∙ ap mark_piece (mark_none text (λ sign more f. i.no_mark sign (more, sym e ∙ f))))
+
+-- at the front of a text stands one piece
+pub one_front : {text : List ℕ} {p q : Piece} → Front text p → Front text q → p ≡ q
+one_front f g = front_is f ∙ sym (front_is g)
+
+-- the piece at the front, from what `front` tests
+pub blank_front : (text : List ℕ) → is_blank (slice_index text 0) ≡ true → Front text Blank
+blank_front [] h = absurd (cc)
+blank_front (b ∷ bs) h = a_blank b bs refl h
+
+pub word_front : (text : List ℕ) → is_ascii_alphabetic (slice_index text 0) ≡ true → Front text (word_piece text (prefix_len is_word_byte text))
+word_front text h =
+    let n = prefix_len is_word_byte text in
+    let found = take n text in
+    let whole = sym (take-append-drop n text) in
+    subst (λ m. Front text (a_token m (word_kind found))) (length-prefix_len is_word_byte text)
+    (a_word found (drop n text) whole (front_word text h) (front_ends text))
+
+pub mark_front : (text : List ℕ) (sign : Sign) → mark_of text ≡ Some sign → Front text (a_token (length (spelled sign)) (of_sign sign))
+mark_front text sign e = let found = mark_found text sign e in a_mark sign found.0 found.1 found.2
+
+pub unknown_front : (text : List ℕ) → 0 < length text → is_blank (slice_index text 0) ≡ false → is_ascii_alphabetic (slice_index text 0) ≡ false →
+    mark_of text ≡ None → Front text Unknown
+unknown_front [] h i k e = absurd (omega arith)
+unknown_front (b ∷ bs) h i k e = no_piece b bs refl (record { no_blank = i; no_letter = k; no_mark = no_mark_found (b ∷ bs) e })
+
+-- what `front` cites
+pub ruleset found_fronts = (blank_front, word_front, mark_front, unknown_front)

@@ -1,0 +1,8 @@
+use Rattle.lotos_text.proofs.Cuts.{one_cut, sticks_uncut}
+use Rattle.lotos_text.proofs.laws.one_cut.Goals as goal
+
+pub returns-clause-cut : goal.returns-clause-cut
+returns-clause-cut c = one_cut
+
+pub returns-clause-whole : goal.returns-clause-whole
+returns-clause-whole c = sticks_uncut

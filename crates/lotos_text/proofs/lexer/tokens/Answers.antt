@@ -1,0 +1,38 @@
+use Rattle.std.proofs.Common.{◌+◌, arith, subst, sym}
+use Rattle.lotos_text.proofs.Cutting.{Reached, token_some, reached_start, reached_blank, reached_token, reached_stuck, reached_end}
+use Rattle.lotos_text.proofs.Standing.{all_stand}
+use Rattle.lotos_text.proofs.lexer.tokens.Goals as goal
+
+pub loop-at-init : goal.loop-at-init
+loop-at-init c = subst (Reached c.args.text.now 0) (sym c.new-found.ensures.items) (reached_start c.args.text.now)
+
+pub loop-at-preserved-in-Blank : goal.loop-at-preserved-in-Blank
+loop-at-preserved-in-Blank c = reached_blank c.args.text.now c.loop-at.at c.loop-at.found.items c.loop-at.invariant c.in-Blank.ensures
+
+pub overflow_add-end : goal.overflow_add-end
+overflow_add-end c =
+    let next = reached_token c.args.text.now c.loop-at.at c.in-Token.length c.in-Token.kind c.loop-at.found.items c.loop-at.invariant c.in-Token.ensures in
+    omega (arith, next.inside, c.if-text-gt-TEXT_LIMIT.false)
+
+pub loop-at-smaller : goal.loop-at-smaller
+loop-at-smaller c = let some = token_some c.in-Token.ensures in omega (arith, some, c.loop-at-test.true)
+
+pub loop-at-preserved : goal.loop-at-preserved
+loop-at-preserved c =
+    let next = reached_token c.args.text.now c.loop-at.at c.in-Token.length c.in-Token.kind c.loop-at.found.items c.loop-at.invariant c.in-Token.ensures in
+    subst (Reached c.args.text.now (c.loop-at.at + c.in-Token.length)) (sym c.in_ok-push-in-Token.ensures.items) next
+
+pub returns-in-Unknown-clause-stuck : goal.returns-in-Unknown-clause-stuck
+returns-in-Unknown-clause-stuck c =
+    record {
+      short = c.if-text-gt-TEXT_LIMIT.false;
+      sticks = reached_stuck c.args.text.now c.loop-at.at c.loop-at.found.items c.loop-at.invariant c.in-Unknown.ensures;
+    }
+
+pub returns-clause-cut : goal.returns-clause-cut
+returns-clause-cut c = reached_end c.args.text.now c.loop-at.at c.loop-at.found.items c.loop-at.invariant c.loop-at-test.false
+
+pub returns-clause-stand : goal.returns-clause-stand
+returns-clause-stand c =
+    all_stand c.args.text.now c.loop-at.found.items
+    (reached_end c.args.text.now c.loop-at.at c.loop-at.found.items c.loop-at.invariant c.loop-at-test.false)
