@@ -6,3 +6,7 @@ pub mod Grammar
 pub mod Spelled
 pub mod Refused
 pub mod Place
+pub mod Follow
+pub mod Parsing
+pub mod Parts
+pub mod Opens
