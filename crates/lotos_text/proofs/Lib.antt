@@ -6,3 +6,16 @@ pub mod Fronts
 pub mod Cutting
 pub mod Standing
 pub mod Cuts
+pub mod FirstToken
+pub mod Sequence
+pub mod OneToken
+pub mod NameLists
+pub mod Operands
+pub mod Levels
+pub mod Unique
+pub mod Openings
+pub mod Expressions
+pub mod Stops
+pub mod Wholes
+pub mod Answered
+pub mod Views

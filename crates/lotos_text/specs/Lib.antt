@@ -8,3 +8,7 @@ pub mod Spelled
 pub mod Refused
 pub mod Place
 pub mod Inside
+pub mod Follow
+pub mod Parsing
+pub mod Parts
+pub mod Opens

@@ -1,0 +1,185 @@
+-- Parts of one token, and of none: what is found and lost, and that each is the only one.
+use Rattle.std.proofs.Common.{◌≡◌, ℕ, List, [], ◌∷◌, ◌++◌, refl, sym, ◌∙◌, ap, subst}
+use Rattle.lotos_text.specs.Grammar.{Is, placed, Acts, gate, internal, Declares, exits, never_exits}
+use Rattle.lotos_text.specs.Parsing.{Part, NotFirst, Found, Lost, Starts}
+use Rattle.lotos_text.specs.Parts.{One, Behind, Before, Name, Act, Declared, Nothing}
+use Rattle.lotos_text.specs.declared.token.Token.{Token}
+use Rattle.lotos_text.specs.declared.token.TokenKind.{TokenKind}
+use Rattle.lotos_text.specs.declared.token.TokenKind.TheVariants.{Identifier, Reserved}
+use Rattle.lotos_text.specs.declared.token.Word.TheVariants as w
+use Rattle.lotos_text.specs.declared.tree.Action.{Action}
+use Rattle.lotos_text.specs.declared.tree.Action.TheVariants.{Gate}
+use Rattle.lotos_text.specs.declared.tree.Functionality.{Functionality}
+use Rattle.lotos_text.specs.declared.tree.Functionality.TheVariants as f
+use Rattle.lotos_text.specs.declared.tree.Placed.{Placed}
+use Rattle.lotos_text.proofs.FirstToken.{head_same, tail_same, apart, not_first, starts_not, starts_behind}
+use Rattle.lotos_text.proofs.Sequence.{Same, Firm, found_then, firm_then, lost_first, lost_second}
+
+-- two lists that each begin with a part of one token
+same_token : (a b r q : List Token) (n m : Token) → a ≡ n ∷ [] → b ≡ m ∷ [] → a ++ r ≡ b ++ q → n ∷ r ≡ m ∷ q
+same_token a b r q n m i j e = sym (ap (λ l. l ++ r) i) ∙ e ∙ ap (λ l. l ++ q) j
+
+-- the first token of a list that begins with a part of one token
+its_first : (own ts behind : List Token) (n : Token) → ts ≡ own ++ behind → own ≡ n ∷ [] → ts ≡ n ∷ behind
+its_first own ts behind n e i = e ∙ ap (λ l. l ++ behind) i
+
+pub found_one : (k : TokenKind) (ts rest : List Token) (n : Token) → ts ≡ n ∷ rest → Is n k → Found (One k) ts n rest
+found_one k ts rest n e i = record { front = n ∷ []; joined = e; whole = record { joined = refl; is = i } }
+
+pub lost_one : (k : TokenKind) (ts : List Token) → NotFirst k ts → Lost (One k) ts ts
+lost_one k ts h = record {
+  front = [];
+  joined = refl;
+  never = λ more own behind said st e p. not_first k more behind (starts_not k ts more st h) p.is (its_first own more behind said e p.joined);
+}
+
+pub firm_one : (k : TokenKind) → Firm (One k)
+firm_one k a b r more q x y p st o e =
+    let h = same_token a b more q x y p.joined o.joined e in
+    record { tokens = (let i = p.joined in let j = o.joined in let l = head_same h in cc); said = head_same h; rest = tail_same h }
+
+pub firm_declared : Firm Declared
+firm_declared a b r more q x y p st o e =
+    let h = same_token a b more q p.token o.token p.joined o.joined e in
+    record {
+      tokens = (let i = p.joined in let j = o.joined in let l = head_same h in cc);
+      said = same_functionality p.declares o.declares (head_same h);
+      rest = tail_same h;
+    }
+  where
+    same_functionality : {n m : Token} {x y : Functionality} → Declares n x → Declares m y → n ≡ m → x ≡ y
+    same_functionality (exits i) (exits j) e = refl
+    same_functionality (exits i) (never_exits j) e = absurd (apart i j e (λ e. cc))
+    same_functionality (never_exits i) (exits j) e = absurd (apart i j e (λ e. cc))
+    same_functionality (never_exits i) (never_exits j) e = refl
+
+pub found_declared : (ts rest : List Token) (n : Token) (x : Functionality) → ts ≡ n ∷ rest → Declares n x → Found Declared ts x rest
+found_declared ts rest n x e d = record { front = n ∷ []; joined = e; whole = record { token = n; joined = refl; declares = d } }
+
+pub lost_declared : (ts rest : List Token) → NotFirst (Reserved w.ExitWord) ts → Lost (One (Reserved w.NoexitWord)) ts rest → Lost Declared ts rest
+lost_declared ts rest h l = record {
+  front = l.front;
+  joined = l.joined;
+  never = λ more own behind said st e p.
+      let alike : Starts ts (l.front ++ more) = subst (λ m. Starts m (l.front ++ more)) (sym l.joined) (starts_behind l.front rest more st) in
+      neither p.declares (not_first _ (l.front ++ more) behind (starts_not _ ts (l.front ++ more) alike h))
+      (λ i. l.never more own behind p.token st e (record { joined = p.joined; is = i })) (its_first own (l.front ++ more) behind p.token e p.joined);
+}
+  where
+    neither : {n : Token} {x : Functionality} {E : Type 0} → Declares n x → (Is n (Reserved w.ExitWord) → E → ⊥) → (Is n (Reserved w.NoexitWord) → ⊥) → E → ⊥
+    neither (exits i) h g e = h i e
+    neither (never_exits i) h g e = g i
+
+pub firm_nothing : Firm Nothing
+firm_nothing a b r more q x y p st o e = record {
+  tokens = p.empty ∙ sym o.empty;
+  said = refl;
+  rest = sym (ap (λ l. l ++ more) p.empty) ∙ e ∙ ap (λ l. l ++ q) o.empty;
+}
+
+pub found_nothing : Found Nothing [] tt []
+found_nothing = record { front = []; joined = refl; whole = record { empty = refl; last = refl } }
+
+pub lost_nothing : (n : Token) (ts : List Token) → Lost Nothing (n ∷ ts) (n ∷ ts)
+lost_nothing n ts = record {
+  front = [];
+  joined = refl;
+  never = λ more own behind said st e p. let i = st.1 in let j = p.empty in let k = p.last in let l : more ≡ [] = e ∙ ap (λ l. l ++ behind) j ∙ k in cc;
+}
+
+-- a part behind a token
+
+module _ {A : Type 0} (k : TokenKind) (P : Part A) where
+  pub found_behind : (ts between rest : List Token) (n : Token) (x : A) → ts ≡ n ∷ between → Is n k → Found P between x rest → Found (Behind k P) ts x rest
+  found_behind ts between rest n x e i f = found_then (λ token said. said) (One k) P ts between rest n x x (found_one k ts between n e i) f refl
+
+  pub lost_before : (ts rest : List Token) → Lost (One k) ts rest → Lost (Behind k P) ts rest
+  lost_before ts rest l = lost_first (λ token said. said) (One k) P ts rest l
+
+  pub lost_behind : (ts between rest : List Token) (n : Token) → ts ≡ n ∷ between → Is n k → Lost P between rest → Lost (Behind k P) ts rest
+  lost_behind ts between rest n e i l = lost_second (λ token said. said) (One k) P (firm_one k) ts between rest n (found_one k ts between n e i) l
+
+  pub firm_behind : Firm P → Firm (Behind k P)
+  firm_behind firm = firm_then (λ token said. said) (One k) P (firm_one k) firm
+
+  pub behind : (n : Token) (own rest : List Token) (x : A) → Is n k → P own x rest → Behind k P (n ∷ own) x rest
+  behind n own rest x i p = record {
+    front = n ∷ [];
+    back = own;
+    one = n;
+    other = x;
+    joined = refl;
+    first = record { joined = refl; is = i };
+    second = p;
+    same = refl;
+  }
+
+  -- the token and the part, taken apart
+  pub record Uncovered (own : List Token) (x : A) (rest : List Token) : Type 0 where
+    pub token : Token
+    pub inner : List Token
+    pub joined : own ≡ token ∷ inner
+    pub is : Is token k
+    pub within : P inner x rest
+
+  pub uncover : (own rest : List Token) (x : A) → Behind k P own x rest → Uncovered own x rest
+  uncover own rest x t = record {
+    token = t.one;
+    inner = t.back;
+    joined = t.joined ∙ ap (λ m. m ++ t.back) t.first.joined;
+    is = t.first.is;
+    within = subst (λ y. P t.back y rest) (sym t.same) t.second;
+  }
+
+-- a part before a token
+
+module _ {A : Type 0} (P : Part A) (k : TokenKind) where
+  pub found_before : (ts between rest : List Token) (n : Token) (x : A) → Found P ts x between → between ≡ n ∷ rest → Is n k → Found (Before P k) ts x rest
+  found_before ts between rest n x f e i = found_then (λ said token. said) P (One k) ts between rest x n x f (found_one k between rest n e i) refl
+
+  pub lost_unclosed : Firm P → (ts between rest : List Token) (x : A) → Found P ts x between → Lost (One k) between rest → Lost (Before P k) ts rest
+  lost_unclosed firm ts between rest x f l = lost_second (λ said token. said) P (One k) firm ts between rest x f l
+
+  pub lost_within : (ts rest : List Token) → Lost P ts rest → Lost (Before P k) ts rest
+  lost_within ts rest l = lost_first (λ said token. said) P (One k) ts rest l
+
+  pub firm_before : Firm P → Firm (Before P k)
+  firm_before firm = firm_then (λ said token. said) P (One k) firm (firm_one k)
+
+module _ (text : List ℕ) where
+  pub found_name : (ts rest : List Token) (n : Token) (x : Placed) → ts ≡ n ∷ rest → Is n Identifier → x ≡ placed text n → Found (Name text) ts x rest
+  found_name ts rest n x e i h = record { front = n ∷ []; joined = e; whole = record { token = n; joined = refl; is = i; same = h } }
+
+  pub lost_name : (ts rest : List Token) → Lost (One Identifier) ts rest → Lost (Name text) ts rest
+  lost_name ts rest l = record {
+    front = l.front;
+    joined = l.joined;
+    never = λ more own behind said st e p. l.never more own behind p.token st e (record { joined = p.joined; is = p.is });
+  }
+
+  pub firm_name : Firm (Name text)
+  firm_name a b r more q x y p st o e =
+      let h = same_token a b more q p.token o.token p.joined o.joined e in
+      record {
+        tokens = (let i = p.joined in let j = o.joined in let l = head_same h in cc);
+        said = p.same ∙ ap (placed text) (head_same h) ∙ sym o.same;
+        rest = tail_same h;
+      }
+
+  pub same_act : {n m : Token} {a b : Action} → Acts text n a → Acts text m b → n ≡ m → a ≡ b
+  same_act (gate i) (gate j) e = ap (λ n. Gate (placed text n)) e
+  same_act (gate i) (internal j) e = absurd (apart i j e (λ e. cc))
+  same_act (internal i) (gate j) e = absurd (apart i j e (λ e. cc))
+  same_act (internal i) (internal j) e = refl
+
+  pub found_act : (ts : List Token) (n : Token) (a : Action) → Acts text n a → Found (Act text) (n ∷ ts) a ts
+  found_act ts n a i = record { front = n ∷ []; joined = refl; whole = record { token = n; joined = refl; acts = i } }
+
+  pub firm_act : Firm (Act text)
+  firm_act a b r more q x y p st o e =
+      let h = same_token a b more q p.token o.token p.joined o.joined e in
+      record {
+        tokens = (let i = p.joined in let j = o.joined in let l = head_same h in cc);
+        said = same_act p.acts o.acts (head_same h);
+        rest = tail_same h;
+      }

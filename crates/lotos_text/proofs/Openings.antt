@@ -1,0 +1,44 @@
+-- What a token is, from what it begins.
+use Rattle.std.proofs.Common.{◌≡◌, refl, subst}
+use Rattle.lotos_text.specs.Grammar.{Is}
+use Rattle.lotos_text.specs.Opens.{opening}
+use Rattle.lotos_text.specs.declared.parser.Opening.{Opening}
+use Rattle.lotos_text.specs.declared.parser.Opening.TheVariants as o
+use Rattle.lotos_text.specs.declared.token.Sign.TheVariants as s
+use Rattle.lotos_text.specs.declared.token.Token.{Token}
+use Rattle.lotos_text.specs.declared.token.TokenKind.{TokenKind}
+use Rattle.lotos_text.specs.declared.token.TokenKind.TheVariants.{Identifier, Reserved, Sign}
+use Rattle.lotos_text.specs.declared.token.Word.TheVariants as w
+
+-- only a token of this kind begins that
+abbrev Means : TokenKind → Opening → Type 0
+Means k o.Stop = k ≡ Reserved w.StopWord
+Means k o.Exit = k ≡ Reserved w.ExitWord
+Means k o.Internal = k ≡ Reserved w.IWord
+Means k o.Name = k ≡ Identifier
+Means k o.Bracket = k ≡ Sign s.LeftParenthesis
+Means k o.Nothing = Unit {0}
+
+means : (k : TokenKind) → Means k (opening k)
+means Identifier = refl
+means (Reserved w.StopWord) = refl
+means (Reserved w.ExitWord) = refl
+means (Reserved w.IWord) = refl
+means (Reserved _) = tt
+means (Sign s.LeftParenthesis) = refl
+means (Sign _) = tt
+
+pub is_stop : (n : Token) → opening n.kind ≡ o.Stop → Is n (Reserved w.StopWord)
+is_stop n e = record { same = subst (λ x. Means n.kind x) e (means n.kind) }
+
+pub is_exit : (n : Token) → opening n.kind ≡ o.Exit → Is n (Reserved w.ExitWord)
+is_exit n e = record { same = subst (λ x. Means n.kind x) e (means n.kind) }
+
+pub is_internal : (n : Token) → opening n.kind ≡ o.Internal → Is n (Reserved w.IWord)
+is_internal n e = record { same = subst (λ x. Means n.kind x) e (means n.kind) }
+
+pub is_name : (n : Token) → opening n.kind ≡ o.Name → Is n Identifier
+is_name n e = record { same = subst (λ x. Means n.kind x) e (means n.kind) }
+
+pub is_bracket : (n : Token) → opening n.kind ≡ o.Bracket → Is n (Sign s.LeftParenthesis)
+is_bracket n e = record { same = subst (λ x. Means n.kind x) e (means n.kind) }

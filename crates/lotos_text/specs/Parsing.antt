@@ -1,0 +1,51 @@
+-- What a part of the parser found, and how it was lost.
+use Rattle.std.specs.Prelude.{◌≡◌, ℕ, List, [], ◌∷◌, ◌++◌}
+use Rattle.lotos_text.specs.Grammar.{Is}
+use Rattle.lotos_text.specs.declared.fault.TextFault.{TextFault}
+use Rattle.lotos_text.specs.declared.fault.TextFault.TheVariants.{E04, E06, E99}
+use Rattle.lotos_text.specs.declared.parser.Stop.{Stop}
+use Rattle.lotos_text.specs.declared.parser.Stop.TheVariants.{At, Memory}
+use Rattle.lotos_text.specs.declared.token.Token.{Token}
+use Rattle.lotos_text.specs.declared.token.TokenKind.{TokenKind}
+
+-- A part of the grammar: its own tokens, what they say, and the tokens behind them, before which the part is whole.
+abbrev pub Part : Type 0 → Type 1
+Part A = List Token → A → List Token → Type 0
+
+-- the tokens begin with the part, which is whole before the rest
+pub record Found {A : Type 0} (P : Part A) (ts : List Token) (said : A) (rest : List Token) : Type 0 where
+  pub front : List Token
+  pub joined : ts ≡ front ++ rest
+  pub whole : P front said rest
+
+-- the second list begins with the first token of the first, or both are empty
+abbrev pub Starts : List Token → List Token → Type 0
+Starts [] more = more ≡ []
+Starts (t ∷ ts) more = (others : List Token) × (more ≡ t ∷ others)
+
+-- The tokens up to and with the first of the rest begin no list that begins with the part; where the rest is empty, the
+-- tokens themselves are no such list.
+pub record Lost {A : Type 0} (P : Part A) (ts rest : List Token) : Type 0 where
+  pub front : List Token
+  pub joined : ts ≡ front ++ rest
+  pub never : (more own behind : List Token) (said : A) → Starts rest more → front ++ more ≡ own ++ behind → P own said behind → ⊥
+
+-- the part is lost where the parser stopped, but for want of memory
+abbrev pub IsLost : {A : Type 0} → Part A → List Token → Stop → Type 0
+IsLost P ts (At rest) = Lost P ts rest.now
+IsLost P ts (Memory e) = Unit {0}
+
+-- the list does not begin with a token of the kind
+abbrev pub NotFirst : TokenKind → List Token → Type 0
+NotFirst kind [] = Unit {0}
+NotFirst kind (t ∷ ts) = Is t kind → ⊥
+
+-- the fault at the first of the tokens, or at the end of a text of that length
+abbrev pub fault_at : List Token → ℕ → TextFault
+fault_at [] length = E06 length
+fault_at (t ∷ ts) length = E04 t.at
+
+-- the fault of a text of that length at which the parser stopped
+abbrev pub stop_fault : Stop → ℕ → TextFault
+stop_fault (At rest) length = fault_at rest.now length
+stop_fault (Memory e) length = E99 e
