@@ -4,7 +4,12 @@ use Rattle.std.specs.List.{AllByRecursion}
 use Rattle.lotos_text.specs.Tree.{Tree, Def}
 use Rattle.lotos_text.specs.Cut.{Cuts, nothing, blank, word, mark, Sticks, spelled, Stands, AllStand}
 use Rattle.lotos_text.specs.Grammar.{placed, Names, one_name, more_names, GateList, no_gates, gates, Level, Acts, gate, internal, Operates, choice_sign, Spells, stop, exit, brackets, prefix, tighter, operation, Specifies, specification}
-use Rattle.lotos_text.specs.Inside.{IsTreeInside, IsInside}
+use Rattle.lotos_text.specs.Inside.{IsFaultInside, IsTreeInside, IsInside}
+use Rattle.lotos_text.specs.Refused.{IsStuck, IsRefused}
+use Rattle.lotos_text.specs.Spelled.{Spelled}
+use Rattle.lotos_text.specs.declared.fault.TextFault.{TextFault}
+use Rattle.lotos_text.specs.declared.fault.TextFault.TheVariants.{E01, E03, E04, E06, E99}
+use Rattle.lotos_text.proofs.Standing.{all_stand}
 use Rattle.lotos_text.specs.declared.token.Token.{Token}
 use Rattle.lotos_text.specs.declared.tree.Placed.{Placed}
 use Rattle.std.specs.Prelude.{Bool}
@@ -57,3 +62,28 @@ module _ (text : List ℕ) where
       let within = stand_front (gs ++ colon ∷ returns ∷ define ∷ body) (end ∷ []) h.1.1 in
       let behind = stand_rest gs (colon ∷ returns ∷ define ∷ body) within in
       (token_inside name h.1.0, gates_inside g (stand_front gs (colon ∷ returns ∷ define ∷ body) within), tree_inside s behind.1.1.1, tt)
+
+-- ---- faults
+
+module _ (text : List ℕ) where
+  middle_inside : (before after : List Token) (t : Token) → AllStand text (before ++ t ∷ after) → t.at ≤ length text
+  middle_inside before after t h = token_inside text t (stand_rest text before (t ∷ after) h).0
+
+  pub fault_inside : (fault : TextFault) → IsRefused text fault → IsFaultInside (length text) fault
+  fault_inside (E01 at) h = stuck_inside text at h.sticks
+  fault_inside E03 h = tt
+  fault_inside (E04 at) h =
+      let inside = middle_inside h.before h.after h.token (all_stand text (h.before ++ h.token ∷ h.after) h.cut) in
+      let place = h.place in omega arith
+  fault_inside (E06 at) h = let place = h.place in omega arith
+  fault_inside (E99 e) h = tt
+
+  pub stuck_fault_inside : (fault : TextFault) → IsStuck text fault → IsFaultInside (length text) fault
+  stuck_fault_inside (E01 at) h = stuck_inside text at h.sticks
+  stuck_fault_inside E03 h = tt
+  stuck_fault_inside (E04 at) h = absurd h
+  stuck_fault_inside (E06 at) h = absurd h
+  stuck_fault_inside (E99 e) h = tt
+
+  pub spelled_inside : (whole : Def) → Spelled text whole → IsInside (length text) whole
+  spelled_inside whole s = specification_inside text s.spells (all_stand text s.tokens s.cut)

@@ -3,6 +3,7 @@ use Rattle.lotos_text.specs.Parsing.{Found, IsLost}
 use Rattle.lotos_text.specs.Parts.{Whole}
 use Rattle.lotos_text.specs.View.{definition_of}
 use Rattle.lotos_text.proofs.Answered.{stuck_spells_nothing, found_spelled, found_only, lost_refused, lost_spells_nothing}
+use Rattle.lotos_text.proofs.Insides.{fault_inside, stuck_fault_inside, spelled_inside}
 use Rattle.lotos_text.proofs.parser.parse.Goals as goal
 
 pub returns-in_err-cut-clause-nothing : goal.returns-in_err-cut-clause-nothing
@@ -27,3 +28,12 @@ pub returns-clause-nothing : goal.returns-clause-nothing
 returns-clause-nothing c =
     lost_spells_nothing c.args.text.now c.in_ok-cut.cut.items c.in_ok-cut.ensures.short c.in_ok-cut.ensures.cut c.in-Err.stop c.fault_of.result
     (subst (λ ts. IsLost (Whole c.args.text.now) ts c.in-Err.stop) c.as_slice.ensures.value c.in-Err.ensures.lost) c.fault_of.ensures
+
+pub returns-in_err-cut-clause-fault_inside : goal.returns-in_err-cut-clause-fault_inside
+returns-in_err-cut-clause-fault_inside c = let h = stuck_fault_inside c.args.text.now c.in_err-cut.field-0.0 c.in_err-cut.ensures.stuck in search rules
+
+pub returns-in-Ok-clause-tree_inside : goal.returns-in-Ok-clause-tree_inside
+returns-in-Ok-clause-tree_inside c = spelled_inside c.args.text.now (definition_of c.in-Ok.whole) (returns-in-Ok-clause-spelled c)
+
+pub returns-clause-fault_inside : goal.returns-clause-fault_inside
+returns-clause-fault_inside c = fault_inside c.args.text.now c.fault_of.result (returns-clause-refused c)
