@@ -1,10 +1,10 @@
 -- The command line is one whose matches clap states, and what it makes of some words.
-use Rattle.std.proofs.Common.{◌≡◌, refl, true, codes, List, [], ◌∷◌, Some}
+use Rattle.std.proofs.Common.{◌≡◌, refl, true, codes, List, [], ◌∷◌}
 use Rattle.clap.specs.Words.{Text, fault_of, is_simple, is_simple_and_free, takes}
 use Rattle.clap.specs.declared.error.kind.ErrorKind.TheVariants.{ValueValidation}
 use Rattle.clap.proofs.OnLiterals.{clap_on_literals}
 use Rattle.lotos_tool.specs.Command.{lotosseq}
-use Rattle.lotos_tool.specs.Request.{RequestOf, request_of, search}
+use Rattle.lotos_tool.specs.Request.{RequestOf, search}
 
 pub simple_and_free : is_simple_and_free lotosseq ≡ true
 simple_and_free = refl

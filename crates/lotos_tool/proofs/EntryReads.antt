@@ -1,6 +1,6 @@
 -- What the getters of clap's matches answer at an entry that can be read.
-use Rattle.std.proofs.Common.{◌≡◌, ◌∙◌, ◌<◌, ◌^◌, ap, refl, ℕ, Option, Some, None, Result, Ok, Err, arith}
-use Rattle.std.specs.Prelude.{IfSome, IsSomeAnd, IsSome}
+use Rattle.std.proofs.Common.{◌≡◌, ◌<◌, ◌^◌, ap, refl, ℕ, Option, Some, None, Result, Ok, Err, arith}
+use Rattle.std.specs.Prelude.{IsSomeAnd, IsSome}
 use Rattle.std.specs.Option.{option_map}
 use Rattle.std.specs.Str.Parse.{ParsesUnsigned}
 use Rattle.clap.specs.Words.{Text}

@@ -1,5 +1,5 @@
 -- A use of an argument in which clap finds no fault leaves rows that can be read.
-use Rattle.std.proofs.Common.{◌≡◌, ◌≤◌, ℕ, Bool, cond, true, false, refl, arith, List, [], ◌∷◌, length, Option, Some, None, find, lt-ltb}
+use Rattle.std.proofs.Common.{◌≡◌, ◌≤◌, ℕ, Bool, false, refl, arith, List, [], ◌∷◌, length, Option, Some, None, find, lt-ltb}
 use Rattle.std.specs.Option.{option_map_or}
 use Rattle.clap.specs.Facts.{unwrap_or_range}
 use Rattle.clap.specs.Walk.{Held, Row, Rule, Text, action_of, arg_by_id, most_values, reacted, reading_by, settled, settled_rows, used, used_as, used_by_id, values_or_missing, with_values, without}

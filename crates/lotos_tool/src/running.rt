@@ -1,6 +1,7 @@
 //! The command from its words to its status.
-ghost use Rattle.std.specs.Prelude.{◌≡◌, false, OnOk, OnErr};
+ghost use Rattle.std.specs.Prelude.{◌≡◌, ◌==◌, false, OnOk, OnErr, is_err};
 ghost use Rattle.std.specs.Io.KnownBytes.{Appends};
+ghost use Rattle.lotos_tool.specs.Answers.{is_output_fault};
 ghost use Rattle.lotos_tool.specs.Request.{texts_of};
 ghost use Rattle.lotos_tool.specs.Runs.{AppendsBeginning, Ran, Shown, status_of};
 
@@ -27,7 +28,8 @@ pub fn run<R: Source, W: Sink, E: Write>(
 ) -> u8
     requires reader { R.has_failed reader.old ≡ false }
     requires out { W.has_failed out.old ≡ false }
-    ensures { Ran (texts_of words.now) (R.left reader.old) (R.left reader.new) (W.got out.old) (W.got out.new) result }
+    ensures ran { Ran (texts_of words.now) (R.left reader.old) (R.left reader.new) (W.got out.old) (W.got out.new) result }
+    ensures output { W.has_failed out.new ≡ (result == 6) }
 {
     match request(alloc, words) {
         Ok(Request::Search(search)) => finish(&list(alloc, &search, reader, out), err),
@@ -45,7 +47,8 @@ pub fn run<R: Source, W: Sink, E: Write>(
 
 /// Tells of a search that is not complete, and answers its status.
 fn finish<E: Write>(ended: &Ended, err: &mut E) -> u8
-    ensures { result ≡ status_of ended.now }
+    ensures status { result ≡ status_of ended.now }
+    ensures output { is_output_fault ended.now ≡ (result == 6) }
 {
     match ended {
         Ended::Complete { lines: 0 } => 1,
@@ -67,7 +70,8 @@ fn finish<E: Write>(ended: &Ended, err: &mut E) -> u8
 /// Writes the help, and answers the status.
 fn show_help<W: Sink, E: Write>(text: &str, out: &mut W, err: &mut E) -> u8
     requires { W.has_failed out.old ≡ false }
-    ensures { Shown (W.got out.old) (W.got out.new) text.now result }
+    ensures shown { Shown (W.got out.old) (W.got out.new) text.now result }
+    ensures output { W.has_failed out.new ≡ (result == 6) }
 {
     match write_whole(text, out) {
         Ok(()) => 0,
@@ -83,6 +87,7 @@ fn write_whole<W: Sink>(text: &str, out: &mut W) -> Result<(), DeviceFailed>
     requires { W.has_failed out.old ≡ false }
     ensures whole { OnOk result (Appends (W.got out.old) (W.got out.new) text.now) }
     ensures beginning { OnErr result (AppendsBeginning (W.got out.old) (W.got out.new) text.now) }
+    ensures failed { W.has_failed out.new ≡ is_err result }
 {
     write_bytes(out, text.as_bytes())?;
     out.flush()

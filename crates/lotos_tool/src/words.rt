@@ -32,6 +32,7 @@ fn command<'a>(alloc: Global) -> Result<Command<'a>, AllocError>
 {
     Command::new(alloc, "lotosseq")
         .about(ABOUT)
+        .long_about(LONG_ABOUT)
         .after_help(STATUSES)
         .subcommand_required(true)
         .subcommand(search_command(alloc)?)
@@ -138,6 +139,12 @@ fn fault_in(alloc: Global, error: &Error) -> CommandFault
 
 const ABOUT: &str = "Lists the observable action sequences of a basic LOTOS specification";
 
+const LONG_ABOUT: &str = "Lists the observable action sequences of a basic LOTOS specification
+
+The specification is read from standard input, and what is asked of it is written to
+standard output. `lotosseq search --help` tells of the listing, of the bound on the
+steps and of the words of a pattern.";
+
 const SEARCH_ABOUT: &str = "Lists the sequences that match a pattern";
 
 const SEARCH_LONG_ABOUT: &str = "Lists the sequences that match a pattern
@@ -148,7 +155,12 @@ some derivation of at most N steps from the specification's behaviour shows.
 
 Each sequence stands there once, in a line of its own: its labels, separated by one
 blank, or `<empty>`. Shorter sequences stand first, and sequences of one length in
-the order of their labels.";
+the order of their labels.
+
+For example, with the specification
+  specification S [a,b] : exit behaviour a; b; exit endspec
+the command `lotosseq search --depth 3 a b exit` lists
+  A B exit";
 
 const DEPTH_HELP: &str = "The most steps of a derivation, 0 to 255";
 
@@ -163,12 +175,12 @@ const WORDS_LONG_HELP: &str = "The words of the pattern
 
 Each word is the name of a gate, or `exit` for successful termination, in upper or
 lower case. The pattern matches the sequence of just these labels in this order. With
-no word it matches the empty sequence alone. `i` is no word, as the internal action
-cannot be observed. A pattern has at most 256 words.";
+no word it matches the empty sequence alone. `i` is no word of a pattern, as the
+internal action cannot be observed. A pattern has at most 256 words.";
 
 const STATUSES: &str = "Statuses:
   0  the listing is complete and has lines
   1  the listing is complete and has none
-  2  the command, the pattern or the specification is refused
+  2  the command, the pattern or the specification is refused, or cannot be read
   5  memory was wanting
   6  the output cannot be written";

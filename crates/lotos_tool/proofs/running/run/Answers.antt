@@ -19,20 +19,20 @@ module _ (words : List Text) (left left' got got' : Option (List ℕ)) (status :
       let Asks : Request → Type 0 = λ r. RequestOf words (request_view r) in
       record { request = request; asked = subst Asks is asks; ended = ended; answered = answers; status_is = status_is }
 
-pub returns-in-Ok-Search : goal.returns-in-Ok-Search
-returns-in-Ok-Search g c =
-    inl (searched _ _ _ _ _ _ c.in-Ok-Search.field-0 _ c.list.result c.list.ensures.answers c.finish.ensures (search rules) c.in-Ok-Search.ensures.is)
+pub returns-in-Ok-Search-clause-ran : goal.returns-in-Ok-Search-clause-ran
+returns-in-Ok-Search-clause-ran g c =
+    inl (searched _ _ _ _ _ _ c.in-Ok-Search.field-0 _ c.list.result c.list.ensures.answers c.finish.ensures.status (search rules) c.in-Ok-Search.ensures.is)
 
-pub returns-in-Err-Help : goal.returns-in-Err-Help
-returns-in-Err-Help g c =
+pub returns-in-Err-Help-clause-ran : goal.returns-in-Err-Help-clause-ran
+returns-in-Err-Help-clause-ran g c =
     inr (record {
       kept = Keeps-refl _;
-      told = helped _ c.show_help.ensures;
+      told = helped _ c.show_help.ensures.shown;
       taken = λ t. let m = c.in-Err-Help.ensures.taken t in let e = c.in-Err-Help.field-0-is in cc;
     })
 
-pub returns-in-Err-Wrong : goal.returns-in-Err-Wrong
-returns-in-Err-Wrong g c =
+pub returns-in-Err-Wrong-clause-ran : goal.returns-in-Err-Wrong-clause-ran
+returns-in-Err-Wrong-clause-ran g c =
     inr (record {
       kept = Keeps-refl _;
       told = wrong refl (Keeps-refl _);

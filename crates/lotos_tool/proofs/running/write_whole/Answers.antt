@@ -1,4 +1,4 @@
-use Rattle.std.proofs.Common.{◌≡◌, ◌∙◌, ℕ, List, [], Option, Result, Ok, Err, ap, sym, subst, append-nil}
+use Rattle.std.proofs.Common.{ℕ, List, [], Option, Result, Ok, Err, sym, subst, append-nil}
 use Rattle.std.specs.Prelude.{OnOk, OnErr}
 use Rattle.std.specs.Io.KnownBytes.{Appends}
 use Rattle.std.proofs.KnownBytes.{Appends-kept}
@@ -21,10 +21,12 @@ whole_begins old new text h = record { part = text; rest = []; whole = sym (appe
 part_begins : (old new : Option (List ℕ)) (text : List ℕ) → AppendsPart old new text → AppendsBeginning old new text
 part_begins old new text h = record { part = h.part; rest = h.rest; whole = h.whole; written = h.written }
 
-pub returns : goal.returns
-returns g c =
-    let all = Appends-kept _ _ _ c.args.text.now (subst (Appends _ _) c.as_bytes.ensures.value c.in_ok-write_bytes.ensures.whole) c.flush.ensures.bytes in
-    record {
-      whole = on_ok-always c.flush.result _ all;
-      beginning = on_err-always c.flush.result _ (whole_begins _ _ _ all);
-    }
+pub returns-clause-whole : goal.returns-clause-whole
+returns-clause-whole g c =
+    let front = subst (Appends _ _) c.as_bytes.ensures.value c.in_ok-write_bytes.ensures.whole in
+    on_ok-always c.flush.result _ (Appends-kept _ _ _ c.args.text.now front c.flush.ensures.bytes)
+
+pub returns-clause-beginning : goal.returns-clause-beginning
+returns-clause-beginning g c =
+    let front = subst (Appends _ _) c.as_bytes.ensures.value c.in_ok-write_bytes.ensures.whole in
+    on_err-always c.flush.result _ (whole_begins _ _ _ (Appends-kept _ _ _ c.args.text.now front c.flush.ensures.bytes))

@@ -1,0 +1,46 @@
+//! The program `lotosseq`: hands its words and its standard streams to the library, and ends with the status.
+#![tactic(auto)]
+
+use lotos_tool::{FromRead, FromWrite, run};
+use std::alloc::{AllocError, Global};
+use std::env::{self, Args};
+use std::process::ExitCode;
+
+fn main(rt: HostRuntime) -> ExitCode {
+    let alloc = rt.alloc();
+    let Ok(args) = env::args(&rt) else {
+        return no_words(&rt);
+    };
+    let Ok(words) = all_of(alloc, args) else {
+        return no_words(&rt);
+    };
+    let Ok(texts) = texts_of(alloc, words.as_slice()) else {
+        return no_words(&rt);
+    };
+    let mut reader = FromRead::new(rt.stdin());
+    let mut out = FromWrite::new(rt.stdout());
+    let mut err = rt.stderr();
+    ExitCode::from(run(alloc, texts.as_slice(), &mut reader, &mut out, &mut err))
+}
+
+fn all_of(alloc: Global, args: Args) -> Result<Vec<String>, AllocError> {
+    let mut words = Vec::new(alloc);
+    for word in args {
+        words.push(word)?;
+    }
+    Ok(words)
+}
+
+fn texts_of<'a>(alloc: Global, words: &'a [String]) -> Result<Vec<&'a str>, AllocError> {
+    let mut texts = Vec::new(alloc);
+    for word in words {
+        texts.push(word.as_str())?;
+    }
+    Ok(texts)
+}
+
+/// Ends as a command that could not be read for memory.
+fn no_words(rt: &impl Eprint) -> ExitCode {
+    let _ = eprintln!(rt; "lotosseq: E99 out of memory");
+    ExitCode::from(5)
+}

@@ -1,0 +1,27 @@
+/* Refuses one growth of the heap: the one with the number in REFUSED_GROWTH, counted from 1.
+   A refusal writes a byte to file descriptor 9. */
+#include <errno.h>
+#include <stdlib.h>
+#include <unistd.h>
+
+extern void *__libc_malloc(size_t), *__libc_calloc(size_t, size_t), *__libc_realloc(void *, size_t);
+
+static long left; /* how many growths are left up to the refused one, which counts; 0 where none is refused */
+
+__attribute__((constructor)) static void begin(void)
+{
+    const char *number = getenv("REFUSED_GROWTH");
+    left = number ? atol(number) : 0;
+}
+
+static int is_refused(void)
+{
+    if (left == 0 || --left > 0)
+        return 0;
+    errno = write(9, "!", 1) == 1 ? ENOMEM : errno;
+    return 1;
+}
+
+void *malloc(size_t size) { return is_refused() ? NULL : __libc_malloc(size); }
+void *calloc(size_t count, size_t size) { return is_refused() ? NULL : __libc_calloc(count, size); }
+void *realloc(void *old, size_t size) { return is_refused() ? NULL : __libc_realloc(old, size); }
