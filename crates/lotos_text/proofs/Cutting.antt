@@ -3,10 +3,10 @@ use Rattle.std.proofs.Common.{◌≡◌, ℕ, ◌+◌, ◌-◌, ◌<◌, ◌≤�
 use Rattle.std.proofs.lemmas.List.{drop-drop, take_all, append-nil}
 use Rattle.std.proofs.Math.ListN.{drop_of_length-le}
 use Rattle.std.proofs.Math.Seq.{drop-append_seam}
-use Rattle.lotos_text.specs.Cut.{Cuts, nothing, blank, word, mark, Cut, Sticks, IsWord, spelled, token}
+use Rattle.lotos_text.specs.Cut.{Cuts, nothing, blank, word, mark, Cut, IsWord, spelled, token}
 use Rattle.lotos_text.specs.Front.{Front, a_blank, a_word, a_mark, no_piece}
 use Rattle.lotos_text.specs.declared.lexer.Piece.{Piece}
-use Rattle.lotos_text.specs.declared.lexer.Piece.TheVariants.{Blank, Token as a_token, Unknown}
+use Rattle.lotos_text.specs.declared.lexer.Piece.TheVariants.{Blank, Token as a_token}
 use Rattle.lotos_text.specs.declared.token.Sign.{Sign}
 use Rattle.lotos_text.specs.declared.token.Sign.TheVariants as s
 use Rattle.lotos_text.specs.declared.token.Token.{Token}
@@ -98,13 +98,6 @@ pub reached_token : (text : List ℕ) (at n : ℕ) (kind : TokenKind) (found : L
 reached_token text at n kind found r f =
     let g = front_at text at (a_token n kind) f in
     record { inside = token_fits text at n kind r.inside g; cut = join r.cut (cut_token text at n kind g) }
-
--- at a byte that begins no piece the text sticks
-pub reached_stuck : (text : List ℕ) (at : ℕ) (found : List Token) → Reached text at found → Front (rest_of text at) Unknown → Sticks text at
-reached_stuck text at found r f = sticks (front_at text at Unknown f) where
-  sticks : Front (drop at text) Unknown → Sticks text at
-  sticks (no_piece b rest e i) =
-      record { before = found; byte = b; rest = rest; cut = subst (λ t. Cuts 0 text found at t) e r.cut; strange = i }
 
 -- at the text's end it is cut
 pub reached_end : (text : List ℕ) (at : ℕ) (found : List Token) → Reached text at found → length text ≤ at → Cut text found

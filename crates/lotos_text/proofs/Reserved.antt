@@ -1,6 +1,6 @@
 -- Reserved words: the kind of a word, looked up row by row.
 use Rattle.std.proofs.Common.{◌≡◌, ℕ, ◌+◌, ◌<◌, Bool, true, false, cond, List, [], ◌∷◌, length, drop, map, get_or, Bor, suc, sym, ◌∙◌, subst, add-one}
-use Rattle.std.proofs.lemmas.Bool.{and_parts, cond-true, cond-false, false_from_ne_true}
+use Rattle.std.proofs.lemmas.Bool.{and_parts, cond-false, false_from_ne_true}
 use Rattle.std.proofs.lemmas.Slice.Eq.{bytes_eq-Decides}
 use Rattle.std.proofs.Math.Seq.{drop-cons}
 use Rattle.std.specs.Char.{to_ascii_lowercase}
@@ -33,26 +33,17 @@ pub record Left (rows : List Row) (found : List ℕ) : Type 0 where
 abbrev pub Alike : List ℕ → List ℕ → Type 0
 Alike a b = map to_ascii_lowercase a ≡ map to_ascii_lowercase b
 
--- alike to a word in lower case is what is that word
-is_from : (word found : List ℕ) → bytes_eq (map to_ascii_lowercase word) word ≡ true → Alike found word → is word found ≡ true
-is_from word found h k = let lower = (bytes_eq-Decides (map to_ascii_lowercase word) word).0 h in (bytes_eq-Decides word _).1 (sym (k ∙ lower))
-
 is_not : (word found : List ℕ) → bytes_eq (map to_ascii_lowercase word) word ≡ true → (Alike found word → ⊥) → is word found ≡ false
 is_not word found h k =
     let lower = (bytes_eq-Decides (map to_ascii_lowercase word) word).0 h in
     false_from_ne_true (is word found) (λ t. k (sym (lower ∙ (bytes_eq-Decides word (map to_ascii_lowercase found)).0 t)))
 
--- the first row is left out or decides
+-- the first row is left out
 first_out : (row : Row) (rows : List Row) (found : List ℕ) → (Alike found row.0.now → ⊥) → Left (row ∷ rows) found → Left rows found
 first_out row rows found h left =
     let parts = and_parts (bytes_eq (map to_ascii_lowercase row.0.now) row.0.now) (are_lower rows) left.lower in
     let other = cond-false (is row.0.now found) (Reserved row.1) (kind_by rows found) (is_not row.0.now found parts.0 h) in
     record { decides = sym other ∙ left.decides; lower = parts.1 }
-
-first_in : (row : Row) (rows : List Row) (found : List ℕ) → Alike found row.0.now → Left (row ∷ rows) found → Reserved row.1 ≡ word_kind found
-first_in row rows found h left =
-    let parts = and_parts (bytes_eq (map to_ascii_lowercase row.0.now) row.0.now) (are_lower rows) left.lower in
-    sym (cond-true (is row.0.now found) (Reserved row.1) (kind_by rows found) (is_from row.0.now found parts.0 h)) ∙ left.decides
 
 first_left : (rows : List Row) (i : ℕ) (row : Row) (found : List ℕ) → i < length rows → Left (drop i rows) found → Left (get_or rows i row ∷ drop (suc i) rows) found
 first_left rows i row found lt left = subst (λ r. Left r found) (drop-cons rows i row lt) left
@@ -63,8 +54,3 @@ pub row_out : (rows : List Row) (i : ℕ) (row : Row) (found : List ℕ) → i <
 row_out rows i row found lt h left =
     let next = first_out (get_or rows i row) (drop (suc i) rows) found h (first_left rows i row found lt left) in
     rw add-one next
-
--- a row with this spelling decides
-pub row_in : (rows : List Row) (i : ℕ) (row : Row) (found : List ℕ) → i < length rows → Alike found (get_or rows i row).0.now →
-    Left (drop i rows) found → Reserved (get_or rows i row).1 ≡ word_kind found
-row_in rows i row found lt h left = first_in (get_or rows i row) (drop (suc i) rows) found h (first_left rows i row found lt left)

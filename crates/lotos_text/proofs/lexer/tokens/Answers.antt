@@ -1,5 +1,5 @@
 use Rattle.std.proofs.Common.{◌+◌, arith, subst, sym}
-use Rattle.lotos_text.proofs.Cutting.{Reached, token_some, reached_start, reached_blank, reached_token, reached_stuck, reached_end}
+use Rattle.lotos_text.proofs.Cutting.{Reached, token_some, reached_start, reached_blank, reached_token, reached_end}
 use Rattle.lotos_text.proofs.Standing.{all_stand}
 use Rattle.lotos_text.proofs.lexer.tokens.Goals as goal
 
@@ -21,16 +21,6 @@ pub loop-at-preserved : goal.loop-at-preserved
 loop-at-preserved c =
     let next = reached_token c.args.text.now c.loop-at.at c.in-Token.length c.in-Token.kind c.loop-at.found.items c.loop-at.invariant c.in-Token.ensures in
     subst (Reached c.args.text.now (c.loop-at.at + c.in-Token.length)) (sym c.in_ok-push-in-Token.ensures.items) next
-
-pub returns-in-Unknown-clause-stuck : goal.returns-in-Unknown-clause-stuck
-returns-in-Unknown-clause-stuck c =
-    record {
-      short = c.if-text-gt-TEXT_LIMIT.false;
-      sticks = reached_stuck c.args.text.now c.loop-at.at c.loop-at.found.items c.loop-at.invariant c.in-Unknown.ensures;
-    }
-
-pub returns-clause-cut : goal.returns-clause-cut
-returns-clause-cut c = reached_end c.args.text.now c.loop-at.at c.loop-at.found.items c.loop-at.invariant c.loop-at-test.false
 
 pub returns-clause-stand : goal.returns-clause-stand
 returns-clause-stand c =
