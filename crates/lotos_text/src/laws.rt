@@ -9,11 +9,9 @@ ghost use Rattle.lotos_text.specs.declared.token.Token.{Token};
 pub fn one_cut()
     ensures cut { (text : List ℕ) (ts us : List Token) → Cut text ts → Cut text us → ts ≡ us }
     ensures whole { (text : List ℕ) (ts : List Token) (at : ℕ) → Cut text ts → Sticks text at → ⊥ }
-{
-}
+{}
 
 /// A token list spells at most one specification.
 pub fn one_specification()
     ensures { (text : List ℕ) (ts : List Token) (x y : Def) → Specifies text ts x → Specifies text ts y → x ≡ y }
-{
-}
+{}
