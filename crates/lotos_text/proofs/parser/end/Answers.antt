@@ -15,10 +15,14 @@ returns-in_err-rest-clause-lost c =
 
 pub returns-then-is_empty-clause-found : goal.returns-then-is_empty-clause-found
 returns-then-is_empty-clause-found c =
-    found_end c.args.tokens.now c.in_ok-rest.rest.now c.in_ok-rest.field-0-0 c.in_ok-rest.ensures.found.0 c.in_ok-rest.ensures.found.1
-    (nil_from_length c.in_ok-rest.rest.now (eqb-true (length c.in_ok-rest.rest.now) 0 (sym c.is_empty.ensures ∙ c.if-is_empty.true)))
+    found_end c.args.tokens.now c.in_ok-rest.rest.now c.in_ok-rest.field-0-0 c.in_ok-rest.ensures.found.0
+    c.in_ok-rest.ensures.found.1
+    (nil_from_length c.in_ok-rest.rest.now (eqb-true (length c.in_ok-rest.rest.now) 0
+    (sym c.is_empty.ensures ∙ c.if-is_empty.true)))
 
 pub returns-else-is_empty-clause-lost : goal.returns-else-is_empty-clause-lost
 returns-else-is_empty-clause-lost c =
-    lost_end c.args.tokens.now c.in_ok-rest.rest.now c.in_ok-rest.field-0-0 c.in_ok-rest.ensures.found.0 c.in_ok-rest.ensures.found.1
-    (λ e. let f = c.if-is_empty.false in let g = c.is_empty.ensures in let h : (length c.in_ok-rest.rest.now == 0) ≡ true = ap (λ (m : List Token). length m == 0) e in cc)
+    lost_end c.args.tokens.now c.in_ok-rest.rest.now c.in_ok-rest.field-0-0 c.in_ok-rest.ensures.found.0
+    c.in_ok-rest.ensures.found.1
+    (λ e. let f = c.if-is_empty.false in let g = c.is_empty.ensures in let h : (length c.in_ok-rest.rest.now == 0) ≡ true = ap
+    (λ (m : List Token). length m == 0) e in cc)

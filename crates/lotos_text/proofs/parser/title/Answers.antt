@@ -14,7 +14,8 @@ returns-in_err-token-clause-lost c =
     passed_on (One _) (Title c.args.text.now) c.in_ok-rest.rest.now c.args.tokens.now
     (λ at l. lost_behind _ (Name c.args.text.now) c.args.tokens.now c.in_ok-rest.rest.now at c.in_ok-rest.field-0-0
     c.in_ok-rest.ensures.found.0 c.in_ok-rest.ensures.found.1 (lost_name c.args.text.now c.in_ok-rest.rest.now at l))
-    c.from_residual-in_err-token.result c.in_err-token.field-0.0 c.from_residual-in_err-token.ensures.1 c.in_err-token.ensures.lost
+    c.from_residual-in_err-token.result c.in_err-token.field-0.0 c.from_residual-in_err-token.ensures.1
+    c.in_err-token.ensures.lost
 
 pub returns-clause-found : goal.returns-clause-found
 returns-clause-found c =
