@@ -71,7 +71,7 @@ module _ (text : List ℕ) where
       (let i = starts_rank r more st in let j = p.quits in omega (arith, i, j)) o.quits in
       record { tokens = h.tokens; said = h.tree; rest = h.rest }
 
-  -- an operand of one token, and none
+  -- an operand of one token, and no operand
 
   pub found_stop : (n : Token) (ts : List Token) → Is n (Reserved w.StopWord) →
       Found (Expression text prefixing) (n ∷ ts) t.stop ts
@@ -100,22 +100,6 @@ module _ (text : List ℕ) where
     front = [];
     joined = refl;
     never = λ more own behind x st e p. never_begun n p.ends own behind st.0 x h (sym st.1 ∙ e) p.spells;
-  }
-
-  never_ended : (ends : Bool) (own behind : List Token) (x : Tree) → [] ≡ own ++ behind → Spells text prefixing ends own x → ⊥
-  never_ended ends own behind x e (stop i) = cc
-  never_ended ends own behind x e (exit i) = cc
-  never_ended ends own behind x e (brackets i d j) = cc
-  never_ended ends own behind x e (prefix i j d) = cc
-  never_ended ends own behind x e (tighter b d) = elim b [ ]
-  never_ended ends own behind x e (operation b d j f) = elim b [ ]
-
-  -- no operand is empty
-  pub lost_ended : Lost (Expression text prefixing) [] []
-  lost_ended = record {
-    front = [];
-    joined = refl;
-    never = λ more own behind x st e p. never_ended p.ends own behind x (sym st ∙ e) p.spells;
   }
 
   -- brackets

@@ -2,8 +2,8 @@ use Rattle.std.proofs.Common.{rules, sym, ◌∙◌, subst}
 use Rattle.lotos_text.specs.Grammar.{Acts, gate, internal, placed, choosing, prefixing}
 use Rattle.lotos_text.specs.Parts.{One, Expression}
 use Rattle.lotos_text.specs.declared.tree.Action.TheVariants.{Gate}
-use Rattle.lotos_text.proofs.Expressions.{found_stop, found_exit, lost_begun, lost_ended, found_alone, found_choice, lost_left, lost_right, found_closed, lost_inside, lost_open, found_body, lost_unseparated, lost_body}
-use Rattle.lotos_text.proofs.Openings.{is_stop, is_exit, is_internal, is_name, is_bracket}
+use Rattle.lotos_text.proofs.Expressions.{found_stop, found_exit, lost_begun, found_alone, found_choice, lost_left, lost_right, found_closed, lost_inside, lost_open, found_body, lost_unseparated, lost_body}
+use Rattle.lotos_text.proofs.Openings.{is_stop, is_exit, is_internal, is_name}
 use Rattle.lotos_text.proofs.Stops.{passed_on}
 use Rattle.lotos_text.proofs.parser.+parser.Goals as goal
 
