@@ -4,7 +4,7 @@ use Rattle.lotos_text.specs.Parts.{One, Expression}
 use Rattle.lotos_text.specs.declared.tree.Action.TheVariants.{Gate}
 use Rattle.lotos_text.proofs.Expressions.{found_stop, found_exit, lost_begun, found_alone, found_choice, lost_left, lost_right, found_closed, lost_inside, lost_open, found_body, lost_unseparated, lost_body}
 use Rattle.lotos_text.proofs.Openings.{is_stop, is_exit, is_internal, is_name}
-use Rattle.lotos_text.proofs.Stops.{passed_on}
+use Rattle.lotos_text.proofs.Stops.{missed_on, passed_on}
 use Rattle.lotos_text.proofs.parser.+parser.Goals as goal
 
 pub bracketed-returns-in_err-inner-clause-lost : goal.bracketed-returns-in_err-inner-clause-lost
@@ -15,7 +15,7 @@ bracketed-returns-in_err-inner-clause-lost t c =
 
 pub bracketed-returns-in_err-rest-clause-lost : goal.bracketed-returns-in_err-rest-clause-lost
 bracketed-returns-in_err-rest-clause-lost t c =
-    passed_on (One _) (Expression c.args.text.now prefixing) c.in_ok-inner.rest.now _
+    missed_on (One _) (Expression c.args.text.now prefixing) c.in_ok-inner.rest.now _
     (λ rest. lost_open c.args.text.now c.args.first c.args.tokens.now c.in_ok-inner.rest.now rest _ c.requires.opens
     c.in_ok-inner.ensures.found)
     c.from_residual-in_err-rest.result c.in_err-rest.field-0.0 c.from_residual-in_err-rest.ensures.1 c.in_err-rest.ensures.lost
@@ -52,7 +52,7 @@ choice-returns-clause-found t c =
 
 pub prefixed-returns-in_err-rest-clause-lost : goal.prefixed-returns-in_err-rest-clause-lost
 prefixed-returns-in_err-rest-clause-lost t c =
-    passed_on (One _) (Expression c.args.text.now prefixing) c.args.tokens.now _
+    missed_on (One _) (Expression c.args.text.now prefixing) c.args.tokens.now _
     (λ rest. lost_unseparated c.args.text.now c.args.first c.args.action c.args.tokens.now rest c.requires.acts)
     c.from_residual.result c.in_err-rest.field-0.0 c.from_residual.ensures.1 c.in_err-rest.ensures.lost
 

@@ -1,13 +1,13 @@
 use Rattle.lotos_text.specs.Grammar.{choosing, hiding}
 use Rattle.lotos_text.specs.Parts.{One, Expression, Body}
 use Rattle.lotos_text.proofs.OneToken.{lost_before}
-use Rattle.lotos_text.proofs.Stops.{passed_on, still_found, still_lost}
+use Rattle.lotos_text.proofs.Stops.{missed_on, still_found, still_lost}
 use Rattle.lotos_text.proofs.Wholes.{found_body, lost_body}
 use Rattle.lotos_text.proofs.parser.body.Goals as goal
 
 pub returns-in_err-rest-clause-lost : goal.returns-in_err-rest-clause-lost
 returns-in_err-rest-clause-lost c =
-    passed_on (One _) (Body c.args.text.now) c.args.tokens.now c.args.tokens.now
+    missed_on (One _) (Body c.args.text.now) c.args.tokens.now c.args.tokens.now
     (λ at. lost_before _ (Expression c.args.text.now hiding) c.args.tokens.now at)
     c.from_residual.result c.in_err-rest.field-0.0 c.from_residual.ensures.1 c.in_err-rest.ensures.lost
 

@@ -4,13 +4,13 @@ use Rattle.std.proofs.lemmas.List.{nil_from_length}
 use Rattle.lotos_text.specs.declared.token.Token.{Token}
 use Rattle.lotos_text.specs.Parts.{One, Nothing, End}
 use Rattle.lotos_text.proofs.OneToken.{lost_before}
-use Rattle.lotos_text.proofs.Stops.{passed_on}
+use Rattle.lotos_text.proofs.Stops.{still_missed}
 use Rattle.lotos_text.proofs.Wholes.{found_end, lost_end}
 use Rattle.lotos_text.proofs.parser.end.Goals as goal
 
 pub returns-in_err-rest-clause-lost : goal.returns-in_err-rest-clause-lost
 returns-in_err-rest-clause-lost c =
-    passed_on (One _) End c.args.tokens.now c.args.tokens.now (λ at. lost_before _ Nothing c.args.tokens.now at)
+    still_missed (One _) End c.args.tokens.now c.args.tokens.now (λ at. lost_before _ Nothing c.args.tokens.now at)
     c.from_residual.result c.in_err-rest.field-0.0 c.from_residual.ensures.1 c.in_err-rest.ensures.lost
 
 pub returns-then-is_empty-clause-found : goal.returns-then-is_empty-clause-found

@@ -1,5 +1,5 @@
 use Rattle.lotos_text.specs.Parts.{Title, Gates, Returns, Header}
-use Rattle.lotos_text.proofs.Stops.{passed_on}
+use Rattle.lotos_text.proofs.Stops.{missed_on, passed_on}
 use Rattle.lotos_text.proofs.Wholes.{found_header, lost_title, lost_formals, lost_returns}
 use Rattle.lotos_text.proofs.parser.header.Goals as goal
 
@@ -18,7 +18,7 @@ returns-in_err-formals-clause-lost c =
 
 pub returns-in_err-functionality-clause-lost : goal.returns-in_err-functionality-clause-lost
 returns-in_err-functionality-clause-lost c =
-    passed_on Returns (Header c.args.text.now) c.in_ok-formals.rest.now c.args.tokens.now
+    missed_on Returns (Header c.args.text.now) c.in_ok-formals.rest.now c.args.tokens.now
     (λ at. lost_returns c.args.text.now c.args.tokens.now c.in_ok-name.rest.now c.in_ok-formals.rest.now at _ _
     c.in_ok-name.ensures.found c.in_ok-formals.ensures.found)
     c.from_residual-in_err-functionality.result c.in_err-functionality.field-0.0 c.from_residual-in_err-functionality.ensures.1

@@ -5,12 +5,12 @@ use Rattle.lotos_text.specs.Parts.{One, NameList}
 use Rattle.lotos_text.specs.declared.tree.Placed.{Placed}
 use Rattle.lotos_text.specs.declared.token.TokenKind.TheVariants.{Identifier}
 use Rattle.lotos_text.proofs.NameLists.{found_last, found_more, lost_here, lost_more}
-use Rattle.lotos_text.proofs.Stops.{passed_on}
+use Rattle.lotos_text.proofs.Stops.{missed_on}
 use Rattle.lotos_text.proofs.parser.names.Goals as goal
 
 pub returns-in_err-first-clause-lost : goal.returns-in_err-first-clause-lost
 returns-in_err-first-clause-lost c =
-    passed_on (One Identifier) (NameList c.args.text.now) c.loop-found.rest.now c.args.tokens.now
+    missed_on (One Identifier) (NameList c.args.text.now) c.loop-found.rest.now c.args.tokens.now
     (λ at l. c.loop-found.invariant.loses at (lost_here c.args.text.now c.loop-found.rest.now at l))
     c.from_residual.result c.in_err-first.field-0.0 c.from_residual.ensures.1 c.in_err-first.ensures.lost
 

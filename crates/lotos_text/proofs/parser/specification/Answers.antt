@@ -1,5 +1,5 @@
 use Rattle.lotos_text.specs.Parts.{Header, Body, End, Whole, defined}
-use Rattle.lotos_text.proofs.Stops.{passed_on}
+use Rattle.lotos_text.proofs.Stops.{missed_on, passed_on}
 use Rattle.lotos_text.proofs.Views.{seen_alone}
 use Rattle.lotos_text.proofs.Wholes.{found_whole, lost_header, lost_behaviour, lost_last}
 use Rattle.lotos_text.proofs.parser.specification.Goals as goal
@@ -18,7 +18,7 @@ returns-in_err-body-clause-lost c =
 
 pub returns-in_err-end-clause-lost : goal.returns-in_err-end-clause-lost
 returns-in_err-end-clause-lost c =
-    passed_on End (Whole c.args.text.now) c.in_ok-body.rest.now c.args.tokens.now
+    missed_on End (Whole c.args.text.now) c.in_ok-body.rest.now c.args.tokens.now
     (λ at. lost_last c.args.text.now c.args.tokens.now c.in_ok-heading.rest.now c.in_ok-body.rest.now at _ _
     c.in_ok-heading.ensures.found c.in_ok-body.ensures.found)
     c.from_residual-in_err-end.result c.in_err-end.field-0.0 c.from_residual-in_err-end.ensures.1 c.in_err-end.ensures.lost
