@@ -15,6 +15,7 @@ tail_same e = cc
 abbrev kind_of : Token → TokenKind
 kind_of n = n.kind
 
+-- the same token is of the same kind
 pub same_is : {n m : Token} {k : TokenKind} → Is n k → n ≡ m → Is m k
 same_is i e = record { same = ap kind_of (sym e) ∙ i.same }
 
@@ -22,29 +23,35 @@ same_is i e = record { same = ap kind_of (sym e) ∙ i.same }
 pub apart : {n m : Token} {j k : TokenKind} → Is n j → Is m k → n ≡ m → (j ≡ k → ⊥) → ⊥
 apart i j e two = two (sym i.same ∙ ap kind_of e ∙ j.same)
 
+-- a list that does not begin with the kind does not begin with such a token
 pub not_first : {n : Token} (k : TokenKind) (r ts : List Token) → NotFirst k r → Is n k → r ≡ n ∷ ts → ⊥
 not_first k [] ts h i e = cc
 not_first k (m ∷ ms) ts h i e = h (same_is i (sym (head_same e)))
 
+-- a token of another kind is not of this one
 pub is_first : {n : Token} {j k : TokenKind} → Is n j → (j ≡ k → ⊥) → Is n k → ⊥
 is_first i two j = apart i j refl two
 
 -- a list that starts alike
 
+-- it begins with no token of the kind either
 pub starts_not : (k : TokenKind) (rest more : List Token) → Starts rest more → NotFirst k rest → NotFirst k more
 starts_not k [] [] st h = tt
 starts_not k [] (m ∷ ms) st h = absurd cc
 starts_not k (n ∷ ns) [] st h = absurd (let e = st.1 in cc)
 starts_not k (n ∷ ns) (m ∷ ms) st h = λ i. h (same_is i (head_same st.1))
 
+-- its first token ranks alike
 pub starts_rank : (rest more : List Token) → Starts rest more → rank more ≡ rank rest
 starts_rank [] more st = ap rank st
 starts_rank (n ∷ ns) more st = ap rank st.1
 
+-- behind the same front it starts alike still
 pub starts_behind : (front rest more : List Token) → Starts rest more → Starts (front ++ rest) (front ++ more)
 starts_behind [] rest more st = st
 starts_behind (n ∷ front) rest more st = (front ++ more, refl)
 
+-- each list starts as itself
 pub starts_same : (ts : List Token) → Starts ts ts
 starts_same [] = refl
 starts_same (n ∷ ns) = (ns, refl)

@@ -13,10 +13,14 @@ use Rattle.lotos_text.proofs.OneToken.{found_behind, lost_behind, firm_behind, f
 use Rattle.lotos_text.proofs.Sequence.{Same, Firm, lost_as, Between, between, as_between}
 
 module _ (text : List ℕ) where
-  pub found_last : (ts behind : List Token) (n : Token) → ts ≡ n ∷ behind → Is n Identifier → NotFirst (Sign s.Comma) behind → Found (NameList text) ts (placed text n ∷ []) behind
+  -- a name with no comma behind it is a list
+  pub found_last : (ts behind : List Token) (n : Token) → ts ≡ n ∷ behind → Is n Identifier → NotFirst (Sign s.Comma) behind →
+      Found (NameList text) ts (placed text n ∷ []) behind
   found_last ts behind n e i h = record { front = n ∷ []; joined = e; whole = record { names = one_name i; quits = h } }
 
-  pub found_more : (ts behind after rest : List Token) (n comma : Token) (names : List Placed) → ts ≡ n ∷ behind → Is n Identifier → behind ≡ comma ∷ after → Is comma (Sign s.Comma) →
+  -- a name and a comma go before a list
+  pub found_more : (ts behind after rest : List Token) (n comma : Token) (names : List Placed) → ts ≡ n ∷ behind →
+      Is n Identifier → behind ≡ comma ∷ after → Is comma (Sign s.Comma) →
       Found (NameList text) after names rest → Found (NameList text) ts (placed text n ∷ names) rest
   found_more ts behind after rest n comma names e i g j f = record {
     front = n ∷ comma ∷ f.front;
@@ -24,32 +28,41 @@ module _ (text : List ℕ) where
     whole = record { names = more_names i j f.whole.names; quits = f.whole.quits };
   }
 
+  -- where the first name is lost, so is the list
   pub lost_here : (ts rest : List Token) → Lost (One Identifier) ts rest → Lost (NameList text) ts rest
   lost_here ts rest l = record {
     front = l.front;
     joined = l.joined;
-    never = λ more own behind said st e p. never_here l.front more own behind said (λ n ls e i. l.never more (n ∷ []) ls n st e (record { joined = refl; is = i })) e p.names;
+    never = λ more own behind said st e p. never_here l.front more own behind said
+        (λ n ls e i. l.never more (n ∷ []) ls n st e (record { joined = refl; is = i })) e p.names;
   }
     where
-      never_here : (front more own behind : List Token) (names : List Placed) → ((n : Token) (ls : List Token) → front ++ more ≡ n ∷ ls → Is n Identifier → ⊥) →
+      never_here : (front more own behind : List Token) (names : List Placed) →
+          ((n : Token) (ls : List Token) → front ++ more ≡ n ∷ ls → Is n Identifier → ⊥) →
           front ++ more ≡ own ++ behind → Names text own names → ⊥
       never_here front more _ behind _ h e (one_name {n = n} i) = h n behind e i
       never_here front more _ behind _ h e (more_names {n = n} {comma = comma} {ts = ts} i j d) = h n (comma ∷ ts ++ behind) e i
 
-  pub lost_more : (ts behind after rest : List Token) (n comma : Token) → ts ≡ n ∷ behind → behind ≡ comma ∷ after → Is comma (Sign s.Comma) →
+  -- a list that is lost behind a name and a comma is lost with them
+  pub lost_more : (ts behind after rest : List Token) (n comma : Token) → ts ≡ n ∷ behind → behind ≡ comma ∷ after →
+      Is comma (Sign s.Comma) →
       Lost (NameList text) after rest → Lost (NameList text) ts rest
   lost_more ts behind after rest n comma e g j l = record {
     front = n ∷ comma ∷ l.front;
     joined = e ∙ ap (λ m. n ∷ m) (g ∙ ap (λ m. comma ∷ m) l.joined);
-    never = λ more own behind said st e p. never_more l.front more own behind said (λ a ms e d. l.never more a behind ms st e (record { names = d; quits = p.quits })) e p.names p.quits;
+    never = λ more own behind said st e p. never_more l.front more own behind said
+        (λ a ms e d. l.never more a behind ms st e (record { names = d; quits = p.quits })) e p.names p.quits;
   }
     where
-      never_more : (front more own behind : List Token) (names : List Placed) → ((a : List Token) (ms : List Placed) → front ++ more ≡ a ++ behind → Names text a ms → ⊥) →
+      never_more : (front more own behind : List Token) (names : List Placed) →
+          ((a : List Token) (ms : List Placed) → front ++ more ≡ a ++ behind → Names text a ms → ⊥) →
           n ∷ comma ∷ (front ++ more) ≡ own ++ behind → Names text own names → NotFirst (Sign s.Comma) behind → ⊥
       never_more front more _ behind _ h e (one_name i) q = not_first _ behind (front ++ more) q j (sym (tail_same e))
       never_more front more _ behind _ h e (more_names {ts = ts} {names = ms} i k d) q = h ts ms (tail_same (tail_same e)) d
 
-  pub unique_names : {a b : List Token} {ns ms : List Placed} (r q : List Token) → Names text a ns → Names text b ms → a ++ r ≡ b ++ q →
+  -- one list begins with one list of names
+  pub unique_names : {a b : List Token} {ns ms : List Placed} (r q : List Token) → Names text a ns → Names text b ms →
+      a ++ r ≡ b ++ q →
       NotFirst (Sign s.Comma) r → NotFirst (Sign s.Comma) q → Same a b ns ms r q
   unique_names r q (one_name i) (one_name j) e hr hq = record {
     tokens = ap (λ n. n ∷ []) (head_same e);
@@ -58,7 +71,8 @@ module _ (text : List ℕ) where
   }
   unique_names r q (one_name i) (more_names {ts = ts} j c d) e hr hq = absurd (not_first _ r (ts ++ q) hr c (tail_same e))
   unique_names r q (more_names {ts = ts} j c d) (one_name i) e hr hq = absurd (not_first _ q (ts ++ r) hq c (sym (tail_same e)))
-  unique_names r q (more_names {n} {comma} {ts} {names} i c d) (more_names {n = m} {comma = other} {ts = us} {names = ms} j k f) e hr hq =
+  unique_names r q (more_names {n} {comma} {ts} {names} i c d)
+      (more_names {n = m} {comma = other} {ts = us} {names = ms} j k f) e hr hq =
       let h = unique_names r q d f (tail_same (tail_same e)) hr hq in
       record {
         tokens = (let f = h.tokens in let g = head_same e in let i = head_same (tail_same e) in cc);
@@ -66,13 +80,18 @@ module _ (text : List ℕ) where
         rest = h.rest;
       }
 
-  pub unique_gates : {a b : List Token} {ns ms : List Placed} (r q : List Token) → GateList text a ns → GateList text b ms → a ++ r ≡ b ++ q →
+  -- one list begins with one gate list
+  pub unique_gates : {a b : List Token} {ns ms : List Placed} (r q : List Token) → GateList text a ns → GateList text b ms →
+      a ++ r ≡ b ++ q →
       (a ≡ [] → NotFirst (Sign s.LeftBracket) r) → (b ≡ [] → NotFirst (Sign s.LeftBracket) q) → Same a b ns ms r q
   unique_gates r q no_gates no_gates e hr hq = record { tokens = refl; said = refl; rest = e }
-  unique_gates r q no_gates (gates {right = c} {ts = ts} i d j) e hr hq = absurd (not_first _ r ((ts ++ c ∷ []) ++ q) (hr refl) i e)
-  unique_gates r q (gates {right = c} {ts = ts} i d j) no_gates e hr hq = absurd (not_first _ q ((ts ++ c ∷ []) ++ r) (hq refl) i (sym e))
+  unique_gates r q no_gates (gates {right = c} {ts = ts} i d j) e hr hq = absurd (not_first _ r ((ts ++ c ∷ []) ++ q)
+      (hr refl) i e)
+  unique_gates r q (gates {right = c} {ts = ts} i d j) no_gates e hr hq = absurd (not_first _ q ((ts ++ c ∷ []) ++ r) (hq refl) i
+      (sym e))
   unique_gates r q (gates {right = c} {ts = ts} i d j) (gates {right = other} {ts = us} k f l) e hr hq =
-      let h = unique_names (c ∷ r) (other ∷ q) d f (sym (append_assoc ts (c ∷ []) r) ∙ tail_same e ∙ append_assoc us (other ∷ []) q)
+      let h = unique_names (c ∷ r) (other ∷ q) d f
+      (sym (append_assoc ts (c ∷ []) r) ∙ tail_same e ∙ append_assoc us (other ∷ []) q)
       (is_first j (λ e. cc)) (is_first l (λ e. cc)) in
       record {
         tokens = (let a = h.tokens in let b = head_same e in let d = head_same h.rest in cc);
@@ -94,6 +113,7 @@ module _ (text : List ℕ) where
   abbrev InBrackets : Part (List Placed)
   InBrackets = Before Opened (Sign s.RightBracket)
 
+  -- where no bracket stands, there are no gates
   pub found_no_gates : (ts : List Token) → NotFirst (Sign s.LeftBracket) ts → Found (Gates text) ts [] ts
   found_no_gates ts h = record { front = []; joined = refl; whole = record { gates = no_gates; quits = λ e. h } }
 
@@ -109,25 +129,38 @@ module _ (text : List ℕ) where
         };
       }
 
-  down_gates : (n : Token) → Is n (Sign s.LeftBracket) → (own behind more : List Token) (names : List Placed) → own ++ behind ≡ n ∷ more → GateList text own names →
+  down_gates : (n : Token) → Is n (Sign s.LeftBracket) → (own behind more : List Token) (names : List Placed) →
+      own ++ behind ≡ n ∷ more → GateList text own names →
       (own ≡ [] → NotFirst (Sign s.LeftBracket) behind) → (said : List Placed) × InBrackets own said behind
   down_gates n i _ behind more _ e no_gates h = absurd (not_first _ behind more (h refl) i e)
   down_gates n i _ behind more _ e (gates {left = left} {right = right} {ts = ts} {names = names} j d k) h =
       (names, as_between _ _ (NameList text) left right ts behind names j (record { names = d; quits = is_first k (λ e. cc) }) k)
 
-  lost_gates : (ts others rest : List Token) (n : Token) → ts ≡ n ∷ others → Is n (Sign s.LeftBracket) → Lost InBrackets ts rest → Lost (Gates text) ts rest
-  lost_gates ts others rest n e i l = lost_as (Gates text) InBrackets n ts others rest e (λ own behind more x e p. down_gates n i own behind more x e p.gates p.quits) l
+  lost_gates : (ts others rest : List Token) (n : Token) → ts ≡ n ∷ others → Is n (Sign s.LeftBracket) → Lost InBrackets ts rest →
+      Lost (Gates text) ts rest
+  lost_gates ts others rest n e i l = lost_as (Gates text) InBrackets n ts others rest e
+      (λ own behind more x e p. down_gates n i own behind more x e p.gates p.quits) l
 
-  pub found_closed : (ts inside between rest : List Token) (left right : Token) (names : List Placed) → ts ≡ left ∷ inside → Is left (Sign s.LeftBracket) →
-      Found (NameList text) inside names between → between ≡ right ∷ rest → Is right (Sign s.RightBracket) → Found (Gates text) ts names rest
+  -- a bracket, names and a bracket are a gate list
+  pub found_closed : (ts inside between rest : List Token) (left right : Token) (names : List Placed) → ts ≡ left ∷ inside →
+      Is left (Sign s.LeftBracket) →
+      Found (NameList text) inside names between → between ≡ right ∷ rest → Is right (Sign s.RightBracket) → Found
+      (Gates text) ts names rest
   found_closed ts inside between rest left right names e i f g j =
-      found_gates ts rest names (found_before Opened _ ts between rest right names (found_behind _ (NameList text) ts inside between left names e i f) g j)
+      found_gates ts rest names (found_before Opened _ ts between rest right names
+      (found_behind _ (NameList text) ts inside between left names e i f) g j)
 
-  pub lost_inside : (ts inside rest : List Token) (left : Token) → ts ≡ left ∷ inside → Is left (Sign s.LeftBracket) → Lost (NameList text) inside rest → Lost (Gates text) ts rest
-  lost_inside ts inside rest left e i l = lost_gates ts inside rest left e i (lost_within Opened _ ts rest (lost_behind _ (NameList text) ts inside rest left e i l))
+  -- where the names in the bracket are lost, so is the gate list
+  pub lost_inside : (ts inside rest : List Token) (left : Token) → ts ≡ left ∷ inside → Is left (Sign s.LeftBracket) →
+      Lost (NameList text) inside rest → Lost (Gates text) ts rest
+  lost_inside ts inside rest left e i l = lost_gates ts inside rest left e i
+      (lost_within Opened _ ts rest (lost_behind _ (NameList text) ts inside rest left e i l))
 
-  pub lost_open : (ts inside between rest : List Token) (left : Token) (names : List Placed) → ts ≡ left ∷ inside → Is left (Sign s.LeftBracket) →
+  -- where the right bracket is lost, so is the gate list
+  pub lost_open : (ts inside between rest : List Token) (left : Token) (names : List Placed) → ts ≡ left ∷ inside →
+      Is left (Sign s.LeftBracket) →
       Found (NameList text) inside names between → Lost (One (Sign s.RightBracket)) between rest → Lost (Gates text) ts rest
   lost_open ts inside between rest left names e i f l =
       lost_gates ts inside rest left e i
-      (lost_unclosed Opened _ (firm_behind _ (NameList text) firm_names) ts between rest names (found_behind _ (NameList text) ts inside between left names e i f) l)
+      (lost_unclosed Opened _ (firm_behind _ (NameList text) firm_names) ts between rest names
+      (found_behind _ (NameList text) ts inside between left names e i f) l)

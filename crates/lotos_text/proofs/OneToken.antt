@@ -26,18 +26,22 @@ its_first own ts behind n e i = e ∙ ap (λ l. l ++ behind) i
 pub found_one : (k : TokenKind) (ts rest : List Token) (n : Token) → ts ≡ n ∷ rest → Is n k → Found (One k) ts n rest
 found_one k ts rest n e i = record { front = n ∷ []; joined = e; whole = record { joined = refl; is = i } }
 
+-- where no token of the kind stands, it is lost there
 pub lost_one : (k : TokenKind) (ts : List Token) → NotFirst k ts → Lost (One k) ts ts
 lost_one k ts h = record {
   front = [];
   joined = refl;
-  never = λ more own behind said st e p. not_first k more behind (starts_not k ts more st h) p.is (its_first own more behind said e p.joined);
+  never = λ more own behind said st e p. not_first k more behind (starts_not k ts more st h) p.is
+      (its_first own more behind said e p.joined);
 }
 
+-- a token of a kind is the only one
 pub firm_one : (k : TokenKind) → Firm (One k)
 firm_one k a b r more q x y p st o e =
     let h = same_token a b more q x y p.joined o.joined e in
     record { tokens = (let i = p.joined in let j = o.joined in let l = head_same h in cc); said = head_same h; rest = tail_same h }
 
+-- a functionality is the only one
 pub firm_declared : Firm Declared
 firm_declared a b r more q x y p st o e =
     let h = same_token a b more q p.token o.token p.joined o.joined e in
@@ -53,20 +57,26 @@ firm_declared a b r more q x y p st o e =
     same_functionality (never_exits i) (exits j) e = absurd (apart i j e (λ e. cc))
     same_functionality (never_exits i) (never_exits j) e = refl
 
-pub found_declared : (ts rest : List Token) (n : Token) (x : Functionality) → ts ≡ n ∷ rest → Declares n x → Found Declared ts x rest
+pub found_declared : (ts rest : List Token) (n : Token) (x : Functionality) → ts ≡ n ∷ rest → Declares n x →
+    Found Declared ts x rest
 found_declared ts rest n x e d = record { front = n ∷ []; joined = e; whole = record { token = n; joined = refl; declares = d } }
 
-pub lost_declared : (ts rest : List Token) → NotFirst (Reserved w.ExitWord) ts → Lost (One (Reserved w.NoexitWord)) ts rest → Lost Declared ts rest
+-- no `exit` stands here, and `noexit` is lost there
+pub lost_declared : (ts rest : List Token) → NotFirst (Reserved w.ExitWord) ts → Lost (One (Reserved w.NoexitWord)) ts rest →
+    Lost Declared ts rest
 lost_declared ts rest h l = record {
   front = l.front;
   joined = l.joined;
   never = λ more own behind said st e p.
-      let alike : Starts ts (l.front ++ more) = subst (λ m. Starts m (l.front ++ more)) (sym l.joined) (starts_behind l.front rest more st) in
+      let alike : Starts ts (l.front ++ more) = subst (λ m. Starts m (l.front ++ more)) (sym l.joined)
+      (starts_behind l.front rest more st) in
       neither p.declares (not_first _ (l.front ++ more) behind (starts_not _ ts (l.front ++ more) alike h))
-      (λ i. l.never more own behind p.token st e (record { joined = p.joined; is = i })) (its_first own (l.front ++ more) behind p.token e p.joined);
+      (λ i. l.never more own behind p.token st e (record { joined = p.joined; is = i }))
+      (its_first own (l.front ++ more) behind p.token e p.joined);
 }
   where
-    neither : {n : Token} {x : Functionality} {E : Type 0} → Declares n x → (Is n (Reserved w.ExitWord) → E → ⊥) → (Is n (Reserved w.NoexitWord) → ⊥) → E → ⊥
+    neither : {n : Token} {x : Functionality} {E : Type 0} → Declares n x → (Is n (Reserved w.ExitWord) → E → ⊥) →
+        (Is n (Reserved w.NoexitWord) → ⊥) → E → ⊥
     neither (exits i) h g e = h i e
     neither (never_exits i) h g e = g i
 
@@ -80,28 +90,38 @@ firm_nothing a b r more q x y p st o e = record {
 pub found_nothing : Found Nothing [] tt []
 found_nothing = record { front = []; joined = refl; whole = record { empty = refl; last = refl } }
 
+-- where a token stands, the end is lost
 pub lost_nothing : (n : Token) (ts : List Token) → Lost Nothing (n ∷ ts) (n ∷ ts)
 lost_nothing n ts = record {
   front = [];
   joined = refl;
-  never = λ more own behind said st e p. let i = st.1 in let j = p.empty in let k = p.last in let l : more ≡ [] = e ∙ ap (λ l. l ++ behind) j ∙ k in cc;
+  never = λ more own behind said st e p. let i = st.1 in let j = p.empty in let k = p.last in let l : more ≡ [] = e ∙ ap
+      (λ l. l ++ behind) j ∙ k in cc;
 }
 
 -- a part behind a token
 
 module _ {A : Type 0} (k : TokenKind) (P : Part A) where
-  pub found_behind : (ts between rest : List Token) (n : Token) (x : A) → ts ≡ n ∷ between → Is n k → Found P between x rest → Found (Behind k P) ts x rest
-  found_behind ts between rest n x e i f = found_then (λ token said. said) (One k) P ts between rest n x x (found_one k ts between n e i) f refl
+  -- the token, and behind it the part
+  pub found_behind : (ts between rest : List Token) (n : Token) (x : A) → ts ≡ n ∷ between → Is n k → Found P between x rest →
+      Found (Behind k P) ts x rest
+  found_behind ts between rest n x e i f = found_then (λ token said. said) (One k) P ts between rest n x x
+      (found_one k ts between n e i) f refl
 
+  -- the token is lost, and so is the part behind it
   pub lost_before : (ts rest : List Token) → Lost (One k) ts rest → Lost (Behind k P) ts rest
   lost_before ts rest l = lost_first (λ token said. said) (One k) P ts rest l
 
-  pub lost_behind : (ts between rest : List Token) (n : Token) → ts ≡ n ∷ between → Is n k → Lost P between rest → Lost (Behind k P) ts rest
-  lost_behind ts between rest n e i l = lost_second (λ token said. said) (One k) P (firm_one k) ts between rest n (found_one k ts between n e i) l
+  -- the token is found, and the part behind it is lost
+  pub lost_behind : (ts between rest : List Token) (n : Token) → ts ≡ n ∷ between → Is n k → Lost P between rest →
+      Lost (Behind k P) ts rest
+  lost_behind ts between rest n e i l = lost_second (λ token said. said) (One k) P (firm_one k) ts between rest n
+      (found_one k ts between n e i) l
 
   pub firm_behind : Firm P → Firm (Behind k P)
   firm_behind firm = firm_then (λ token said. said) (One k) P (firm_one k) firm
 
+  -- the part behind a token, put together
   pub behind : (n : Token) (own rest : List Token) (x : A) → Is n k → P own x rest → Behind k P (n ∷ own) x rest
   behind n own rest x i p = record {
     front = n ∷ [];
@@ -134,12 +154,18 @@ module _ {A : Type 0} (k : TokenKind) (P : Part A) where
 -- a part before a token
 
 module _ {A : Type 0} (P : Part A) (k : TokenKind) where
-  pub found_before : (ts between rest : List Token) (n : Token) (x : A) → Found P ts x between → between ≡ n ∷ rest → Is n k → Found (Before P k) ts x rest
-  found_before ts between rest n x f e i = found_then (λ said token. said) P (One k) ts between rest x n x f (found_one k between rest n e i) refl
+  -- the part, and behind it the token
+  pub found_before : (ts between rest : List Token) (n : Token) (x : A) → Found P ts x between → between ≡ n ∷ rest → Is n k →
+      Found (Before P k) ts x rest
+  found_before ts between rest n x f e i = found_then (λ said token. said) P (One k) ts between rest x n x f
+      (found_one k between rest n e i) refl
 
-  pub lost_unclosed : Firm P → (ts between rest : List Token) (x : A) → Found P ts x between → Lost (One k) between rest → Lost (Before P k) ts rest
+  -- the part is found, and the token behind it is lost
+  pub lost_unclosed : Firm P → (ts between rest : List Token) (x : A) → Found P ts x between → Lost (One k) between rest →
+      Lost (Before P k) ts rest
   lost_unclosed firm ts between rest x f l = lost_second (λ said token. said) P (One k) firm ts between rest x f l
 
+  -- the part is lost before the token
   pub lost_within : (ts rest : List Token) → Lost P ts rest → Lost (Before P k) ts rest
   lost_within ts rest l = lost_first (λ said token. said) P (One k) ts rest l
 
@@ -147,9 +173,11 @@ module _ {A : Type 0} (P : Part A) (k : TokenKind) where
   firm_before firm = firm_then (λ said token. said) P (One k) firm (firm_one k)
 
 module _ (text : List ℕ) where
-  pub found_name : (ts rest : List Token) (n : Token) (x : Placed) → ts ≡ n ∷ rest → Is n Identifier → x ≡ placed text n → Found (Name text) ts x rest
+  pub found_name : (ts rest : List Token) (n : Token) (x : Placed) → ts ≡ n ∷ rest → Is n Identifier → x ≡ placed text n →
+      Found (Name text) ts x rest
   found_name ts rest n x e i h = record { front = n ∷ []; joined = e; whole = record { token = n; joined = refl; is = i; same = h } }
 
+  -- where the identifier is lost, so is the name
   pub lost_name : (ts rest : List Token) → Lost (One Identifier) ts rest → Lost (Name text) ts rest
   lost_name ts rest l = record {
     front = l.front;
@@ -166,6 +194,7 @@ module _ (text : List ℕ) where
         rest = tail_same h;
       }
 
+  -- one token is one action
   pub same_act : {n m : Token} {a b : Action} → Acts text n a → Acts text m b → n ≡ m → a ≡ b
   same_act (gate i) (gate j) e = ap (λ n. Gate (placed text n)) e
   same_act (gate i) (internal j) e = absurd (apart i j e (λ e. cc))

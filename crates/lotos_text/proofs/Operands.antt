@@ -40,7 +40,9 @@ module _ (text : List ℕ) where
     pub spells : Spells text prefixing o body after
     pub rest : semicolon ∷ body ++ behind ≡ ts
 
-  pub taken_stop : {n : Token} {o : Bool} {own : List Token} {x : Tree} (behind ts : List Token) → Is n (Reserved w.StopWord) → Spells text prefixing o own x → own ++ behind ≡ n ∷ ts → Leaf n t.stop o own x
+  -- what begins with `stop` is that word
+  pub taken_stop : {n : Token} {o : Bool} {own : List Token} {x : Tree} (behind ts : List Token) → Is n (Reserved w.StopWord) →
+      Spells text prefixing o own x → own ++ behind ≡ n ∷ ts → Leaf n t.stop o own x
   taken_stop behind ts i (stop j) e = record { tokens = ap (λ m. m ∷ []) (head_same e); shut = refl; tree = refl }
   taken_stop behind ts i (exit j) e = absurd (apart j i (head_same e) (λ e. cc))
   taken_stop behind ts i (brackets j d k) e = absurd (apart j i (head_same e) (λ e. cc))
@@ -49,7 +51,9 @@ module _ (text : List ℕ) where
   taken_stop behind ts i (tighter b d) e = elim b [ ]
   taken_stop behind ts i (operation b d j f) e = elim b [ ]
 
-  pub taken_exit : {n : Token} {o : Bool} {own : List Token} {x : Tree} (behind ts : List Token) → Is n (Reserved w.ExitWord) → Spells text prefixing o own x → own ++ behind ≡ n ∷ ts → Leaf n t.exit o own x
+  -- what begins with `exit` is that word
+  pub taken_exit : {n : Token} {o : Bool} {own : List Token} {x : Tree} (behind ts : List Token) → Is n (Reserved w.ExitWord) →
+      Spells text prefixing o own x → own ++ behind ≡ n ∷ ts → Leaf n t.exit o own x
   taken_exit behind ts i (stop j) e = absurd (apart j i (head_same e) (λ e. cc))
   taken_exit behind ts i (exit j) e = record { tokens = ap (λ m. m ∷ []) (head_same e); shut = refl; tree = refl }
   taken_exit behind ts i (brackets j d k) e = absurd (apart j i (head_same e) (λ e. cc))
@@ -58,7 +62,9 @@ module _ (text : List ℕ) where
   taken_exit behind ts i (tighter b d) e = elim b [ ]
   taken_exit behind ts i (operation b d j f) e = elim b [ ]
 
-  pub taken_brackets : {n : Token} {o : Bool} {own : List Token} {x : Tree} (behind ts : List Token) → Is n (Sign s.LeftParenthesis) → Spells text prefixing o own x → own ++ behind ≡ n ∷ ts →
+  -- what begins with a left parenthesis is in brackets
+  pub taken_brackets : {n : Token} {o : Bool} {own : List Token} {x : Tree} (behind ts : List Token) →
+      Is n (Sign s.LeftParenthesis) → Spells text prefixing o own x → own ++ behind ≡ n ∷ ts →
       Bracketed n o own x behind ts
   taken_brackets behind ts i (stop j) e = absurd (apart j i (head_same e) (λ e. cc))
   taken_brackets behind ts i (exit j) e = absurd (apart j i (head_same e) (λ e. cc))
@@ -77,7 +83,9 @@ module _ (text : List ℕ) where
   taken_brackets behind ts i (tighter b d) e = elim b [ ]
   taken_brackets behind ts i (operation b d j f) e = elim b [ ]
 
-  pub taken_prefix : {n : Token} {act : Action} {o : Bool} {own : List Token} {x : Tree} (behind ts : List Token) → Acts text n act → Spells text prefixing o own x → own ++ behind ≡ n ∷ ts →
+  -- what begins with an action is a prefix of it
+  pub taken_prefix : {n : Token} {act : Action} {o : Bool} {own : List Token} {x : Tree} (behind ts : List Token) →
+      Acts text n act → Spells text prefixing o own x → own ++ behind ≡ n ∷ ts →
       Prefixed n act o own x behind ts
   taken_prefix behind ts (gate i) (stop j) e = absurd (apart j i (head_same e) (λ e. cc))
   taken_prefix behind ts (internal i) (stop j) e = absurd (apart j i (head_same e) (λ e. cc))

@@ -24,13 +24,16 @@ lost_as P Q n ts others rest begins down l = record {
   front = l.front;
   joined = l.joined;
   never = λ more own behind said st e p.
-      let alike : Starts (n ∷ others) (l.front ++ more) = subst (λ m. Starts m (l.front ++ more)) (sym l.joined ∙ begins) (starts_behind l.front rest more st) in
+      let alike : Starts (n ∷ others) (l.front ++ more) = subst (λ m. Starts m (l.front ++ more)) (sym l.joined ∙ begins)
+      (starts_behind l.front rest more st) in
       let q = down own behind alike.0 said (sym e ∙ alike.1) p in
       l.never more own behind q.0 st e q.1;
 }
 
 module _ {A B C : Type 0} (together : A → B → C) (P : Part A) (Q : Part B) where
-  pub found_then : (ts between rest : List Token) (x : A) (y : B) (z : C) → Found P ts x between → Found Q between y rest → z ≡ together x y → Found (Then together P Q) ts z rest
+  -- both parts are found
+  pub found_then : (ts between rest : List Token) (x : A) (y : B) (z : C) → Found P ts x between → Found Q between y rest →
+      z ≡ together x y → Found (Then together P Q) ts z rest
   found_then ts between rest x y z f g e = record {
     front = f.front ++ g.front;
     joined = f.joined ∙ ap (λ m. f.front ++ m) g.joined ∙ sym (append_assoc f.front g.front rest);
@@ -46,15 +49,19 @@ module _ {A B C : Type 0} (together : A → B → C) (P : Part A) (Q : Part B) w
     };
   }
 
+  -- the first part is lost
   pub lost_first : (ts rest : List Token) → Lost P ts rest → Lost (Then together P Q) ts rest
   lost_first ts rest l = record {
     front = l.front;
     joined = l.joined;
     never = λ more own behind said st e t.
-        l.never more t.front (t.back ++ behind) t.one st (e ∙ ap (λ m. m ++ behind) t.joined ∙ append_assoc t.front t.back behind) t.first;
+        l.never more t.front (t.back ++ behind) t.one st
+        (e ∙ ap (λ m. m ++ behind) t.joined ∙ append_assoc t.front t.back behind) t.first;
   }
 
-  pub lost_second : Firm P → (ts between rest : List Token) (x : A) → Found P ts x between → Lost Q between rest → Lost (Then together P Q) ts rest
+  -- the first part is found, and the second is lost
+  pub lost_second : Firm P → (ts between rest : List Token) (x : A) → Found P ts x between → Lost Q between rest →
+      Lost (Then together P Q) ts rest
   lost_second firm ts between rest x f l = record {
     front = f.front ++ l.front;
     joined = f.joined ∙ ap (λ m. f.front ++ m) l.joined ∙ sym (append_assoc f.front l.front rest);
@@ -65,11 +72,14 @@ module _ {A B C : Type 0} (together : A → B → C) (P : Part A) (Q : Part B) w
         l.never more t.back behind t.other st one.rest t.second;
   }
 
+  -- where each part is the only one, so are both together
   pub firm_then : Firm P → Firm Q → Firm (Then together P Q)
   firm_then firm_p firm_q a b r more q x y t st u e =
       let e' : t.front ++ (t.back ++ more) ≡ u.front ++ (u.back ++ q) =
-      sym (append_assoc t.front t.back more) ∙ sym (ap (λ m. m ++ more) t.joined) ∙ e ∙ ap (λ m. m ++ q) u.joined ∙ append_assoc u.front u.back q in
-      let one = firm_p t.front u.front (t.back ++ r) (t.back ++ more) (u.back ++ q) t.one u.one t.first (starts_behind t.back r more st) u.first e' in
+      sym (append_assoc t.front t.back more) ∙ sym (ap (λ m. m ++ more) t.joined) ∙ e ∙ ap (λ m. m ++ q) u.joined
+      ∙ append_assoc u.front u.back q in
+      let one = firm_p t.front u.front (t.back ++ r) (t.back ++ more) (u.back ++ q) t.one u.one t.first
+      (starts_behind t.back r more st) u.first e' in
       let other = firm_q t.back u.back r more q t.other u.other t.second st u.second one.rest in
       record {
         tokens = (let i = t.joined in let j = u.joined in let k = one.tokens in let l = other.tokens in cc);
@@ -78,7 +88,8 @@ module _ {A B C : Type 0} (together : A → B → C) (P : Part A) (Q : Part B) w
       }
 
 -- a part between two tokens, as tokens in a row
-pub record Between {A : Type 0} (opens closes : TokenKind) (P : Part A) (own : List Token) (said : A) (behind : List Token) : Type 0 where
+pub record Between {A : Type 0} (opens closes : TokenKind) (P : Part A) (own : List Token) (said : A)
+    (behind : List Token) : Type 0 where
   pub left : Token
   pub inner : List Token
   pub right : Token
@@ -87,19 +98,25 @@ pub record Between {A : Type 0} (opens closes : TokenKind) (P : Part A) (own : L
   pub within : P inner said (right ∷ behind)
   pub ends : Is right closes
 
-pub between : {A : Type 0} (opens closes : TokenKind) (P : Part A) (own behind : List Token) (said : A) → Before (Behind opens P) closes own said behind → Between opens closes P own said behind
+-- the part between two tokens, taken apart
+pub between : {A : Type 0} (opens closes : TokenKind) (P : Part A) (own behind : List Token) (said : A) →
+    Before (Behind opens P) closes own said behind → Between opens closes P own said behind
 between opens closes P own behind said t = record {
   left = t.first.one;
   inner = t.first.back;
   right = t.other;
-  joined = t.joined ∙ ap (λ m. m ++ t.back) (t.first.joined ∙ ap (λ m. m ++ t.first.back) t.first.first.joined) ∙ ap (λ m. (t.first.one ∷ t.first.back) ++ m) t.second.joined;
+  joined = t.joined ∙ ap (λ m. m ++ t.back) (t.first.joined ∙ ap (λ m. m ++ t.first.back) t.first.first.joined) ∙ ap
+      (λ m. (t.first.one ∷ t.first.back) ++ m) t.second.joined;
   begins = t.first.first.is;
-  within = subst (λ x. P t.first.back x (t.other ∷ behind)) (sym (t.same ∙ t.first.same)) (subst (λ m. P t.first.back t.first.other (m ++ behind)) t.second.joined t.first.second);
+  within = subst (λ x. P t.first.back x (t.other ∷ behind)) (sym (t.same ∙ t.first.same))
+      (subst (λ m. P t.first.back t.first.other (m ++ behind)) t.second.joined t.first.second);
   ends = t.second.is;
 }
 
+-- the part between two tokens, put together
 pub as_between : {A : Type 0} (opens closes : TokenKind) (P : Part A) (left right : Token) (inner behind : List Token) (said : A) →
-    Is left opens → P inner said (right ∷ behind) → Is right closes → Before (Behind opens P) closes (left ∷ inner ++ right ∷ []) said behind
+    Is left opens → P inner said (right ∷ behind) → Is right closes → Before (Behind opens P) closes
+    (left ∷ inner ++ right ∷ []) said behind
 as_between opens closes P left right inner behind said i p j = record {
   front = left ∷ inner;
   back = right ∷ [];

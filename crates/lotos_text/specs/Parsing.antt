@@ -35,6 +35,11 @@ abbrev pub IsLost : {A : Type 0} → Part A → List Token → Stop → Type 0
 IsLost P ts (At rest) = Lost P ts rest.now
 IsLost P ts (Memory e) = Unit {0}
 
+-- the part is lost where the parser stopped, and no memory was wanted
+abbrev pub IsMissed : {A : Type 0} → Part A → List Token → Stop → Type 0
+IsMissed P ts (At rest) = Lost P ts rest.now
+IsMissed P ts (Memory e) = ⊥
+
 -- the list does not begin with a token of the kind
 abbrev pub NotFirst : TokenKind → List Token → Type 0
 NotFirst kind [] = Unit {0}

@@ -9,8 +9,12 @@ ghost use Rattle.lotos_text.specs.Grammar.{Is, Acts, choosing, prefixing, placed
 ghost use Rattle.lotos_text.specs.Cut.{Stands, AllStand};
 ghost use Rattle.lotos_text.specs.Spelled.{Spelled};
 ghost use Rattle.lotos_text.specs.Refused.{IsRefused, SpellsNothing};
+<<<<<<< HEAD
 ghost use Rattle.lotos_text.specs.Inside.{IsFaultInside, IsInside};
 ghost use Rattle.lotos_text.specs.Parsing.{NotFirst, Found, IsLost, stop_fault};
+=======
+ghost use Rattle.lotos_text.specs.Parsing.{NotFirst, Found, IsLost, IsMissed, stop_fault};
+>>>>>>> parser
 ghost use Rattle.lotos_text.specs.Parts.{One, NameList, Gates, Title, Returns, Header, Body, End, Whole, Expression};
 ghost use Rattle.lotos_text.specs.Opens as opens;
 ghost use Rattle.lotos_text.specs.declared.token.Token.{Token};
@@ -197,7 +201,7 @@ fn names<'a>(
 /// The colon and the functionality.
 fn functionality<'a>(tokens: &'a [Token]) -> Result<(Functionality, &'a [Token]), Stop<'a>>
     ensures found { IfOk result (λ p. Found Returns tokens.now p.0 p.1.now) }
-    ensures lost { IfErr result (IsLost Returns tokens.now) }
+    ensures lost { IfErr result (IsMissed Returns tokens.now) }
 {
     let (_, rest) = expect(tokens, TokenKind::Sign(Sign::Colon))?;
     if let Some((_, after)) = eat(rest, TokenKind::Reserved(Word::ExitWord)) {
@@ -224,7 +228,7 @@ fn body<'a>(
 /// The word `endspec`, behind which nothing stands.
 fn end<'a>(tokens: &'a [Token]) -> Result<(), Stop<'a>>
     ensures found { IfOk result (λ _. Found End tokens.now tt []) }
-    ensures lost { IfErr result (IsLost End tokens.now) }
+    ensures lost { IfErr result (IsMissed End tokens.now) }
 {
     let (_, rest) = expect(tokens, TokenKind::Reserved(Word::EndspecWord))?;
     if rest.is_empty() {
@@ -383,7 +387,7 @@ fn placed(alloc: Global, text: &[u8], token: Token) -> Result<Placed, AllocError
 /// The first token, which is of the kind, and the others.
 fn expect<'a>(tokens: &'a [Token], kind: TokenKind) -> Result<(Token, &'a [Token]), Stop<'a>>
     ensures found { IfOk result (λ p. (tokens.now ≡ p.0 ∷ p.1.now) × Is p.0 kind) }
-    ensures lost { IfErr result (IsLost (One kind) tokens.now) }
+    ensures lost { IfErr result (IsMissed (One kind) tokens.now) }
 {
     match eat(tokens, kind) {
         Some(found) => Ok(found),

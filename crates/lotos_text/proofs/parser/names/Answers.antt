@@ -5,12 +5,12 @@ use Rattle.lotos_text.specs.Parts.{One, NameList}
 use Rattle.lotos_text.specs.declared.tree.Placed.{Placed}
 use Rattle.lotos_text.specs.declared.token.TokenKind.TheVariants.{Identifier}
 use Rattle.lotos_text.proofs.NameLists.{found_last, found_more, lost_here, lost_more}
-use Rattle.lotos_text.proofs.Stops.{passed_on}
+use Rattle.lotos_text.proofs.Stops.{missed_on}
 use Rattle.lotos_text.proofs.parser.names.Goals as goal
 
 pub returns-in_err-first-clause-lost : goal.returns-in_err-first-clause-lost
 returns-in_err-first-clause-lost c =
-    passed_on (One Identifier) (NameList c.args.text.now) c.loop-found.rest.now c.args.tokens.now
+    missed_on (One Identifier) (NameList c.args.text.now) c.loop-found.rest.now c.args.tokens.now
     (λ at l. c.loop-found.invariant.loses at (lost_here c.args.text.now c.loop-found.rest.now at l))
     c.from_residual.result c.in_err-first.field-0.0 c.from_residual.ensures.1 c.in_err-first.ensures.lost
 
@@ -31,13 +31,16 @@ loop-found-preserved c =
       stand = search rules;
       finds = λ names behind f.
           let e : c.push.new.self.items ++ names ≡ c.loop-found.found.items ++ (name ∷ names) =
-          ap (λ l. l ++ names) (c.in_ok-push.ensures.items ∙ ap (λ (p : Placed). c.loop-found.found.items ++ p ∷ []) c.in_ok-name.ensures)
+          ap (λ l. l ++ names) (c.in_ok-push.ensures.items ∙ ap (λ (p : Placed). c.loop-found.found.items ++ p ∷ [])
+          c.in_ok-name.ensures)
           ∙ append_assoc c.loop-found.found.items (name ∷ []) names in
           subst (λ l. Found (NameList c.args.text.now) c.args.tokens.now l behind) (sym e)
           (c.loop-found.invariant.finds (name ∷ names) behind
-          (found_more c.args.text.now c.loop-found.rest.now c.in_ok-first.behind.now c.in-Some.after.now behind c.in_ok-first.first c.in-Some.field-0-0 names
+          (found_more c.args.text.now c.loop-found.rest.now c.in_ok-first.behind.now c.in-Some.after.now behind
+          c.in_ok-first.first c.in-Some.field-0-0 names
           c.in_ok-first.ensures.found.0 c.in_ok-first.ensures.found.1 c.in-Some.ensures.some.0 c.in-Some.ensures.some.1 f));
       loses = λ at l. c.loop-found.invariant.loses at
-          (lost_more c.args.text.now c.loop-found.rest.now c.in_ok-first.behind.now c.in-Some.after.now at c.in_ok-first.first c.in-Some.field-0-0
+          (lost_more c.args.text.now c.loop-found.rest.now c.in_ok-first.behind.now c.in-Some.after.now at c.in_ok-first.first
+          c.in-Some.field-0-0
           c.in_ok-first.ensures.found.0 c.in-Some.ensures.some.0 c.in-Some.ensures.some.1 l);
     }

@@ -13,6 +13,7 @@ decreases-loop-found l = length l.rest
 abbrev pub invariant-loop-found : goal.invariant-loop-found
 invariant-loop-found l = record {
   stand : AllStand l.text l.rest;
-  finds : (names : List Placed) (behind : List Token) → Found (NameList l.text) l.rest names behind → Found (NameList l.text) l.fn.tokens (l.found.items ++ names) behind;
+  finds : (names : List Placed) (behind : List Token) → Found (NameList l.text) l.rest names behind →
+      Found (NameList l.text) l.fn.tokens (l.found.items ++ names) behind;
   loses : (at : List Token) → Lost (NameList l.text) l.rest at → Lost (NameList l.text) l.fn.tokens at;
 }

@@ -7,25 +7,33 @@ use Rattle.lotos_text.proofs.Insides.{fault_inside, stuck_fault_inside, spelled_
 use Rattle.lotos_text.proofs.parser.parse.Goals as goal
 
 pub returns-in_err-cut-clause-nothing : goal.returns-in_err-cut-clause-nothing
-returns-in_err-cut-clause-nothing c = let h = stuck_spells_nothing c.args.text.now c.in_err-cut.field-0.0 c.in_err-cut.ensures.stuck in search rules
+returns-in_err-cut-clause-nothing c = let h = stuck_spells_nothing c.args.text.now c.in_err-cut.field-0.0
+    c.in_err-cut.ensures.stuck in search rules
 
 pub returns-in-Ok-clause-spelled : goal.returns-in-Ok-clause-spelled
 returns-in-Ok-clause-spelled c =
-    found_spelled c.args.text.now c.in_ok-cut.cut.items c.in_ok-cut.ensures.short c.in_ok-cut.ensures.cut (definition_of c.in-Ok.whole)
-    (subst (λ ts. Found (Whole c.args.text.now) ts (definition_of c.in-Ok.whole) []) c.as_slice.ensures.value c.in-Ok.ensures.found)
+    found_spelled c.args.text.now c.in_ok-cut.cut.items c.in_ok-cut.ensures.short c.in_ok-cut.ensures.cut
+    (definition_of c.in-Ok.whole)
+    (subst (λ ts. Found (Whole c.args.text.now) ts (definition_of c.in-Ok.whole) []) c.as_slice.ensures.value
+    c.in-Ok.ensures.found)
 
 pub returns-in-Ok-clause-only : goal.returns-in-Ok-clause-only
 returns-in-Ok-clause-only c other s =
-    found_only c.args.text.now c.in_ok-cut.cut.items c.in_ok-cut.ensures.short c.in_ok-cut.ensures.cut (definition_of c.in-Ok.whole) other
-    (subst (λ ts. Found (Whole c.args.text.now) ts (definition_of c.in-Ok.whole) []) c.as_slice.ensures.value c.in-Ok.ensures.found) s
+    found_only c.args.text.now c.in_ok-cut.cut.items c.in_ok-cut.ensures.short c.in_ok-cut.ensures.cut
+    (definition_of c.in-Ok.whole) other
+    (subst (λ ts. Found (Whole c.args.text.now) ts (definition_of c.in-Ok.whole) []) c.as_slice.ensures.value
+    c.in-Ok.ensures.found) s
 
 pub returns-clause-refused : goal.returns-clause-refused
 returns-clause-refused c =
-    lost_refused c.args.text.now c.in_ok-cut.cut.items c.in_ok-cut.ensures.short c.in_ok-cut.ensures.cut c.in-Err.stop c.fault_of.result
-    (subst (λ ts. IsLost (Whole c.args.text.now) ts c.in-Err.stop) c.as_slice.ensures.value c.in-Err.ensures.lost) c.fault_of.ensures
+    lost_refused c.args.text.now c.in_ok-cut.cut.items c.in_ok-cut.ensures.short c.in_ok-cut.ensures.cut c.in-Err.stop
+    c.fault_of.result
+    (subst (λ ts. IsLost (Whole c.args.text.now) ts c.in-Err.stop) c.as_slice.ensures.value c.in-Err.ensures.lost)
+    c.fault_of.ensures
 
 pub returns-clause-nothing : goal.returns-clause-nothing
 returns-clause-nothing c =
+<<<<<<< HEAD
     lost_spells_nothing c.args.text.now c.in_ok-cut.cut.items c.in_ok-cut.ensures.short c.in_ok-cut.ensures.cut c.in-Err.stop c.fault_of.result
     (subst (λ ts. IsLost (Whole c.args.text.now) ts c.in-Err.stop) c.as_slice.ensures.value c.in-Err.ensures.lost) c.fault_of.ensures
 
@@ -37,3 +45,9 @@ returns-in-Ok-clause-tree_inside c = spelled_inside c.args.text.now (definition_
 
 pub returns-clause-fault_inside : goal.returns-clause-fault_inside
 returns-clause-fault_inside c = fault_inside c.args.text.now c.fault_of.result (returns-clause-refused c)
+=======
+    lost_spells_nothing c.args.text.now c.in_ok-cut.cut.items c.in_ok-cut.ensures.short c.in_ok-cut.ensures.cut c.in-Err.stop
+    c.fault_of.result
+    (subst (λ ts. IsLost (Whole c.args.text.now) ts c.in-Err.stop) c.as_slice.ensures.value c.in-Err.ensures.lost)
+    c.fault_of.ensures
+>>>>>>> parser

@@ -1,12 +1,13 @@
 use Rattle.lotos_text.specs.Parts.{Header, Body, End, Whole, defined}
-use Rattle.lotos_text.proofs.Stops.{passed_on}
+use Rattle.lotos_text.proofs.Stops.{missed_on, passed_on}
 use Rattle.lotos_text.proofs.Views.{seen_alone}
 use Rattle.lotos_text.proofs.Wholes.{found_whole, lost_header, lost_behaviour, lost_last}
 use Rattle.lotos_text.proofs.parser.specification.Goals as goal
 
 pub returns-in_err-heading-clause-lost : goal.returns-in_err-heading-clause-lost
 returns-in_err-heading-clause-lost c =
-    passed_on (Header c.args.text.now) (Whole c.args.text.now) c.args.tokens.now c.args.tokens.now (λ at. lost_header c.args.text.now c.args.tokens.now at)
+    passed_on (Header c.args.text.now) (Whole c.args.text.now) c.args.tokens.now c.args.tokens.now
+    (λ at. lost_header c.args.text.now c.args.tokens.now at)
     c.from_residual.result c.in_err-heading.field-0.0 c.from_residual.ensures.1 c.in_err-heading.ensures.lost
 
 pub returns-in_err-body-clause-lost : goal.returns-in_err-body-clause-lost
@@ -17,8 +18,9 @@ returns-in_err-body-clause-lost c =
 
 pub returns-in_err-end-clause-lost : goal.returns-in_err-end-clause-lost
 returns-in_err-end-clause-lost c =
-    passed_on End (Whole c.args.text.now) c.in_ok-body.rest.now c.args.tokens.now
-    (λ at. lost_last c.args.text.now c.args.tokens.now c.in_ok-heading.rest.now c.in_ok-body.rest.now at _ _ c.in_ok-heading.ensures.found c.in_ok-body.ensures.found)
+    missed_on End (Whole c.args.text.now) c.in_ok-body.rest.now c.args.tokens.now
+    (λ at. lost_last c.args.text.now c.args.tokens.now c.in_ok-heading.rest.now c.in_ok-body.rest.now at _ _
+    c.in_ok-heading.ensures.found c.in_ok-body.ensures.found)
     c.from_residual-in_err-end.result c.in_err-end.field-0.0 c.from_residual-in_err-end.ensures.1 c.in_err-end.ensures.lost
 
 pub returns-clause-found : goal.returns-clause-found
