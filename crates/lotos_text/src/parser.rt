@@ -9,12 +9,8 @@ ghost use Rattle.lotos_text.specs.Grammar.{Is, Acts, choosing, prefixing, placed
 ghost use Rattle.lotos_text.specs.Cut.{Stands, AllStand};
 ghost use Rattle.lotos_text.specs.Spelled.{Spelled};
 ghost use Rattle.lotos_text.specs.Refused.{IsRefused, SpellsNothing};
-<<<<<<< HEAD
 ghost use Rattle.lotos_text.specs.Inside.{IsFaultInside, IsInside};
-ghost use Rattle.lotos_text.specs.Parsing.{NotFirst, Found, IsLost, stop_fault};
-=======
 ghost use Rattle.lotos_text.specs.Parsing.{NotFirst, Found, IsLost, IsMissed, stop_fault};
->>>>>>> parser
 ghost use Rattle.lotos_text.specs.Parts.{One, NameList, Gates, Title, Returns, Header, Body, End, Whole, Expression};
 ghost use Rattle.lotos_text.specs.Opens as opens;
 ghost use Rattle.lotos_text.specs.declared.token.Token.{Token};

@@ -33,7 +33,6 @@ returns-clause-refused c =
 
 pub returns-clause-nothing : goal.returns-clause-nothing
 returns-clause-nothing c =
-<<<<<<< HEAD
     lost_spells_nothing c.args.text.now c.in_ok-cut.cut.items c.in_ok-cut.ensures.short c.in_ok-cut.ensures.cut c.in-Err.stop c.fault_of.result
     (subst (λ ts. IsLost (Whole c.args.text.now) ts c.in-Err.stop) c.as_slice.ensures.value c.in-Err.ensures.lost) c.fault_of.ensures
 
@@ -45,9 +44,3 @@ returns-in-Ok-clause-tree_inside c = spelled_inside c.args.text.now (definition_
 
 pub returns-clause-fault_inside : goal.returns-clause-fault_inside
 returns-clause-fault_inside c = fault_inside c.args.text.now c.fault_of.result (returns-clause-refused c)
-=======
-    lost_spells_nothing c.args.text.now c.in_ok-cut.cut.items c.in_ok-cut.ensures.short c.in_ok-cut.ensures.cut c.in-Err.stop
-    c.fault_of.result
-    (subst (λ ts. IsLost (Whole c.args.text.now) ts c.in-Err.stop) c.as_slice.ensures.value c.in-Err.ensures.lost)
-    c.fault_of.ensures
->>>>>>> parser
