@@ -5,7 +5,7 @@ use Rattle.lotos_text.specs.Tree.{Tree}
 use Rattle.lotos_text.specs.Grammar.{Is, Acts, gate, internal, Level, hiding, choosing, prefixing, below_hiding, below_enabling, below_disabling, below_parallel, below_choosing, Operator, Operates, choice_sign, Spells, stop, exit, brackets, prefix, tighter, operation}
 use Rattle.lotos_text.specs.Follow.{kind_rank, rank, bound}
 use Rattle.lotos_text.specs.Opens.{opening}
-use Rattle.lotos_text.specs.Parsing.{Part, NotFirst, Found, Lost, Starts}
+use Rattle.lotos_text.specs.Parsing.{Part, NotFirst, Found, Lost}
 use Rattle.lotos_text.specs.Parts.{Then, One, Behind, Before, Expression, Act}
 use Rattle.lotos_text.specs.declared.parser.Opening.TheVariants as o
 use Rattle.lotos_text.specs.declared.token.Sign.{Sign as SignKind}
@@ -15,11 +15,11 @@ use Rattle.lotos_text.specs.declared.token.TokenKind.{TokenKind}
 use Rattle.lotos_text.specs.declared.token.TokenKind.TheVariants.{Identifier, Reserved, Sign}
 use Rattle.lotos_text.specs.declared.token.Word.TheVariants as w
 use Rattle.lotos_text.specs.declared.tree.Action.{Action}
-use Rattle.lotos_text.proofs.FirstToken.{head_same, tail_same, not_first, starts_rank}
-use Rattle.lotos_text.proofs.Levels.{bound_below, rank_none, rank_is, operator_rank, Levelled, alone, operated, taken_level}
+use Rattle.lotos_text.proofs.FirstToken.{head_same, tail_same, starts_rank}
+use Rattle.lotos_text.proofs.Levels.{bound_below, rank_none, rank_is, Levelled, alone, operated, taken_level}
 use Rattle.lotos_text.proofs.OneToken.{found_act, firm_act, found_behind, lost_behind, firm_behind, found_before, lost_unclosed, lost_within, firm_before}
 use Rattle.lotos_text.proofs.Operands.{taken_brackets, taken_prefix}
-use Rattle.lotos_text.proofs.Sequence.{Firm, Same, lost_as, between, as_between, found_then, lost_first, lost_second}
+use Rattle.lotos_text.proofs.Sequence.{Firm, lost_as, between, as_between, found_then, lost_first, lost_second}
 use Rattle.lotos_text.proofs.Unique.{unique, join_assoc}
 
 -- what does not begin with an operator has no rank

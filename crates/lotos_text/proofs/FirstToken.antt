@@ -1,7 +1,7 @@
 -- The first token of a list, and of lists that start alike.
 use Rattle.std.proofs.Common.{◌≡◌, List, [], ◌∷◌, ◌++◌, refl, sym, ◌∙◌, ap}
 use Rattle.lotos_text.specs.Grammar.{Is}
-use Rattle.lotos_text.specs.Follow.{rank, kind_rank}
+use Rattle.lotos_text.specs.Follow.{rank}
 use Rattle.lotos_text.specs.Parsing.{NotFirst, Starts}
 use Rattle.lotos_text.specs.declared.token.Token.{Token}
 use Rattle.lotos_text.specs.declared.token.TokenKind.{TokenKind}

@@ -1,7 +1,7 @@
 -- Spellings of a looser level: one of the next tighter level, or an operation; and how the levels rank.
-use Rattle.std.proofs.Common.{◌≡◌, ℕ, ◌<◌, ◌≤◌, Bool, true, false, List, [], ◌∷◌, ◌++◌, refl, sym, ap, arith, subst}
+use Rattle.std.proofs.Common.{◌≡◌, ℕ, ◌<◌, ◌≤◌, Bool, true, false, List, [], ◌∷◌, ◌++◌, refl, ap, arith, subst}
 use Rattle.lotos_text.specs.Tree.{Tree}
-use Rattle.lotos_text.specs.Grammar.{Is, Level, hiding, enabling, disabling, parallel, choosing, prefixing, Below, below_hiding, below_enabling, below_disabling, below_parallel, below_choosing, Operator, chooses, join, Operates, choice_sign, Spells, stop, exit, brackets, prefix, tighter, operation}
+use Rattle.lotos_text.specs.Grammar.{Is, Level, hiding, enabling, disabling, parallel, choosing, prefixing, Below, below_hiding, below_enabling, below_disabling, below_parallel, below_choosing, Operator, join, Operates, choice_sign, Spells, stop, exit, brackets, prefix, tighter, operation}
 use Rattle.lotos_text.specs.Follow.{kind_rank, rank, level_rank, bound}
 use Rattle.lotos_text.specs.declared.token.Token.{Token}
 use Rattle.lotos_text.specs.declared.token.TokenKind.{TokenKind}

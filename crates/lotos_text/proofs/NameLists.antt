@@ -1,16 +1,15 @@
 -- Lists of names: what the loop over names finds and loses, and that a list of names is the only one.
 use Rattle.std.proofs.Common.{◌≡◌, ℕ, List, [], ◌∷◌, ◌++◌, refl, sym, ◌∙◌, ap, append_assoc, subst}
 use Rattle.lotos_text.specs.Grammar.{Is, placed, Names, one_name, more_names, GateList, no_gates, gates}
-use Rattle.lotos_text.specs.Parsing.{Part, NotFirst, Found, Lost, Starts}
+use Rattle.lotos_text.specs.Parsing.{Part, NotFirst, Found, Lost}
 use Rattle.lotos_text.specs.Parts.{One, Behind, Before, NameList, Gates}
 use Rattle.lotos_text.specs.declared.token.Token.{Token}
-use Rattle.lotos_text.specs.declared.token.TokenKind.{TokenKind}
 use Rattle.lotos_text.specs.declared.token.TokenKind.TheVariants.{Identifier, Sign}
 use Rattle.lotos_text.specs.declared.token.Sign.TheVariants as s
 use Rattle.lotos_text.specs.declared.tree.Placed.{Placed}
-use Rattle.lotos_text.proofs.FirstToken.{head_same, tail_same, same_is, apart, not_first, is_first, starts_not}
+use Rattle.lotos_text.proofs.FirstToken.{head_same, tail_same, not_first, is_first, starts_not}
 use Rattle.lotos_text.proofs.OneToken.{found_behind, lost_behind, firm_behind, found_before, lost_unclosed, lost_within}
-use Rattle.lotos_text.proofs.Sequence.{Same, Firm, lost_as, Between, between, as_between}
+use Rattle.lotos_text.proofs.Sequence.{Same, Firm, lost_as, between, as_between}
 
 module _ (text : List ℕ) where
   -- a name with no comma behind it is a list

@@ -10,10 +10,9 @@ use Rattle.lotos_text.specs.declared.token.Word.TheVariants as w
 use Rattle.lotos_text.specs.declared.tree.Action.{Action}
 use Rattle.lotos_text.specs.declared.tree.Action.TheVariants.{Gate}
 use Rattle.lotos_text.specs.declared.tree.Functionality.{Functionality}
-use Rattle.lotos_text.specs.declared.tree.Functionality.TheVariants as f
 use Rattle.lotos_text.specs.declared.tree.Placed.{Placed}
 use Rattle.lotos_text.proofs.FirstToken.{head_same, tail_same, apart, not_first, starts_not, starts_behind}
-use Rattle.lotos_text.proofs.Sequence.{Same, Firm, found_then, firm_then, lost_first, lost_second}
+use Rattle.lotos_text.proofs.Sequence.{Firm, found_then, firm_then, lost_first, lost_second}
 
 -- two lists that each begin with a part of one token
 same_token : (a b r q : List Token) (n m : Token) → a ≡ n ∷ [] → b ≡ m ∷ [] → a ++ r ≡ b ++ q → n ∷ r ≡ m ∷ q

@@ -2,7 +2,7 @@
 use Rattle.std.proofs.Common.{◌≡◌, List, [], ◌∷◌, ◌++◌, refl, sym, ◌∙◌, ap, append_assoc, subst}
 use Rattle.lotos_text.specs.Grammar.{Is}
 use Rattle.lotos_text.specs.Parsing.{Part, Found, Starts, Lost}
-use Rattle.lotos_text.specs.Parts.{Then, One, Behind, Before}
+use Rattle.lotos_text.specs.Parts.{Then, Behind, Before}
 use Rattle.lotos_text.specs.declared.token.Token.{Token}
 use Rattle.lotos_text.specs.declared.token.TokenKind.{TokenKind}
 use Rattle.lotos_text.proofs.FirstToken.{starts_behind}

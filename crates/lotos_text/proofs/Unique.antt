@@ -1,5 +1,5 @@
 -- The spellings of one level that begin one list, where nothing goes on behind them, are one.
-use Rattle.std.proofs.Common.{◌≡◌, ℕ, ◌<◌, ◌≤◌, Bool, true, false, List, [], ◌∷◌, ◌++◌, refl, sym, ◌∙◌, ap, append_assoc, arith}
+use Rattle.std.proofs.Common.{◌≡◌, ℕ, ◌<◌, Bool, false, List, [], ◌∷◌, ◌++◌, sym, ◌∙◌, ap, append_assoc, arith}
 use Rattle.lotos_text.specs.Tree as t
 use Rattle.lotos_text.specs.Tree.{Tree}
 use Rattle.lotos_text.specs.Grammar.{Level, hiding, prefixing, Below, Operator, join, Operates, Spells, stop, exit, brackets, prefix, tighter, operation}
@@ -8,7 +8,7 @@ use Rattle.lotos_text.specs.declared.token.Token.{Token}
 use Rattle.lotos_text.specs.declared.tree.Action.{Action}
 use Rattle.lotos_text.proofs.FirstToken.{head_same, tail_same}
 use Rattle.lotos_text.proofs.Levels.{bound_below, bound_most, rank_none, rank_is, operator_rank, operator_below, unique_operator, Levelled, alone, operated, taken_level}
-use Rattle.lotos_text.proofs.Operands.{Leaf, Bracketed, Prefixed, taken_stop, taken_exit, taken_brackets, taken_prefix}
+use Rattle.lotos_text.proofs.Operands.{Prefixed, taken_stop, taken_exit, taken_brackets, taken_prefix}
 
 pub record SameSpelling (a b : List Token) (o p : Bool) (x y : Tree) (r q : List Token) : Type 0 where
   pub tokens : a ≡ b

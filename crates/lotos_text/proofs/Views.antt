@@ -1,7 +1,7 @@
 -- How the program's trees are seen.
 use Rattle.std.proofs.Common.{◌≡◌, [], ◌∙◌, refl}
 use Rattle.lotos_text.specs.Tree.{Def, def, no_defs}
-use Rattle.lotos_text.specs.View.{tree_of, row_of, definition_of}
+use Rattle.lotos_text.specs.View.{tree_of, definition_of}
 use Rattle.lotos_text.specs.declared.tree.Definition.{Definition, fold-roll-Definition, roll-Definition}
 use Rattle.lotos_text.specs.declared.tree.Definition.TheOpen.{Definition-F}
 

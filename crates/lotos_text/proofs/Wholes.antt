@@ -1,14 +1,12 @@
 -- The parts of a whole specification: what is found and lost of it, and that they are what its tokens spell.
-use Rattle.std.proofs.Common.{◌≡◌, ℕ, Bool, List, [], ◌∷◌, ◌++◌, refl, sym, ◌∙◌, ap, append_assoc, subst}
-use Rattle.lotos_text.specs.Tree as t
+use Rattle.std.proofs.Common.{◌≡◌, ℕ, List, [], ◌∷◌, ◌++◌, refl, sym, ◌∙◌, ap, append_assoc, subst}
 use Rattle.lotos_text.specs.Tree.{Tree, Def}
-use Rattle.lotos_text.specs.Grammar.{Is, placed, GateList, Declares, Spells, hiding, choosing, Specifies, specification}
-use Rattle.lotos_text.specs.Parsing.{Part, Found, Lost, Starts}
-use Rattle.lotos_text.specs.Parts.{Then, One, Behind, Name, Gates, Declared, Expression, Nothing, Title, Returns, Heading, Header, Body, End, defined, Whole}
+use Rattle.lotos_text.specs.Grammar.{Is, placed, hiding, choosing, Specifies, specification}
+use Rattle.lotos_text.specs.Parsing.{Part, Found, Lost}
+use Rattle.lotos_text.specs.Parts.{Then, Name, Gates, Declared, Expression, Nothing, Title, Returns, Heading, Header, Body, End, defined, Whole}
 use Rattle.lotos_text.specs.declared.token.Token.{Token}
-use Rattle.lotos_text.specs.declared.token.TokenKind.TheVariants.{Identifier, Reserved, Sign}
+use Rattle.lotos_text.specs.declared.token.TokenKind.TheVariants.{Reserved}
 use Rattle.lotos_text.specs.declared.token.Word.TheVariants as w
-use Rattle.lotos_text.specs.declared.token.Sign.TheVariants as s
 use Rattle.lotos_text.specs.declared.tree.Functionality.{Functionality}
 use Rattle.lotos_text.specs.declared.tree.Placed.{Placed}
 use Rattle.lotos_text.proofs.Expressions.{firm_expression, found_loosened, lost_loosened}

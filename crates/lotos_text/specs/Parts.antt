@@ -2,7 +2,7 @@
 use Rattle.std.specs.Prelude.{◌≡◌, ◌<◌, ℕ, Bool, List, [], ◌∷◌, ◌++◌}
 use Rattle.lotos_text.specs.Tree as t
 use Rattle.lotos_text.specs.Tree.{Tree, Def}
-use Rattle.lotos_text.specs.Grammar.{Is, Acts, Declares, GateList, Level, hiding, prefixing, Names, Spells, placed}
+use Rattle.lotos_text.specs.Grammar.{Is, Acts, Declares, GateList, Level, hiding, Names, Spells, placed}
 use Rattle.lotos_text.specs.Follow.{bound, rank}
 use Rattle.lotos_text.specs.Parsing.{Part, NotFirst}
 use Rattle.lotos_text.specs.declared.token.Token.{Token}

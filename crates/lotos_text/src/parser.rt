@@ -13,7 +13,6 @@ ghost use Rattle.lotos_text.specs.Inside.{IsFaultInside, IsInside};
 ghost use Rattle.lotos_text.specs.Parsing.{NotFirst, Found, IsLost, IsMissed, stop_fault};
 ghost use Rattle.lotos_text.specs.Parts.{One, NameList, Gates, Title, Returns, Header, Body, End, Whole, Expression};
 ghost use Rattle.lotos_text.specs.Opens as opens;
-ghost use Rattle.lotos_text.specs.declared.token.Token.{Token};
 ghost use Rattle.lotos_text.specs.declared.token.TokenKind.TheVariants.{Identifier, Sign as of_sign};
 ghost use Rattle.lotos_text.specs.declared.token.Sign.TheVariants.{LeftParenthesis};
 ghost use Rattle.lotos_text.specs.declared.parser.Stop.TheVariants.{Memory};

@@ -1,4 +1,4 @@
-use Rattle.std.proofs.Common.{ℕ, List, ◌++◌, length}
+use Rattle.std.proofs.Common.{List, ◌++◌, length}
 use Rattle.lotos_text.specs.Cut.{AllStand}
 use Rattle.lotos_text.specs.Parsing.{Found, Lost}
 use Rattle.lotos_text.specs.Parts.{NameList}

@@ -1,4 +1,4 @@
-use Rattle.std.proofs.Common.{◌≡◌, rules, sym, subst, []}
+use Rattle.std.proofs.Common.{rules, subst, []}
 use Rattle.lotos_text.specs.Parsing.{Found, IsLost}
 use Rattle.lotos_text.specs.Parts.{Whole}
 use Rattle.lotos_text.specs.View.{definition_of}

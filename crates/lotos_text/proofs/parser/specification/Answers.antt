@@ -1,4 +1,4 @@
-use Rattle.lotos_text.specs.Parts.{Header, Body, End, Whole, defined}
+use Rattle.lotos_text.specs.Parts.{Header, Body, End, Whole}
 use Rattle.lotos_text.proofs.Stops.{missed_on, passed_on}
 use Rattle.lotos_text.proofs.Views.{seen_alone}
 use Rattle.lotos_text.proofs.Wholes.{found_whole, lost_header, lost_behaviour, lost_last}
