@@ -1,9 +1,9 @@
 -- What a text spells lies inside it.
-use Rattle.std.proofs.Common.{◌≡◌, ℕ, ◌+◌, ◌≤◌, List, [], ◌∷◌, ◌++◌, length, ap, arith, sym, length-append}
+use Rattle.std.proofs.Common.{◌≡◌, ℕ, ◌+◌, ◌≤◌, List, [], ◌∷◌, ◌++◌, length, arith, length-append}
 use Rattle.std.specs.List.{AllByRecursion}
 use Rattle.lotos_text.specs.Tree.{Tree, Def}
 use Rattle.lotos_text.specs.Cut.{Cuts, nothing, blank, word, mark, Sticks, spelled, Stands, AllStand}
-use Rattle.lotos_text.specs.Grammar.{placed, Names, one_name, more_names, GateList, no_gates, gates, Level, Acts, gate, internal, Operates, choice_sign, Spells, stop, exit, brackets, prefix, tighter, operation, Specifies, specification}
+use Rattle.lotos_text.specs.Grammar.{Names, one_name, more_names, GateList, no_gates, gates, Level, gate, internal, choice_sign, Spells, stop, exit, brackets, prefix, tighter, operation, Specifies, specification}
 use Rattle.lotos_text.specs.Inside.{IsFaultInside, IsTreeInside, IsInside}
 use Rattle.lotos_text.specs.Refused.{IsStuck, IsRefused}
 use Rattle.lotos_text.specs.Spelled.{Spelled}

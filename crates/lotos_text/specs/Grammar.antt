@@ -1,5 +1,5 @@
 -- What tokens spell: each rule joins the tokens of its parts.
-use Rattle.std.specs.Prelude.{◌≡◌, ℕ, Bool, true, false, List, [], ◌∷◌, ◌++◌, map, slice_range}
+use Rattle.std.specs.Prelude.{◌≡◌, ℕ, Bool, false, List, [], ◌∷◌, ◌++◌, map, slice_range}
 use Rattle.std.specs.Char.{to_ascii_uppercase}
 use Rattle.lotos_text.specs.Tree as t
 use Rattle.lotos_text.specs.Tree.{Tree, Def}

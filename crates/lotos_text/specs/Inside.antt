@@ -1,10 +1,9 @@
 -- Offsets that lie inside a text, or at its end.
-use Rattle.std.specs.Prelude.{ℕ, ◌≤◌, List, length}
+use Rattle.std.specs.Prelude.{ℕ, ◌≤◌}
 use Rattle.std.specs.List.{AllByRecursion}
 use Rattle.lotos_text.specs.Tree.{Tree, stop, exit, prefix, choice, Def, def, Defs, no_defs, more_defs}
 use Rattle.lotos_text.specs.declared.fault.TextFault.{TextFault}
 use Rattle.lotos_text.specs.declared.fault.TextFault.TheVariants.{E01, E03, E04, E06, E99}
-use Rattle.lotos_text.specs.declared.tree.Placed.{Placed}
 use Rattle.lotos_text.specs.declared.tree.Action.TheVariants.{Internal, Gate}
 
 -- the offset of the fault, if it has one
