@@ -1,5 +1,5 @@
 //! Readers and writers in memory, which move a few bytes a call, count their calls, and fail where they are told to.
-ghost use Rattle.std.specs.Prelude.{◌≤◌, Some};
+ghost use Rattle.std.specs.Prelude.{◌≡◌, ◌≤◌, Some, take};
 
 use crate::device::{FromRead, FromWrite};
 use crate::running::run;
@@ -108,12 +108,16 @@ impl ArrayWriter {
     }
 
     /// The bytes so far.
-    pub fn got(&self) -> &[u8] {
+    pub fn got(&self) -> &[u8]
+        ensures { result.now ≡ take self.now.len self.now.bytes }
+    {
         &self.bytes[..self.len]
     }
 }
 
 impl Write for ArrayWriter {
+    ghost contents = { λ s. Some (take s.len s.bytes) };
+
     fn write(&mut self, buf: &[u8]) -> io::Result<usize> {
         let len = self.len;
         let room = self.most.min(ROOM).saturating_sub(len);
