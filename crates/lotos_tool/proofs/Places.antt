@@ -1,8 +1,8 @@
 -- Places of faults.
-use Rattle.std.proofs.Common.{◌≡◌, ℕ, ◌⊎◌, inl, inr, List, Some, None, refl, sym, subst}
+use Rattle.std.proofs.Common.{◌≡◌, ℕ, ◌⊎◌, inl, inr, List, Some, refl, sym, subst}
 use Rattle.lotos_text.specs.Place.{IsPlace}
 use Rattle.lotos_text.specs.declared.fault.TextFault.{TextFault}
-use Rattle.lotos_text.specs.declared.fault.TextFault.TheVariants.{E01, E03, E04, E06, E99}
+use Rattle.lotos_text.specs.declared.fault.TextFault.TheVariants.{E01, E04, E06}
 use Rattle.lotos_tool.specs.Answers.{IsPlaceOf}
 
 pub place_known : (text : List ℕ) (fault : TextFault) (at : ℕ) (place : ℕ × ℕ) → (fault ≡ E01 at) ⊎ ((fault ≡ E04 at) ⊎ (fault ≡ E06 at)) →

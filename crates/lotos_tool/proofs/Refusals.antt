@@ -1,21 +1,20 @@
 -- Texts that are not accepted.
-use Rattle.std.proofs.Common.{◌≡◌, ℕ, ◌<◌, ◌≤◌, List, [], ◌∷◌, ◌++◌, length, Option, Result, Ok, Err, IfErr, true, false, refl, sym, subst, arith, ap, inl, inr}
+use Rattle.std.proofs.Common.{◌≡◌, ℕ, ◌≤◌, List, [], ◌∷◌, ◌++◌, Option, Result, Ok, Err, IfErr, false, subst, arith}
 use Rattle.std.specs.List.{AllByRecursion}
-use Rattle.lotos_text.specs.Tree.{Tree, Def, def, formals_of, body_of, name_of, prefix}
+use Rattle.lotos_text.specs.Tree.{Tree, Def, def}
 use Rattle.lotos_text.specs.Inside.{IsInside, IsTreeInside}
-use Rattle.lotos_text.specs.Place.{IsPlace}
-use Rattle.lotos_text.specs.Refused.{IsRefused, SpellsNothing}
+use Rattle.lotos_text.specs.Refused.{SpellsNothing}
 use Rattle.lotos_text.specs.Spelled.{Spelled}
 use Rattle.lotos_text.specs.declared.fault.TextFault.{TextFault}
 use Rattle.lotos_text.specs.declared.fault.TextFault.TheVariants.{E01, E03, E04, E06, E99}
 use Rattle.lotos_text.specs.declared.tree.Placed.{Placed}
 use Rattle.lotos_text.specs.declared.tree.Action.TheVariants.{Internal, Gate}
 use Rattle.lotos_tool.specs.Accepted.{Accepted}
-use Rattle.lotos_tool.specs.Answers.{IsTextRefusal, IsPlaceOf}
+use Rattle.lotos_tool.specs.Answers.{IsTextRefusal}
 use Rattle.lotos_tool.specs.Misuses.{IsBroken}
-use Rattle.lotos_tool.specs.Reading.{ReadsWhole, TakesAtMost}
-use Rattle.lotos_tool.specs.Rules.{Uses, at_head, in_body, on_left, on_right, IsE20, IsE21, IsE25, WellTyped, IsSecond}
-use Rattle.lotos_tool.specs.Searching.{IsTextFault, IsUnaccepted, IsUnread, IsStaticFault, is_memory_fault}
+use Rattle.lotos_tool.specs.Reading.{ReadsWhole}
+use Rattle.lotos_tool.specs.Rules.{Uses, at_head, in_body, on_left, on_right, WellTyped}
+use Rattle.lotos_tool.specs.Searching.{IsTextFault, IsUnaccepted, IsUnread, is_memory_fault}
 use Rattle.lotos_tool.specs.declared.interim_rules.StaticFault.{StaticFault}
 use Rattle.lotos_tool.specs.declared.interim_rules.StaticFault.TheVariants.{E20, E21, E25}
 use Rattle.lotos_tool.specs.declared.refusal.Refusal.TheVariants as refusal

@@ -1,5 +1,3 @@
-use Rattle.std.proofs.Common.{subst, List, ℕ}
-use Rattle.lotos_tool.specs.Searching.{IsUnaccepted}
 use Rattle.lotos_tool.proofs.Refusals.{unread_answer}
 use Rattle.lotos_tool.proofs.searching.read_specification.Goals as goal
 

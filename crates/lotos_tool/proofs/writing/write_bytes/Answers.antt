@@ -1,4 +1,4 @@
-use Rattle.std.proofs.Common.{◌≡◌, drop, arith, rules}
+use Rattle.std.proofs.Common.{arith, rules}
 use Rattle.std.proofs.lemmas.Grind.{common_steps}
 use Rattle.lotos_tool.proofs.Pieces.{got_more, got_part, on_error}
 use Rattle.lotos_tool.proofs.writing.write_bytes.Goals as goal
