@@ -1,4 +1,4 @@
--- The cut of a text into pieces, each judged where it stands: a blank, a word or a mark.
+-- The cut of a text into pieces, each judged where it stands: a blank, a comment, a word or a mark.
 use Rattle.std.specs.Prelude.{◌≡◌, ℕ, ◌+◌, ◌≤◌, Bool, false, ◌&&◌, ◌||◌, ◌==◌, nat_le, IsTrue, List, [], ◌∷◌, ◌++◌, length, map, codes, slice_range, if◌then◌else◌}
 use Rattle.std.specs.List.{AllByRecursion}
 use Rattle.std.specs.Char.{is_ascii_alphabetic, is_ascii_alphanumeric, to_ascii_lowercase}
@@ -78,24 +78,49 @@ spelled s.Bar = codes "|"
 abbrev pub Begins : List ℕ → List ℕ → Type 0
 Begins front text = (rest : List ℕ) × (text ≡ front ++ rest)
 
--- before the rest the mark is the longest that stands there
-abbrev pub IsLongest : Sign → List ℕ → Type 0
-IsLongest sign rest = (other : Sign) → Begins (spelled other) (spelled sign ++ rest) → length (spelled other) ≤ length (spelled sign)
+-- the two bytes that open a comment
+abbrev pub opening : List ℕ
+opening = codes "(*"
+
+-- the two bytes that close it
+abbrev pub closing : List ℕ
+closing = codes "*)"
+
+-- an opening, any bytes, and a closing behind them
+abbrev pub Closed : List ℕ → Type 0
+Closed piece = (body : List ℕ) × (piece ≡ opening ++ body ++ closing)
+
+-- a comment: closed, and with no shorter beginning that is
+pub record IsComment (piece : List ℕ) : Type 0 where
+  pub closed : Closed piece
+  pub first : (front rest : List ℕ) → piece ≡ front ++ rest → Closed front → rest ≡ []
+
+-- a comment opens here, and no beginning of the text closes it
+pub record Unclosed (text : List ℕ) : Type 0 where
+  pub opens : Begins opening text
+  pub never : (front : List ℕ) → Begins front text → Closed front → ⊥
+
+-- before the rest the mark is the longest that stands there, and no comment opens with it
+pub record IsMark (sign : Sign) (rest : List ℕ) : Type 0 where
+  pub longest : (other : Sign) → Begins (spelled other) (spelled sign ++ rest) → length (spelled other) ≤ length (spelled sign)
+  pub no_comment : Begins opening (spelled sign ++ rest) → ⊥
 
 -- the token of this kind, so many bytes long, at the offset
 abbrev pub token : ℕ → ℕ → TokenKind → Token
 token at len kind = record { at = at; end = at + len; kind = kind }
 
--- From the first offset to the second the text is cut into blanks and these tokens, and the rest follows.
+-- From the first offset to the second the text is cut into blanks, comments and these tokens, and the rest follows.
 pub data Cuts : ℕ → List ℕ → List Token → ℕ → List ℕ → Type 0 where
   nothing : {at : ℕ} {text : List ℕ} → Cuts at text [] at text
   blank : {at end b : ℕ} {text rest : List ℕ} {ts : List Token} →
       IsTrue (is_blank b) → Cuts (at + 1) text ts end rest → Cuts at (b ∷ text) ts end rest
+  comment : {at end : ℕ} (piece : List ℕ) {text rest : List ℕ} {ts : List Token} →
+      IsComment piece → Cuts (at + length piece) text ts end rest → Cuts at (piece ++ text) ts end rest
   word : {at end : ℕ} (found : List ℕ) {text rest : List ℕ} {ts : List Token} →
       IsWord found → EndsWord text → Cuts (at + length found) text ts end rest →
       Cuts at (found ++ text) (token at (length found) (word_kind found) ∷ ts) end rest
   mark : {at end : ℕ} (sign : Sign) {text rest : List ℕ} {ts : List Token} →
-      IsLongest sign text → Cuts (at + length (spelled sign)) text ts end rest →
+      IsMark sign text → Cuts (at + length (spelled sign)) text ts end rest →
       Cuts at (spelled sign ++ text) (token at (length (spelled sign)) (of_sign sign) ∷ ts) end rest
 
 -- the whole text is cut into these tokens
@@ -109,12 +134,24 @@ pub record BeginsNothing (b : ℕ) (rest : List ℕ) : Type 0 where
   pub no_mark : (sign : Sign) → Begins (spelled sign) (b ∷ rest) → ⊥
 
 -- the bytes before the offset are cut, and the byte there begins no piece
-pub record Sticks (text : List ℕ) (at : ℕ) : Type 0 where
+pub record SticksAtByte (text : List ℕ) (at : ℕ) : Type 0 where
   pub before : List Token
   pub byte : ℕ
   pub rest : List ℕ
   pub cut : Cuts 0 text before at (byte ∷ rest)
   pub strange : BeginsNothing byte rest
+
+-- the bytes before the offset are cut, and a comment opens there that is not closed
+pub record SticksAtComment (text : List ℕ) (at : ℕ) : Type 0 where
+  pub before : List Token
+  pub rest : List ℕ
+  pub cut : Cuts 0 text before at rest
+  pub unclosed : Unclosed rest
+
+-- the text sticks at the offset
+pub data Sticks (text : List ℕ) (at : ℕ) : Type 0 where
+  at_byte : SticksAtByte text at → Sticks text at
+  at_comment : SticksAtComment text at → Sticks text at
 
 -- the token's bytes stand in the text, and those of an identifier are a word
 pub record Stands (text : List ℕ) (t : Token) : Type 0 where

@@ -1,15 +1,23 @@
 -- Which tokens go on with the behaviour expression before them.
 use Rattle.std.specs.Prelude.{ℕ, Bool, true, false, List, [], ◌∷◌}
-use Rattle.lotos_text.specs.Grammar.{Level, hiding, enabling, disabling, parallel, choosing, prefixing}
+use Rattle.lotos_text.specs.Grammar.{Level, enabling, disabling, parallel, choosing, prefixing}
 use Rattle.lotos_text.specs.declared.token.Token.{Token}
 use Rattle.lotos_text.specs.declared.token.TokenKind.{TokenKind}
 use Rattle.lotos_text.specs.declared.token.TokenKind.TheVariants.{Identifier, Reserved, Sign as of_sign}
 use Rattle.lotos_text.specs.declared.token.Sign.{Sign}
 use Rattle.lotos_text.specs.declared.token.Sign.TheVariants as s
 
--- how tight the operator of a mark binds; 0 where the mark is no operator
+-- how tight a mark binds that goes on with what stands before it: the operators by their levels, and tightest what makes a
+-- name a call with gates or a prefix; 0 where the mark goes on with nothing
 abbrev pub sign_rank : Sign → ℕ
+sign_rank s.Enable = 1
+sign_rank s.Disable = 2
+sign_rank s.LeftSync = 3
+sign_rank s.Full = 3
+sign_rank s.Interleave = 3
 sign_rank s.Choice = 4
+sign_rank s.LeftBracket = 5
+sign_rank s.Semicolon = 5
 sign_rank _ = 0
 
 abbrev pub kind_rank : TokenKind → ℕ
@@ -24,14 +32,13 @@ rank (t ∷ ts) = kind_rank t.kind
 
 -- the rank of a level's operators
 abbrev pub level_rank : Level → ℕ
-level_rank hiding = 1
 level_rank enabling = 1
 level_rank disabling = 2
 level_rank parallel = 3
 level_rank choosing = 4
 level_rank prefixing = 5
 
--- A spelling is whole where what follows ranks below this. No operator goes on behind an open one.
+-- A spelling is whole where what follows ranks below this. Nothing goes on behind an open one.
 abbrev pub bound : Level → Bool → ℕ
 bound level true = 1
 bound level false = level_rank level

@@ -9,6 +9,7 @@ pub mod Refused
 pub mod Place
 pub mod Inside
 pub mod Follow
+pub mod Kinds
 pub mod Parsing
 pub mod Parts
 pub mod Opens

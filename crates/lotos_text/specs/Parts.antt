@@ -1,10 +1,10 @@
 -- The parts of a specification, in the order of their tokens.
 use Rattle.std.specs.Prelude.{◌≡◌, ◌<◌, ℕ, Bool, List, [], ◌∷◌, ◌++◌}
 use Rattle.lotos_text.specs.Tree as t
-use Rattle.lotos_text.specs.Tree.{Tree, Def}
-use Rattle.lotos_text.specs.Grammar.{Is, Acts, Declares, GateList, Level, hiding, Names, Spells, placed}
+use Rattle.lotos_text.specs.Tree.{Tree, Def, Defs}
+use Rattle.lotos_text.specs.Grammar.{Is, Acts, Declares, GateList, Level, enabling, Names, Operates, Operator, Spells, Defined, a_specification, opening_word, defining_sign, closing_word, Several, placed}
 use Rattle.lotos_text.specs.Follow.{bound, rank}
-use Rattle.lotos_text.specs.Parsing.{Part, NotFirst}
+use Rattle.lotos_text.specs.Parsing.{Part, Limit, Within, NotFirst}
 use Rattle.lotos_text.specs.declared.token.Token.{Token}
 use Rattle.lotos_text.specs.declared.token.TokenKind.{TokenKind}
 use Rattle.lotos_text.specs.declared.token.TokenKind.TheVariants.{Identifier, Reserved, Sign}
@@ -60,11 +60,24 @@ pub record Name (text : List ℕ) (own : List Token) (said : Placed) (behind : L
   pub is : Is token Identifier
   pub same : said ≡ placed text token
 
--- a behaviour expression of the level, behind which no operator goes on
-pub record Expression (text : List ℕ) (level : Level) (own : List Token) (said : Tree) (behind : List Token) : Type 0 where
+-- one operator of the level
+pub record Operation (text : List ℕ) (level : Level) (own : List Token) (said : Operator) (behind : List Token) : Type 0 where
+  pub operates : Operates text level own said
+
+-- what stands behind `|[` in an operator: names or none, then `]` and `|`
+pub data SyncList (text : List ℕ) : List Token → List Placed → List Token → Type 0 where
+  no_sync : {right bar : Token} {behind : List Token} → Is right (Sign s.RightBracket) → Is bar (Sign s.Bar) →
+      SyncList text (right ∷ bar ∷ []) [] behind
+  some_sync : {right bar : Token} {ts behind : List Token} {names : List Placed} → Names text ts names →
+      Is right (Sign s.RightBracket) → Is bar (Sign s.Bar) → SyncList text (ts ++ right ∷ bar ∷ []) names behind
+
+-- a behaviour expression of the level and of a nesting within the limit, behind which nothing goes on
+pub record Expression (text : List ℕ) (level : Level) (limit : Limit) (own : List Token) (said : Tree) (behind : List Token) : Type 0 where
   pub ends : Bool
-  pub spells : Spells text level ends own said
+  pub nesting : ℕ
+  pub spells : Spells text level ends nesting own said
   pub quits : rank behind < bound level ends
+  pub within : Within limit nesting
 
 -- one token that is an action
 pub record Act (text : List ℕ) (own : List Token) (said : Action) (behind : List Token) : Type 0 where
@@ -78,10 +91,6 @@ pub record Declared (own : List Token) (said : Functionality) (behind : List Tok
   pub joined : own ≡ token ∷ []
   pub declares : Declares token said
 
--- the word `specification` and the name
-abbrev pub Title : List ℕ → Part Placed
-Title text = Behind (Reserved w.SpecificationWord) (Name text)
-
 -- the colon and the functionality
 abbrev pub Returns : Part Functionality
 Returns = Behind (Sign s.Colon) Declared
@@ -90,22 +99,39 @@ Returns = Behind (Sign s.Colon) Declared
 abbrev pub Heading : Type 0
 Heading = Placed × List Placed × Functionality
 
--- all that stands before the word `behaviour`
+-- the name, the formal gates and the functionality
 abbrev pub Header : List ℕ → Part Heading
-Header text = Then (λ (named : Placed × List Placed) returns. (named.0, named.1, returns)) (Then (λ name formals. (name, formals)) (Title text) (Gates text)) Returns
+Header text = Then (λ (named : Placed × List Placed) returns. (named.0, named.1, returns)) (Then (λ name formals. (name, formals)) (Name text) (Gates text)) Returns
 
--- the word `behaviour` and the behaviour expression
-abbrev pub Body : List ℕ → Part Tree
-Body text = Behind (Reserved w.BehaviourWord) (Expression text hiding)
+-- what introduces the body, and the body
+abbrev pub Body : List ℕ → Defined → Limit → Part Tree
+Body text what limit = Behind (defining_sign what) (Expression text enabling limit)
 
--- the word `endspec`, with nothing behind it
-abbrev pub End : Part (Unit {0})
-End = Behind (Reserved w.EndspecWord) Nothing
+-- one or more definitions, behind which no other follows
+pub record Row (text : List ℕ) (limit : Limit) (own : List Token) (said : Defs) (behind : List Token) : Type 0 where
+  pub nesting : ℕ
+  pub several : Several text nesting own said
+  pub ends : NotFirst (Reserved w.ProcessWord) behind
+  pub within : Within limit nesting
 
--- the header and the body, as a definition
-abbrev pub defined : Heading → Tree → Def
-defined heading body = t.def heading.0 heading.1 heading.2 body t.no_defs
+-- nothing, where no `where` follows; or `where` and a row of definitions
+pub data Inner (text : List ℕ) (limit : Limit) : List Token → Defs → List Token → Type 0 where
+  no_inner : {behind : List Token} → NotFirst (Reserved w.WhereWord) behind → Inner text limit [] t.no_defs behind
+  some_inner : {word : Token} {own behind : List Token} {said : Defs} →
+      Is word (Reserved w.WhereWord) → Row text limit own said behind → Inner text limit (word ∷ own) said behind
 
--- the whole specification
-abbrev pub Whole : List ℕ → Part Def
-Whole text = Then (λ whole end. whole) (Then defined (Header text) (Body text)) End
+-- the header and the body, and the inner definitions
+abbrev pub defined : Heading × Tree → Defs → Def
+defined said inner = t.def said.0.0 said.0.1 said.0.2 said.1 inner
+
+-- what stands behind the first word of a definition, up to and with its last word
+abbrev pub Contents : List ℕ → Defined → Limit → Part Def
+Contents text what limit = Before (Then defined (Then (λ heading body. (heading, body)) (Header text) (Body text what limit)) (Inner text limit)) (closing_word what)
+
+-- a whole definition
+abbrev pub Definition : List ℕ → Defined → Limit → Part Def
+Definition text what limit = Behind (opening_word what) (Contents text what limit)
+
+-- the whole specification, with nothing behind it
+abbrev pub Whole : List ℕ → Limit → Part Def
+Whole text limit = Then (λ whole end. whole) (Definition text a_specification limit) Nothing

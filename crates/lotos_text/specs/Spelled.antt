@@ -5,9 +5,11 @@ use Rattle.lotos_text.specs.Cut.{Cut}
 use Rattle.lotos_text.specs.Grammar.{Specifies}
 use Rattle.lotos_text.specs.declared.token.Token.{Token}
 
--- the text is short enough, and is cut into tokens that spell the specification
+-- the text is short enough, and is cut into tokens that spell the specification with no more nesting than is allowed
 pub record Spelled (text : List ℕ) (whole : Def) : Type 0 where
   pub tokens : List Token
+  pub nesting : ℕ
   pub short : length text ≤ 1048576
   pub cut : Cut text tokens
-  pub spells : Specifies text tokens whole
+  pub spells : Specifies text nesting tokens whole
+  pub shallow : nesting ≤ 200

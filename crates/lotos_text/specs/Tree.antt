@@ -1,15 +1,25 @@
 -- The trees of specifications, without where they lie in memory.
-use Rattle.std.specs.Prelude.{List}
+use Rattle.std.specs.Prelude.{ℕ, List}
 use Rattle.lotos_text.specs.declared.tree.Placed.{Placed}
 use Rattle.lotos_text.specs.declared.tree.Action.{Action}
 use Rattle.lotos_text.specs.declared.tree.Functionality.{Functionality}
 
--- a behaviour expression
+-- the gates on which both sides of a parallel expression synchronize: those of a list, or all
+pub data Sync : Type 0 where
+  gates : List Placed → Sync
+  all : Sync
+
+-- a behaviour expression; the number of an enabling is the offset of its operator
 pub data Tree : Type 0 where
   stop : Tree
   exit : Tree
   prefix : Action → Tree → Tree
   choice : Tree → Tree → Tree
+  par : Tree → Sync → Tree → Tree
+  hide : List Placed → Tree → Tree
+  enable : Tree → ℕ → Tree → Tree
+  disable : Tree → Tree → Tree
+  call : Placed → List Placed → Tree
 
 -- a definition (its name, formal gates, declared functionality, body and the definitions of its `where`), and a row of them
 mutual

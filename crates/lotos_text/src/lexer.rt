@@ -1,6 +1,6 @@
 //! Cuts a text into tokens.
-ghost use Rattle.std.specs.Prelude.{◌≡◌, ◌<◌, ◌≤◌, length, IfOk, IfErr};
-ghost use Rattle.lotos_text.specs.Cut.{Cut, AllStand, is_blank, is_word_byte, spelled, word_kind};
+ghost use Rattle.std.specs.Prelude.{◌≡◌, ◌<◌, ◌≤◌, length, take, IfOk, IfErr, IfSome, IfNone};
+ghost use Rattle.lotos_text.specs.Cut.{Cut, AllStand, Begins, IsComment, Unclosed, opening, is_blank, is_word_byte, spelled, word_kind};
 ghost use Rattle.lotos_text.specs.Front.{Front, mark_of};
 ghost use Rattle.lotos_text.specs.Refused.{IsStuck};
 ghost use Rattle.std.specs.List.{prefix_len};
@@ -14,8 +14,12 @@ pub const TEXT_LIMIT: usize = 1_048_576;
 
 /// The tokens of a text, in their order.
 ///
-/// Refuses with E03 a text of more than [`TEXT_LIMIT`] bytes, whatever else it holds; with E01 at the first byte that
-/// begins no token; with E99 where a growth of the heap was refused.
+/// Blanks and comments separate tokens and are none. A comment opens with `(*` and ends with the first `*)` behind that;
+/// comments do not nest.
+///
+/// Refuses with E03 a text of more than [`TEXT_LIMIT`] bytes, whatever else it holds; then with E01 at the first byte that
+/// begins no token, or with E02 at the opening of a comment that is not closed, whichever stands first; with E99 where a
+/// growth of the heap was refused.
 pub fn tokens(alloc: Global, text: &[u8]) -> Result<Vec<Token>, TextFault>
     ensures short { IfOk result (λ found. length text.now ≤ 1048576) }
     ensures cut { IfOk result (λ found. Cut text.now found.items) }
@@ -30,11 +34,13 @@ pub fn tokens(alloc: Global, text: &[u8]) -> Result<Vec<Token>, TextFault>
     while at < text.len() {
         match front(&text[at..]) {
             Piece::Blank => at += 1,
+            Piece::Comment(length) => at += length,
             Piece::Token(length, kind) => {
                 let end = at + length;
                 found.push(Token { at, end, kind })?;
                 at = end;
             }
+            Piece::Unclosed => return Err(TextFault::E02(at)),
             Piece::Unknown => return Err(TextFault::E01(at)),
         }
     }
@@ -46,8 +52,12 @@ pub fn tokens(alloc: Global, text: &[u8]) -> Result<Vec<Token>, TextFault>
 enum Piece {
     /// One blank byte.
     Blank,
+    /// A comment of so many bytes.
+    Comment(usize),
     /// A token of so many bytes.
     Token(usize, TokenKind),
+    /// The opening of a comment that is not closed.
+    Unclosed,
     /// A byte that begins no token.
     Unknown,
 }
@@ -64,12 +74,33 @@ fn front(text: &[u8]) -> Piece
     } else if first.is_ascii_alphabetic() {
         let length = word_length(text);
         Piece::Token(length, word_kind(&text[..length]))
+    } else if text.starts_with(b"(*") {
+        match comment_length(text) {
+            Some(length) => Piece::Comment(length),
+            None => Piece::Unclosed,
+        }
     } else {
         match mark(text) {
             Some(sign) => Piece::Token(spelling(sign).len(), TokenKind::Sign(sign)),
             None => Piece::Unknown,
         }
     }
+}
+
+/// How many bytes the comment has that opens at the front of a text, up to and with its closing.
+fn comment_length(text: &[u8]) -> Option<usize>
+    requires { Begins opening text.now }
+    ensures closed { IfSome result (λ n. IsComment (take n text.now) × (n ≤ length text.now)) }
+    ensures open { IfNone result (Unclosed text.now) }
+{
+    let mut at = 2;
+    while at + 1 < text.len() {
+        if text[at] == b'*' && text[at + 1] == b')' {
+            return Some(at + 2);
+        }
+        at += 1;
+    }
+    None
 }
 
 fn is_blank(byte: u8) -> bool

@@ -5,6 +5,8 @@
 //! The definitions that the contracts cite stand in `specs/`, and the laws over them in [`laws`].
 #![tactic(auto)]
 
+mod descent;
+mod expression;
 mod fault;
 pub mod laws;
 mod lexer;
@@ -17,7 +19,7 @@ mod tree;
 pub use fault::TextFault;
 pub use lexer::{TEXT_LIMIT, tokens};
 pub use name::Name;
-pub use parser::parse;
+pub use parser::{NESTING_LIMIT, parse};
 pub use place::line_column;
 pub use token::{Sign, Token, TokenKind, Word};
-pub use tree::{Action, Behaviour, Definition, Functionality, Placed, Specification};
+pub use tree::{Action, Behaviour, Definition, Functionality, Placed, Specification, SyncSet};

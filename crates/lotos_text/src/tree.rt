@@ -1,10 +1,10 @@
 //! Trees of specifications.
 //!
-//! The forms are those of ISO 8807:1989, behaviour expressions and process definitions, as far as this crate reads them
-//! today. Brackets leave nothing in a tree.
+//! The forms are those of ISO 8807:1989, behaviour expressions and process definitions. Brackets leave nothing in a tree.
 ghost use Rattle.std.specs.Prelude.{◌≡◌, IfOk};
 ghost use Rattle.lotos_text.specs.Tree as plain_tree;
-ghost use Rattle.lotos_text.specs.View.{tree_of};
+ghost use Rattle.lotos_text.specs.Grammar.{join};
+ghost use Rattle.lotos_text.specs.View.{tree_of, operator_of};
 
 use crate::name::Name;
 use std::alloc::{AllocError, Global};
@@ -32,6 +32,15 @@ pub enum Functionality {
     NoExit,
 }
 
+/// The gates on which both sides of a parallel expression synchronize. Termination always is one of them.
+#[derive(Debug, Drop)]
+pub enum SyncSet {
+    /// These gates, as they stand in the list of `|[..]|`; none for `|||` and `|[]|`.
+    Gates(Vec<Placed>),
+    /// All gates, `||`.
+    All,
+}
+
 /// A behaviour expression.
 #[derive(Debug, Drop)]
 pub enum Behaviour {
@@ -48,6 +57,34 @@ pub enum Behaviour {
     Choice {
         left: Box<Behaviour>,
         right: Box<Behaviour>,
+    },
+    /// Parallel composition, `left |[..]| right`, `left ||| right` or `left || right`.
+    Par {
+        left: Box<Behaviour>,
+        sync: SyncSet,
+        right: Box<Behaviour>,
+    },
+    /// Hiding, `hide gates in body`.
+    Hide {
+        gates: Vec<Placed>,
+        body: Box<Behaviour>,
+    },
+    /// Enabling, `left >> right`.
+    Enable {
+        left: Box<Behaviour>,
+        /// The offset of `>>`.
+        at: usize,
+        right: Box<Behaviour>,
+    },
+    /// Disabling, `left [> right`.
+    Disable {
+        left: Box<Behaviour>,
+        right: Box<Behaviour>,
+    },
+    /// Process instantiation, `name [gates]`.
+    Call {
+        name: Placed,
+        gates: Vec<Placed>,
     },
 }
 
@@ -68,16 +105,31 @@ pub struct Specification {
     pub whole: Definition,
 }
 
-pub(crate) fn choice(
+/// A binary operator between two behaviour expressions.
+#[derive(Drop)]
+pub(crate) enum Operator {
+    /// `>>`, with its offset.
+    Enable(usize),
+    Disable,
+    Synchronize(SyncSet),
+    Choose,
+}
+
+pub(crate) fn joined(
     alloc: Global,
+    how: Operator,
     left: Behaviour,
     right: Behaviour,
 ) -> Result<Behaviour, AllocError>
-    ensures { IfOk result (λ b. tree_of b ≡ plain_tree.choice (tree_of left) (tree_of right)) }
+    ensures { IfOk result (λ b. tree_of b ≡ join (operator_of how) (tree_of left) (tree_of right)) }
 {
-    Ok(Behaviour::Choice {
-        left: Box::new(alloc, left)?,
-        right: Box::new(alloc, right)?,
+    let left = Box::new(alloc, left)?;
+    let right = Box::new(alloc, right)?;
+    Ok(match how {
+        Operator::Enable(at) => Behaviour::Enable { left, at, right },
+        Operator::Disable => Behaviour::Disable { left, right },
+        Operator::Synchronize(sync) => Behaviour::Par { left, sync, right },
+        Operator::Choose => Behaviour::Choice { left, right },
     })
 }
 
@@ -90,6 +142,19 @@ pub(crate) fn prefix(
 {
     Ok(Behaviour::Prefix {
         action,
+        body: Box::new(alloc, body)?,
+    })
+}
+
+pub(crate) fn hide(
+    alloc: Global,
+    gates: Vec<Placed>,
+    body: Behaviour,
+) -> Result<Behaviour, AllocError>
+    ensures { IfOk result (λ b. tree_of b ≡ plain_tree.hide gates.items (tree_of body)) }
+{
+    Ok(Behaviour::Hide {
+        gates,
         body: Box::new(alloc, body)?,
     })
 }
