@@ -10,8 +10,8 @@ use Rattle.lotos_text.specs.Spelled.{Spelled}
 use Rattle.lotos_text.specs.Tree.{Def}
 use Rattle.lotos_text.specs.declared.fault.TextFault.{TextFault}
 use Rattle.lotos_text.specs.declared.fault.TextFault.TheVariants.{E01, E03, E04, E06, E99}
-use Rattle.lotos_text.specs.declared.parser.Stop.{Stop}
-use Rattle.lotos_text.specs.declared.parser.Stop.TheVariants.{At, Memory}
+use Rattle.lotos_text.specs.declared.descent.Stop.{Stop}
+use Rattle.lotos_text.specs.declared.descent.Stop.TheVariants.{At, Memory}
 use Rattle.lotos_text.specs.declared.token.Token.{Token}
 use Rattle.lotos_text.proofs.Cuts.{one_cut, sticks_uncut}
 use Rattle.lotos_text.proofs.FirstToken.{starts_same}

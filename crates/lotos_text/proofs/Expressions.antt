@@ -7,7 +7,7 @@ use Rattle.lotos_text.specs.Follow.{kind_rank, rank, bound}
 use Rattle.lotos_text.specs.Opens.{opening}
 use Rattle.lotos_text.specs.Parsing.{Part, NotFirst, Found, Lost}
 use Rattle.lotos_text.specs.Parts.{Then, One, Behind, Before, Expression, Act}
-use Rattle.lotos_text.specs.declared.parser.Opening.TheVariants as o
+use Rattle.lotos_text.specs.declared.expression.Opening.TheVariants as o
 use Rattle.lotos_text.specs.declared.token.Sign.{Sign as SignKind}
 use Rattle.lotos_text.specs.declared.token.Sign.TheVariants as s
 use Rattle.lotos_text.specs.declared.token.Token.{Token}

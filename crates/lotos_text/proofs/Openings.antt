@@ -2,8 +2,8 @@
 use Rattle.std.proofs.Common.{◌≡◌, refl, subst}
 use Rattle.lotos_text.specs.Grammar.{Is}
 use Rattle.lotos_text.specs.Opens.{opening}
-use Rattle.lotos_text.specs.declared.parser.Opening.{Opening}
-use Rattle.lotos_text.specs.declared.parser.Opening.TheVariants as o
+use Rattle.lotos_text.specs.declared.expression.Opening.{Opening}
+use Rattle.lotos_text.specs.declared.expression.Opening.TheVariants as o
 use Rattle.lotos_text.specs.declared.token.Sign.TheVariants as s
 use Rattle.lotos_text.specs.declared.token.Token.{Token}
 use Rattle.lotos_text.specs.declared.token.TokenKind.{TokenKind}

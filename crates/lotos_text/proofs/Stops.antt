@@ -3,8 +3,8 @@ use Rattle.std.proofs.Common.{◌≡◌, List, sym, subst, Result, Ok, Err, IfOk
 use Rattle.std.proofs.lemmas.Result.{err_from_is_err_and}
 use Rattle.std.specs.Result.{IsErrAnd}
 use Rattle.lotos_text.specs.Parsing.{Part, Lost, IsLost, IsMissed}
-use Rattle.lotos_text.specs.declared.parser.Stop.{Stop}
-use Rattle.lotos_text.specs.declared.parser.Stop.TheVariants.{At, Memory}
+use Rattle.lotos_text.specs.declared.descent.Stop.{Stop}
+use Rattle.lotos_text.specs.declared.descent.Stop.TheVariants.{At, Memory}
 use Rattle.lotos_text.specs.declared.token.Token.{Token}
 
 stopped : {A B : Type 0} (P : Part A) (Q : Part B) (ts us : List Token) →

@@ -31,26 +31,26 @@ opening (Reserved word) = word_opening word
 opening (of_sign sign) = sign_opening sign
 
 -- the operator's mark that a mark is
-abbrev pub sign_infix : Sign → Option Infix
-sign_infix s.Enable = Some i.Enable
-sign_infix s.Disable = Some i.Disable
-sign_infix s.Interleave = Some i.Interleave
-sign_infix s.Full = Some i.Full
-sign_infix s.LeftSync = Some i.Sync
-sign_infix s.Choice = Some i.Choice
-sign_infix _ = None
+abbrev pub sign_mark : Sign → Option Infix
+sign_mark s.Enable = Some i.Enable
+sign_mark s.Disable = Some i.Disable
+sign_mark s.Interleave = Some i.Interleave
+sign_mark s.Full = Some i.Full
+sign_mark s.LeftSync = Some i.Sync
+sign_mark s.Choice = Some i.Choice
+sign_mark _ = None
 
 -- the operator's mark that a token of the kind is
-abbrev pub infix : TokenKind → Option Infix
-infix Identifier = None
-infix (Reserved word) = None
-infix (of_sign sign) = sign_infix sign
+abbrev pub mark : TokenKind → Option Infix
+mark Identifier = None
+mark (Reserved _) = None
+mark (of_sign sign) = sign_mark sign
 
 -- the level of the operators that begin with the mark
-abbrev pub infix_level : Infix → Level
-infix_level i.Enable = enabling
-infix_level i.Disable = disabling
-infix_level i.Interleave = parallel
-infix_level i.Full = parallel
-infix_level i.Sync = parallel
-infix_level i.Choice = choosing
+abbrev pub mark_level : Infix → Level
+mark_level i.Enable = enabling
+mark_level i.Disable = disabling
+mark_level i.Interleave = parallel
+mark_level i.Full = parallel
+mark_level i.Sync = parallel
+mark_level i.Choice = choosing

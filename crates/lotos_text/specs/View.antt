@@ -8,7 +8,7 @@ use Rattle.lotos_text.specs.declared.tree.Operator.{Operator as CodeOperator}
 use Rattle.lotos_text.specs.declared.tree.Operator.TheVariants as o
 use Rattle.lotos_text.specs.declared.parser.Defined.{Defined as CodeDefined}
 use Rattle.lotos_text.specs.declared.parser.Defined.TheVariants as d
-use Rattle.lotos_text.specs.declared.tree.Behaviour.{Behaviour, Stop, Exit, Prefix', Choice', Par', Hide', Enable', Disable', Call'}
+use Rattle.lotos_text.specs.declared.tree.Behaviour.{Behaviour, Stop, Exit, Prefix', Choice', Par', Hide', Enable', Disable', Call}
 use Rattle.lotos_text.specs.declared.tree.SyncSet.{SyncSet}
 use Rattle.lotos_text.specs.declared.tree.SyncSet.TheVariants.{Gates, All}
 use Rattle.lotos_text.specs.declared.tree.Definition.{Definition, fold-Definition}
@@ -26,7 +26,7 @@ tree_of (Par' p left sync q right) = par (tree_of left) (sync_of sync) (tree_of 
 tree_of (Hide' list p body) = hide list.items (tree_of body)
 tree_of (Enable' p left at q right) = enable (tree_of left) at (tree_of right)
 tree_of (Disable' p left q right) = disable (tree_of left) (tree_of right)
-tree_of (Call' name list) = call name list.items
+tree_of (Call name list) = call name list.items
 
 abbrev pub row_of : List Def → Defs
 row_of [] = no_defs

@@ -85,7 +85,9 @@ pub(crate) fn names<'a>(
 }
 
 /// The colon and the functionality.
-pub(crate) fn functionality<'a>(tokens: &'a [Token]) -> Result<(Functionality, &'a [Token]), Stop<'a>>
+pub(crate) fn functionality<'a>(
+    tokens: &'a [Token],
+) -> Result<(Functionality, &'a [Token]), Stop<'a>>
     ensures found { IfOk result (λ p. Found Returns tokens.now p.0 p.1.now) }
     ensures lost { IfErr result (IsMissed Returns tokens.now) }
 {
@@ -108,7 +110,10 @@ pub(crate) fn placed(alloc: Global, text: &[u8], token: Token) -> Result<Placed,
 }
 
 /// The first token, which is of the kind, and the others.
-pub(crate) fn expect<'a>(tokens: &'a [Token], kind: TokenKind) -> Result<(Token, &'a [Token]), Stop<'a>>
+pub(crate) fn expect<'a>(
+    tokens: &'a [Token],
+    kind: TokenKind,
+) -> Result<(Token, &'a [Token]), Stop<'a>>
     ensures found { IfOk result (λ p. (tokens.now ≡ p.0 ∷ p.1.now) × Is p.0 kind) }
     ensures lost { IfErr result (IsMissed (One kind) tokens.now) }
 {

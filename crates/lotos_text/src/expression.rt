@@ -131,13 +131,13 @@ fn operation<'a>(
     ensures lost { IfErr result (IsLostWithin (Expression text.now (level_of level)) room tokens.now) }
 {
     let (left, rest) = joined(alloc, text, room, below, tokens)?;
-    let Some((infix, first, after)) = going_on(rest, level) else {
+    let Some((mark, first, after)) = going_on(rest, level) else {
         return Ok((left, rest));
     };
     if room == 0 {
         return Err(Stop::Deep(first));
     }
-    let (how, rest) = operator(alloc, text, infix, first, after)?;
+    let (how, rest) = operator(alloc, text, mark, first, after)?;
     let (right, rest) = behaviour(alloc, text, room - 1, level, rest)?;
     let whole = tree::joined(alloc, how, left, right)?;
     Ok((whole, rest))
@@ -156,7 +156,7 @@ enum Infix {
 }
 
 fn infix_of(kind: TokenKind) -> Option<Infix>
-    ensures { result ≡ opens.infix kind }
+    ensures { result ≡ opens.mark kind }
 {
     match kind {
         TokenKind::Sign(Sign::Enable) => Some(Infix::Enable),
@@ -171,22 +171,22 @@ fn infix_of(kind: TokenKind) -> Option<Infix>
 
 /// The operator's mark of the level at the front, its token, and the tokens behind it.
 fn going_on(tokens: &[Token], level: Level) -> Option<(Infix, Token, &[Token])>
-    ensures some { IfSome result (λ p. (tokens.now ≡ p.1 ∷ p.2.now) × (opens.infix p.1.kind ≡ Some p.0) × (opens.infix_level p.0 ≡ level_of level)) }
+    ensures some { IfSome result (λ p. (tokens.now ≡ p.1 ∷ p.2.now) × (opens.mark p.1.kind ≡ Some p.0) × (opens.mark_level p.0 ≡ level_of level)) }
     ensures none { IfNone result (rank tokens.now ≡ level_rank (level_of level) → level_of level ≡ prefixing) }
 {
     let (first, rest) = split(tokens)?;
-    let infix = infix_of(first.kind)?;
-    if is_of_level(infix, level) {
-        Some((infix, first, rest))
+    let mark = infix_of(first.kind)?;
+    if is_of_level(mark, level) {
+        Some((mark, first, rest))
     } else {
         None
     }
 }
 
-fn is_of_level(infix: Infix, level: Level) -> bool
-    ensures { MatchBool result (opens.infix_level infix ≡ level_of level) (opens.infix_level infix ≡ level_of level → ⊥) }
+fn is_of_level(mark: Infix, level: Level) -> bool
+    ensures { MatchBool result (opens.mark_level mark ≡ level_of level) (opens.mark_level mark ≡ level_of level → ⊥) }
 {
-    match infix {
+    match mark {
         Infix::Enable => matches!(level, Level::Enabling),
         Infix::Disable => matches!(level, Level::Disabling),
         Infix::Interleave | Infix::Full | Infix::Sync => matches!(level, Level::Parallel),
@@ -198,18 +198,18 @@ fn is_of_level(infix: Infix, level: Level) -> bool
 fn operator<'a>(
     alloc: Global,
     text: &[u8],
-    infix: Infix,
+    mark: Infix,
     first: Token,
     tokens: &'a [Token],
 ) -> Result<(Operator, &'a [Token]), Stop<'a>>
-    requires begins { opens.infix first.kind ≡ Some infix }
+    requires begins { opens.mark first.kind ≡ Some mark }
     requires stand { AllStand text.now tokens.now }
-    ensures found { IfOk result (λ p. Found (Operation text.now (opens.infix_level infix)) (first ∷ tokens.now) (operator_of p.0) p.1.now) }
+    ensures found { IfOk result (λ p. Found (Operation text.now (opens.mark_level mark)) (first ∷ tokens.now) (operator_of p.0) p.1.now) }
     ensures rest { IfOk result (λ p. AllStand text.now p.1.now) }
     ensures shorter { IfOk result (λ p. length p.1.now ≤ length tokens.now) }
-    ensures lost { IfErr result (IsLost (Operation text.now (opens.infix_level infix)) (first ∷ tokens.now)) }
+    ensures lost { IfErr result (IsLost (Operation text.now (opens.mark_level mark)) (first ∷ tokens.now)) }
 {
-    match infix {
+    match mark {
         Infix::Enable => Ok((Operator::Enable(first.at), tokens)),
         Infix::Disable => Ok((Operator::Disable, tokens)),
         Infix::Interleave => {

@@ -3,7 +3,7 @@ use Rattle.lotos_text.specs.Parsing.{Found}
 use Rattle.lotos_text.specs.Parts.{One, NameList, Gates}
 use Rattle.lotos_text.proofs.NameLists.{found_no_gates, found_closed, lost_inside, lost_open}
 use Rattle.lotos_text.proofs.Stops.{missed_on, passed_on}
-use Rattle.lotos_text.proofs.parser.gate_list.Goals as goal
+use Rattle.lotos_text.proofs.descent.gate_list.Goals as goal
 
 pub returns-in_default-clause-found : goal.returns-in_default-clause-found
 returns-in_default-clause-found c =

@@ -6,7 +6,7 @@ use Rattle.lotos_text.specs.declared.tree.Placed.{Placed}
 use Rattle.lotos_text.specs.declared.token.TokenKind.TheVariants.{Identifier}
 use Rattle.lotos_text.proofs.NameLists.{found_last, found_more, lost_here, lost_more}
 use Rattle.lotos_text.proofs.Stops.{missed_on}
-use Rattle.lotos_text.proofs.parser.names.Goals as goal
+use Rattle.lotos_text.proofs.descent.names.Goals as goal
 
 pub returns-in_err-first-clause-lost : goal.returns-in_err-first-clause-lost
 returns-in_err-first-clause-lost c =

@@ -4,7 +4,7 @@ use Rattle.lotos_text.specs.Parsing.{Found, Lost}
 use Rattle.lotos_text.specs.Parts.{NameList}
 use Rattle.lotos_text.specs.declared.token.Token.{Token}
 use Rattle.lotos_text.specs.declared.tree.Placed.{Placed}
-use Rattle.lotos_text.proofs.parser.names.Given as goal
+use Rattle.lotos_text.proofs.descent.names.Given as goal
 
 abbrev pub decreases-loop-found : goal.decreases-loop-found
 decreases-loop-found l = length l.rest
