@@ -125,7 +125,7 @@ fn counts_nested_constructs(rt: HostRuntime) -> Result<(), Fail> {
             "stop[](",
             ")",
             5,
-            245,
+            244,
         ),
         ("199 brackets in a hide form", "hide a in ", "", 0, 0),
         ("200 brackets in a hide form", "hide a in (", ")", 5, 248),
