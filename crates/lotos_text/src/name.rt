@@ -1,16 +1,21 @@
 //! Names of gates, processes and specifications.
-ghost use Rattle.std.specs.Prelude.{◌≡◌, IfOk, map};
+ghost use Rattle.std.specs.Prelude.{◌≡◌, IfOk, Some, bytes_eq, map, refl};
 ghost use Rattle.std.specs.Char.{to_ascii_uppercase};
+ghost use Rattle.std.specs.Cmp.{partial_equiv_from_equiv};
+ghost use Rattle.std.specs.Cmp.Lexicographic.{nat_list_cmp_total, nat_list_eq_equiv, slice_cmp, texts_po, texts_ties};
+ghost use Rattle.std.specs.Ordering.{nat_cmp};
 ghost use Rattle.lotos_text.specs.Names.{IsName};
 ghost use Rattle.lotos_text.specs.Cut.{IsWord};
 
 use std::alloc::{AllocError, Global};
+use std::cmp::Ordering;
 use std::marker::Model;
 
 /// An identifier in upper case: a letter `A` to `Z`, then letters `A` to `Z`, digits and underscores.
 ///
 /// Upper and lower case of a text are not distinguished (this project's profile), so two spellings of one identifier are
-/// one name. Contracts see a name as its bytes.
+/// one name. Names are equal and ordered as the bytes of their texts are, a beginning before what it begins. Contracts see a
+/// name as its bytes.
 #[derive(Debug, Drop)]
 pub struct Name {
     text: String,
@@ -45,11 +50,100 @@ impl Name {
         }
     }
 
+    /// An equal name. Refuses where a growth of the heap was refused.
+    pub fn copy(&self, alloc: Global) -> Result<Name, AllocError>
+        ensures { IfOk result (λ n. n ≡ self.now) }
+    {
+        let text = String::from_str(alloc, self.text.as_str())?;
+        Ok(Name { text })
+    }
+
     /// The identifier in upper case.
     pub fn text(&self) -> &str
         ensures bytes { result.now ≡ self.now }
         ensures identifier { IsName result.now }
     {
         self.text.as_str()
+    }
+}
+
+impl PartialEq for Name {
+    ghost eq = { bytes_eq };
+
+    ghost laws = { partial_equiv_from_equiv nat_list_eq_equiv };
+
+    fn eq(&self, other: &Name) -> bool {
+        self.text() == other.text()
+    }
+}
+
+impl Eq for Name {
+    ghost laws = { nat_list_eq_equiv };
+}
+
+impl PartialOrd for Name {
+    ghost partial_cmp = { λ left right. Some (slice_cmp nat_cmp left right) };
+
+    ghost laws = { texts_po };
+
+    fn partial_cmp(&self, other: &Name) -> Option<Ordering> {
+        Some(self.cmp(other))
+    }
+}
+
+impl Ord for Name {
+    ghost cmp = { slice_cmp nat_cmp };
+
+    ghost total = { nat_list_cmp_total };
+
+    ghost matches_partial_cmp = { λ left right. refl };
+
+    ghost matches_eq = { texts_ties };
+
+    fn cmp(&self, other: &Name) -> Ordering {
+        self.text().cmp(other.text())
+    }
+}
+
+#[cfg(test)]
+mod tests {
+    use super::Name;
+    use std::cmp::Ordering;
+    use std::test::Fail;
+
+    #[test]
+    fn orders_names_as_their_texts(rt: HostRuntime) -> Result<(), Fail> {
+        let rows: [(&[u8], &[u8], Ordering); 8] = [
+            (b"a", b"a", Ordering::Equal),
+            (b"Gate_1", b"gATE_1", Ordering::Equal),
+            (b"a", b"a1", Ordering::Less),
+            (b"a1", b"a", Ordering::Greater),
+            (b"ab", b"b", Ordering::Less),
+            (b"b", b"ab", Ordering::Greater),
+            (b"a1", b"az", Ordering::Less),
+            (b"az", b"a_", Ordering::Less),
+        ];
+        for (left, right, wanted) in &rows {
+            let row = str::from_utf8(left)?;
+            let left = Name::of_word(rt.alloc(), left)?;
+            let right = Name::of_word(rt.alloc(), right)?;
+            assert_eq!(rt; left.cmp(&right), *wanted, "the order of {}", row);
+            assert_eq!(rt;
+                left == right,
+                *wanted == Ordering::Equal,
+                "equality of {}",
+                row
+            );
+        }
+        Ok(())
+    }
+
+    #[test]
+    fn copies_a_name(rt: HostRuntime) -> Result<(), Fail> {
+        let name = Name::of_word(rt.alloc(), b"Gate_1")?;
+        let copy = name.copy(rt.alloc())?;
+        assert_eq!(rt; copy.text(), "GATE_1", "the text of a copy");
+        assert!(rt; copy == name, "a copy is equal");
+        Ok(())
     }
 }
