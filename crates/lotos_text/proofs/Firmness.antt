@@ -1,8 +1,8 @@
 -- Parts with a limit of nesting: each is the only one, whatever the limits, and so are two in a row.
 use Rattle.std.proofs.Common.{◌≡◌, ℕ, List, [], ◌∷◌, ◌++◌, sym, ◌∙◌, ap, append_assoc, arith, subst}
-use Rattle.lotos_text.specs.Grammar.{Level, Operator}
+use Rattle.lotos_text.specs.Grammar.{Level}
 use Rattle.lotos_text.specs.Parsing.{Part, Limit, Found, Starts, Lost}
-use Rattle.lotos_text.specs.Parts.{Then, One, Behind, Before, Name, Gates, Operation, SyncList, Expression, Declared, Returns, Heading, Header}
+use Rattle.lotos_text.specs.Parts.{Then, One, Behind, Before, Name, Gates, Operation, Expression, Declared, Returns, Heading, Header}
 use Rattle.lotos_text.specs.declared.token.Token.{Token}
 use Rattle.lotos_text.specs.declared.token.TokenKind.{TokenKind}
 use Rattle.lotos_text.specs.declared.tree.Functionality.{Functionality}
@@ -74,3 +74,22 @@ module _ (text : List ℕ) where
       let h = unique text more q p.spells o.spells e
       (let i = starts_rank r more st in let j = p.quits in omega (arith, i, j)) o.quits in
       record { tokens = h.tokens; said = h.tree; rest = h.rest }
+
+  -- an operator of a level is the only one
+  pub firm_operation : (l : Level) → Firm (Operation text l)
+  firm_operation l a b r more q x y p st o e =
+      let h = unique_operator text more q p.operates o.operates e in
+      record { tokens = h.tokens; said = h.operator; rest = h.rest }
+
+  -- the header
+
+  abbrev named : Placed → List Placed → Placed × List Placed
+  named name formals = (name, formals)
+
+  abbrev headed : Placed × List Placed → Functionality → Heading
+  headed front returns = (front.0, front.1, returns)
+
+  -- a header is the only one
+  pub firm_header : Firm (Header text)
+  firm_header = firm_then headed (Then named (Name text) (Gates text)) Returns
+      (firm_then named (Name text) (Gates text) (firm_name text) (firm_gates text)) (firm_behind _ Declared firm_declared)

@@ -1,15 +1,15 @@
 -- Spellings of a looser level: one of the next tighter level, or an operation; and how the levels rank.
-use Rattle.std.proofs.Common.{◌≡◌, ℕ, ◌+◌, ◌<◌, ◌≤◌, max, Bool, true, false, List, [], ◌∷◌, ◌++◌, refl, sym, ◌∙◌, ap, append_assoc, arith, subst}
+use Rattle.std.proofs.Common.{◌≡◌, ℕ, ◌+◌, ◌<◌, ◌≤◌, max, Bool, true, false, List, [], ◌∷◌, ◌++◌, refl, ap, arith, subst}
 use Rattle.lotos_text.specs.Tree as t
 use Rattle.lotos_text.specs.Tree.{Tree}
-use Rattle.lotos_text.specs.Grammar.{Is, Names, one_name, more_names, Level, enabling, disabling, parallel, choosing, prefixing, Below, below_enabling, below_disabling, below_parallel, below_choosing, Operator, enables, synchronizes, join, Operates, enable_sign, disable_sign, interleave_sign, full_sign, sync_on_none, sync_on, choice_sign, Spells, stop, exit, brackets, call, prefix, tighter, operation, hide}
+use Rattle.lotos_text.specs.Grammar.{Is, Level, enabling, disabling, parallel, choosing, prefixing, Below, below_enabling, below_disabling, below_parallel, below_choosing, Operator, enables, synchronizes, join, Operates, enable_sign, disable_sign, interleave_sign, full_sign, sync_on_none, sync_on, choice_sign, Spells, stop, exit, brackets, call, prefix, tighter, operation, hide}
 use Rattle.lotos_text.specs.Follow.{kind_rank, rank, level_rank, bound}
+use Rattle.lotos_text.specs.Parts.{SyncList, no_sync, some_sync}
 use Rattle.lotos_text.specs.declared.token.Token.{Token}
 use Rattle.lotos_text.specs.declared.token.TokenKind.{TokenKind}
-use Rattle.lotos_text.specs.declared.token.TokenKind.TheVariants.{Identifier}
 use Rattle.lotos_text.specs.declared.tree.Placed.{Placed}
-use Rattle.lotos_text.proofs.FirstToken.{head_same, tail_same, apart, is_first}
-use Rattle.lotos_text.proofs.NameLists.{unique_names}
+use Rattle.lotos_text.proofs.FirstToken.{head_same, tail_same, apart}
+use Rattle.lotos_text.proofs.NameLists.{unique_sync_list}
 
 -- a tighter level ranks higher
 pub below_rank : {l m : Level} → Below l m → level_rank l < level_rank m
@@ -76,11 +76,16 @@ module _ (text : List ℕ) where
       SameOperator (n ∷ []) (m ∷ []) how ways r q
   one_sign r q e h = record { tokens = ap (λ n. n ∷ []) (head_same e); operator = h; rest = tail_same e }
 
-  -- no list of names begins with what is no identifier
-  names_first : {a : List Token} {names : List Placed} {n : Token} {k : TokenKind} (r ts : List Token) → Names text a names →
-      Is n k → a ++ r ≡ n ∷ ts → (Identifier ≡ k → ⊥) → ⊥
-  names_first r ts (one_name i) j e two = apart i j (head_same e) two
-  names_first r ts (more_names i k d) j e two = apart i j (head_same e) two
+  one_sync : {n m : Token} {ts us : List Token} {ns ms : List Placed} (r q : List Token) → SyncList text ts ns r →
+      SyncList text us ms q → (n ∷ ts) ++ r ≡ (m ∷ us) ++ q →
+      SameOperator (n ∷ ts) (m ∷ us) (synchronizes (t.gates ns)) (synchronizes (t.gates ms)) r q
+  one_sync r q i j e =
+      let h = unique_sync_list text r q i j (tail_same e) in
+      record {
+        tokens = (let a = head_same e in let b = h.tokens in cc);
+        operator = ap (λ names. synchronizes (t.gates names)) h.said;
+        rest = h.rest;
+      }
 
   -- one list begins with one operator of a level
   pub unique_operator : {l : Level} {a b : List Token} {how ways : Operator} (r q : List Token) → Operates text l a how →
@@ -98,27 +103,12 @@ module _ (text : List ℕ) where
   unique_operator r q (full_sign i) (sync_on j d k l) e = absurd (apart i j (head_same e) (λ e. cc))
   unique_operator r q (sync_on_none i j k) (interleave_sign l) e = absurd (apart i l (head_same e) (λ e. cc))
   unique_operator r q (sync_on_none i j k) (full_sign l) e = absurd (apart i l (head_same e) (λ e. cc))
-  unique_operator r q (sync_on_none i j k) (sync_on_none l m n) e = record {
-    tokens = (let a = head_same e in let b = head_same (tail_same e) in let c = head_same (tail_same (tail_same e)) in cc);
-    operator = refl;
-    rest = tail_same (tail_same (tail_same e));
-  }
-  unique_operator r q (sync_on_none {bar = bar} i j k) (sync_on {right = right} {bar = other} {ts = ts} l d m n) e =
-      absurd (names_first (right ∷ other ∷ q) (bar ∷ r) d j (sym (tail_same e ∙ append_assoc ts (right ∷ other ∷ []) q)) (λ e. cc))
+  unique_operator r q (sync_on_none i j k) (sync_on_none l m n) e = one_sync r q (no_sync j k) (no_sync m n) e
+  unique_operator r q (sync_on_none i j k) (sync_on l d m n) e = one_sync r q (no_sync j k) (some_sync d m n) e
   unique_operator r q (sync_on i d j k) (interleave_sign l) e = absurd (apart i l (head_same e) (λ e. cc))
   unique_operator r q (sync_on i d j k) (full_sign l) e = absurd (apart i l (head_same e) (λ e. cc))
-  unique_operator r q (sync_on {right = right} {bar = bar} {ts = ts} i d j k) (sync_on_none {bar = other} l m n) e =
-      absurd (names_first (right ∷ bar ∷ r) (other ∷ q) d m (sym (append_assoc ts (right ∷ bar ∷ []) r) ∙ tail_same e) (λ e. cc))
-  unique_operator r q (sync_on {right = right} {bar = bar} {ts = ts} i d j k)
-      (sync_on {right = right'} {bar = bar'} {ts = us} l f m n) e =
-      let h = unique_names text (right ∷ bar ∷ r) (right' ∷ bar' ∷ q) d f
-      (sym (append_assoc ts (right ∷ bar ∷ []) r) ∙ tail_same e ∙ append_assoc us (right' ∷ bar' ∷ []) q)
-      (is_first j (λ e. cc)) (is_first m (λ e. cc)) in
-      record {
-        tokens = (let a = h.tokens in let b = head_same e in let c = head_same h.rest in let d = head_same (tail_same h.rest) in cc);
-        operator = ap (λ names. synchronizes (t.gates names)) h.said;
-        rest = tail_same (tail_same h.rest);
-      }
+  unique_operator r q (sync_on i d j k) (sync_on_none l m n) e = one_sync r q (some_sync d j k) (no_sync m n) e
+  unique_operator r q (sync_on i d j k) (sync_on l f m n) e = one_sync r q (some_sync d j k) (some_sync f m n) e
 
   -- a spelling of the level whose next tighter one is given
   pub data Levelled (l m : Level) : Bool → ℕ → List Token → Tree → Type 0 where
