@@ -14,7 +14,7 @@ use Rattle.lotos_text.proofs.Firmness.{FirmWithin, firm_always, firm_then_within
 use Rattle.lotos_text.proofs.FirstToken.{head_same, tail_same, same_is, not_first, is_first, starts_not}
 use Rattle.lotos_text.proofs.Levels.{rank_none, rank_is}
 use Rattle.lotos_text.proofs.NameLists.{unique_gates}
-use Rattle.lotos_text.proofs.OneToken.{same_functionality, firm_nothing, behind, uncover}
+use Rattle.lotos_text.proofs.OneToken.{same_functionality, firm_nothing, behind as behind_token, uncover}
 use Rattle.lotos_text.proofs.Sequence.{Same}
 use Rattle.lotos_text.proofs.Unique.{unique}
 
@@ -195,6 +195,137 @@ module _ (text : List ℕ) where
   pub firm_whole : FirmWithin (Whole text)
   firm_whole = firm_then_within (λ whole end. whole) (Definition text a_specification) (λ _. Nothing)
       (firm_definition a_specification) (firm_always Nothing firm_nothing)
+
+  -- definitions as parts
+
+  -- what stands between body and last word, as a part
+  as_inner : {m : ℕ} {own : List Token} {ds : Defs} (limit : Limit) (behind : List Token) → Rest text m own ds → Within limit m →
+      NotFirst (Reserved w.WhereWord) behind → NotFirst (Reserved w.ProcessWord) behind → Inner text limit own ds behind
+  as_inner limit behind nothing h row one = no_inner row
+  as_inner limit behind (definitions {n = n} i d) h row one =
+      some_inner i (record { nesting = n; several = d; ends = one; within = h })
+
+  -- a definition whose nesting is within the limit is the part
+  pub as_definition : {what : Defined} {n : ℕ} {own : List Token} {d : Def} (limit : Limit) (behind : List Token) →
+      Defines text what n own d → Within limit n → Definition text what limit own d behind
+  as_definition {what} limit behind
+      (definition {word = word} {name = name} {colon = colon} {returns = returns} {define = define} {end = end} {gates = gates}
+      {body = body} {rest = rest} {formals = formals} {func = func} {o = o} {n = n} {m = m} {x = x} {inner = inner}
+      i j g c f k spells ds z) h =
+      let front = name ∷ gates in
+      let last : List Token = end ∷ [] in
+      let gates_before : Gates text gates formals (colon ∷ returns ∷ define ∷ (body ++ (rest ++ end ∷ behind))) =
+      record { gates = g; quits = λ _. is_first c (λ e. cc) } in
+      let expression : Expression text enabling limit body x (rest ++ end ∷ behind) = record {
+        ends = o;
+        nesting = n;
+        spells = spells;
+        quits = rank_none enabling o (rest ++ end ∷ behind)
+            (rest_rank (end ∷ behind) ds (rank_is behind z ∙ closing_rank what));
+        within = within_first limit n m h;
+      } in
+      let row = as_inner limit (end ∷ behind) ds (within_second limit n m h) (is_first z (closing_row what))
+      (is_first z (closing_one what)) in
+      behind_token (opening_word what) (Contents text what limit) word (front ++ (colon ∷ returns ∷ define ∷ body) ++ rest ++ last)
+          behind _ i
+          (record {
+            front = front ++ (colon ∷ returns ∷ define ∷ body) ++ rest;
+            back = last;
+            one = defined ((placed text name, formals, func), x) inner;
+            other = end;
+            joined = refl;
+            first = record {
+              front = front ++ colon ∷ returns ∷ define ∷ body;
+              back = rest;
+              one = ((placed text name, formals, func), x);
+              other = inner;
+              joined = refl;
+              first = record {
+                front = front ++ colon ∷ returns ∷ [];
+                back = define ∷ body;
+                one = (placed text name, formals, func);
+                other = x;
+                joined = sym (append_assoc front (colon ∷ returns ∷ []) (define ∷ body));
+                first = record {
+                  front = front;
+                  back = colon ∷ returns ∷ [];
+                  one = (placed text name, formals);
+                  other = func;
+                  joined = refl;
+                  first = record {
+                    front = name ∷ [];
+                    back = gates;
+                    one = placed text name;
+                    other = formals;
+                    joined = refl;
+                    first = record { token = name; joined = refl; is = j; same = refl };
+                    second = gates_before;
+                    same = refl;
+                  };
+                  second = behind_token _ Declared colon (returns ∷ []) _ func c
+                      (record { token = returns; joined = refl; declares = f });
+                  same = refl;
+                };
+                second = behind_token _ (Expression text enabling limit) define body (rest ++ end ∷ behind) x k expression;
+                same = refl;
+              };
+              second = row;
+              same = refl;
+            };
+            second = record { joined = refl; is = z };
+            same = refl;
+          })
+
+  from_inner : (limit : Limit) (own behind : List Token) (ds : Defs) → Inner text limit own ds behind →
+      (n : ℕ) × Rest text n own ds × Within limit n
+  from_inner None _ behind _ (no_inner h) = (0, nothing, tt)
+  from_inner (Some limit) _ behind _ (no_inner h) = (0, nothing, omega arith)
+  from_inner limit _ behind _ (some_inner i r) = (r.nesting, definitions i r.several, r.within)
+
+  -- the part is a definition whose nesting is within the limit
+  pub from_definition : {what : Defined} (limit : Limit) (own behind : List Token) (d : Def) →
+      Definition text what limit own d behind → (n : ℕ) × Defines text what n own d × Within limit n
+  from_definition {what} limit own behind d w =
+      let whole = uncover (opening_word what) (Contents text what limit) own behind d w in
+      let c = whole.within in
+      let told = c.first in
+      let h = told.first in
+      let f = h.first in
+      let named = f.first in
+      let returns = uncover _ Declared f.back _ f.other f.second in
+      let body = uncover _ (Expression text enabling limit) h.back _ h.other h.second in
+      let inner = from_inner limit told.back _ told.other told.second in
+      let nested = max body.within.nesting inner.0 in
+      let name = named.first.token in
+      let gates = named.back in
+      let front = whole.token ∷ name ∷ gates in
+      let names : f.front ≡ name ∷ gates = named.joined ∙ ap (λ m. m ++ gates) named.first.joined in
+      let colon : f.back ≡ returns.token ∷ returns.within.token ∷ [] =
+      returns.joined ∙ ap (λ m. returns.token ∷ m) returns.within.joined in
+      let header : h.front ≡ (name ∷ gates) ++ returns.token ∷ returns.within.token ∷ [] =
+      f.joined ∙ ap (λ m. m ++ f.back) names ∙ ap (λ m. (name ∷ gates) ++ m) colon in
+      let headed : told.front ≡ (name ∷ gates) ++ returns.token ∷ returns.within.token ∷ body.token ∷ body.inner =
+      h.joined ∙ ap (λ m. m ++ h.back) header
+      ∙ ap (λ m. ((name ∷ gates) ++ returns.token ∷ returns.within.token ∷ []) ++ m) body.joined
+      ∙ append_assoc (name ∷ gates) (returns.token ∷ returns.within.token ∷ []) (body.token ∷ body.inner) in
+      let tokens : own ≡ front ++ (returns.token ∷ returns.within.token ∷ body.token ∷ body.inner) ++ told.back ++ c.other ∷ [] =
+      whole.joined ∙ ap (λ m. whole.token ∷ m)
+      (c.joined ∙ ap (λ m. m ++ c.back) (told.joined ∙ ap (λ m. m ++ told.back) headed)
+      ∙ ap (λ m. (((name ∷ gates) ++ returns.token ∷ returns.within.token ∷ body.token ∷ body.inner) ++ told.back) ++ m)
+      c.second.joined) in
+      let says : d ≡ t.def (placed text name) named.other f.other h.other told.other =
+      c.same ∙ told.same ∙ ap (λ m. defined m told.other) (h.same ∙ ap (λ m. (m, h.other))
+      (f.same ∙ ap (λ (m : Placed × List Placed). (m.0, m.1, f.other))
+      (named.same ∙ ap (λ m. (m, named.other)) named.first.same))) in
+      (
+        nested,
+        subst (λ m. Defines text what nested m d) (sym tokens)
+            (subst (λ m. Defines text what nested
+            (front ++ (returns.token ∷ returns.within.token ∷ body.token ∷ body.inner) ++ told.back ++ c.other ∷ []) m) (sym says)
+            (definition whole.is named.first.is named.second.gates returns.is returns.within.declares body.is body.within.spells
+            inner.1 c.second.is)),
+        within_both limit body.within.nesting inner.0 body.within.within inner.2,
+      )
 
   -- a token list spells one specification, with one nesting
   pub one_specification : (ts : List Token) (n m : ℕ) (x y : Def) → Specifies text n ts x → Specifies text m ts y →
