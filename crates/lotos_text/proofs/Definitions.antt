@@ -2,13 +2,15 @@
 use Rattle.std.proofs.Common.{◌≡◌, ℕ, ◌+◌, ◌<◌, ◌≤◌, max, Bool, List, [], ◌∷◌, ◌++◌, Option, Some, None, refl, sym, ◌∙◌, ap, append_assoc, arith, subst}
 use Rattle.lotos_text.specs.Tree as t
 use Rattle.lotos_text.specs.Tree.{Tree, Def, Defs}
-use Rattle.lotos_text.specs.Grammar.{Is, placed, enabling, Defined, a_specification, a_process, opening_word, defining_sign, closing_word, Defines, definition, Rest, nothing, definitions, Several, last, another, Specifies}
+use Rattle.lotos_text.specs.Grammar.{Is, placed, GateList, Declares, enabling, Defined, a_specification, a_process, opening_word, defining_sign, closing_word, Defines, definition, Rest, nothing, definitions, Several, last, another, Specifies}
 use Rattle.lotos_text.specs.Follow.{kind_rank, rank}
 use Rattle.lotos_text.specs.Parsing.{Part, Limit, Within, NotFirst}
 use Rattle.lotos_text.specs.Parts.{Then, Name, Gates, Expression, Declared, Returns, Heading, Header, Body, Row, Inner, no_inner, some_inner, defined, Contents, Definition, Nothing, Whole}
 use Rattle.lotos_text.specs.declared.token.Token.{Token}
-use Rattle.lotos_text.specs.declared.token.TokenKind.TheVariants.{Reserved}
+use Rattle.lotos_text.specs.declared.token.TokenKind.TheVariants.{Identifier, Reserved, Sign}
 use Rattle.lotos_text.specs.declared.token.Word.TheVariants as w
+use Rattle.lotos_text.specs.declared.token.Sign.TheVariants as s
+use Rattle.lotos_text.specs.declared.tree.Functionality.{Functionality}
 use Rattle.lotos_text.specs.declared.tree.Placed.{Placed}
 use Rattle.lotos_text.proofs.Firmness.{FirmWithin, firm_always, firm_then_within, firm_behind_within, firm_before_within, firm_expression, firm_header}
 use Rattle.lotos_text.proofs.FirstToken.{head_same, tail_same, same_is, not_first, is_first, starts_not}
@@ -196,14 +198,82 @@ module _ (text : List ℕ) where
   firm_whole = firm_then_within (λ whole end. whole) (Definition text a_specification) (λ _. Nothing)
       (firm_definition a_specification) (firm_always Nothing firm_nothing)
 
-  -- definitions as parts
+  -- headers as parts
 
-  -- what stands between body and last word, as a part
+  -- the tokens of a header, and what they say
+  record HeaderTokens (own : List Token) (said : Heading) : Type 0 where
+    pub name : Token
+    pub gates : List Token
+    pub colon : Token
+    pub returns : Token
+    pub formals : List Placed
+    pub func : Functionality
+    pub tokens : own ≡ (name ∷ gates) ++ colon ∷ returns ∷ []
+    pub names : Is name Identifier
+    pub listed : GateList text gates formals
+    pub separates : Is colon (Sign s.Colon)
+    pub declares : Declares returns func
+    pub same : said ≡ (placed text name, formals, func)
+
+  as_header : {name colon returns : Token} {gates : List Token} {formals : List Placed} {func : Functionality}
+      (behind : List Token) → Is name Identifier → GateList text gates formals → Is colon (Sign s.Colon) → Declares returns func →
+      Header text ((name ∷ gates) ++ colon ∷ returns ∷ []) (placed text name, formals, func) behind
+  as_header {name} {colon} {returns} {gates} {formals} {func} behind i g j d = record {
+    front = name ∷ gates;
+    back = colon ∷ returns ∷ [];
+    one = (placed text name, formals);
+    other = func;
+    joined = refl;
+    first = record {
+      front = name ∷ [];
+      back = gates;
+      one = placed text name;
+      other = formals;
+      joined = refl;
+      first = record { token = name; joined = refl; is = i; same = refl };
+      second = record { gates = g; quits = λ _. is_first j (λ e. cc) };
+      same = refl;
+    };
+    second = behind_token _ Declared colon (returns ∷ []) behind func j (record { token = returns; joined = refl; declares = d });
+    same = refl;
+  }
+
+  from_header : (own behind : List Token) (said : Heading) → Header text own said behind → HeaderTokens own said
+  from_header own behind said h =
+      let f = h.first in
+      let returns = uncover _ Declared h.back behind h.other h.second in
+      record {
+        name = f.first.token;
+        gates = f.back;
+        colon = returns.token;
+        returns = returns.within.token;
+        formals = f.other;
+        func = h.other;
+        tokens = h.joined ∙ ap (λ m. m ++ h.back) (f.joined ∙ ap (λ m. m ++ f.back) f.first.joined)
+            ∙ ap (λ m. (f.first.token ∷ f.back) ++ m) (returns.joined ∙ ap (λ m. returns.token ∷ m) returns.within.joined);
+        names = f.first.is;
+        listed = f.second.gates;
+        separates = returns.is;
+        declares = returns.within.declares;
+        same = h.same ∙ ap (λ (m : Placed × List Placed). (m.0, m.1, h.other))
+            (f.same ∙ ap (λ m. (m, f.other)) f.first.same);
+      }
+
+  -- inner definitions as parts
+
   as_inner : {m : ℕ} {own : List Token} {ds : Defs} (limit : Limit) (behind : List Token) → Rest text m own ds → Within limit m →
       NotFirst (Reserved w.WhereWord) behind → NotFirst (Reserved w.ProcessWord) behind → Inner text limit own ds behind
   as_inner limit behind nothing h row one = no_inner row
   as_inner limit behind (definitions {n = n} i d) h row one =
       some_inner i (record { nesting = n; several = d; ends = one; within = h })
+
+  from_inner : (limit : Limit) (own behind : List Token) (ds : Defs) → Inner text limit own ds behind →
+      (n : ℕ) × Rest text n own ds × Within limit n
+  from_inner None _ behind _ (no_inner h) = (0, nothing, tt)
+  from_inner (Some limit) _ behind _ (no_inner h) = (0, nothing, omega arith)
+  from_inner limit _ behind _ (some_inner i r) = (r.nesting, definitions i r.several, r.within)
+
+  -- definitions as parts
 
   -- a definition whose nesting is within the limit is the part
   pub as_definition : {what : Defined} {n : ℕ} {own : List Token} {d : Def} (limit : Limit) (behind : List Token) →
@@ -212,75 +282,49 @@ module _ (text : List ℕ) where
       (definition {word = word} {name = name} {colon = colon} {returns = returns} {define = define} {end = end} {gates = gates}
       {body = body} {rest = rest} {formals = formals} {func = func} {o = o} {n = n} {m = m} {x = x} {inner = inner}
       i j g c f k spells ds z) h =
-      let front = name ∷ gates in
-      let last : List Token = end ∷ [] in
-      let gates_before : Gates text gates formals (colon ∷ returns ∷ define ∷ (body ++ (rest ++ end ∷ behind))) =
-      record { gates = g; quits = λ _. is_first c (λ e. cc) } in
-      let expression : Expression text enabling limit body x (rest ++ end ∷ behind) = record {
+      let after : List Token = end ∷ behind in
+      let header = (name ∷ gates) ++ colon ∷ returns ∷ [] in
+      let heading : Heading = (placed text name, formals, func) in
+      let expression : Expression text enabling limit body x (rest ++ after) = record {
         ends = o;
         nesting = n;
         spells = spells;
-        quits = rank_none enabling o (rest ++ end ∷ behind)
-            (rest_rank (end ∷ behind) ds (rank_is behind z ∙ closing_rank what));
+        quits = rank_none enabling o (rest ++ after) (rest_rank after ds (rank_is behind z ∙ closing_rank what));
         within = within_first limit n m h;
       } in
-      let row = as_inner limit (end ∷ behind) ds (within_second limit n m h) (is_first z (closing_row what))
-      (is_first z (closing_one what)) in
-      behind_token (opening_word what) (Contents text what limit) word (front ++ (colon ∷ returns ∷ define ∷ body) ++ rest ++ last)
-          behind _ i
+      let headed : Headed what limit ((name ∷ gates) ++ colon ∷ returns ∷ define ∷ body) (heading, x) (rest ++ after) = record {
+        front = header;
+        back = define ∷ body;
+        one = heading;
+        other = x;
+        joined = sym (append_assoc (name ∷ gates) (colon ∷ returns ∷ []) (define ∷ body));
+        first = as_header (define ∷ (body ++ (rest ++ after))) j g c f;
+        second = behind_token _ (Expression text enabling limit) define body (rest ++ after) x k expression;
+        same = refl;
+      } in
+      let told : Told what limit ((name ∷ gates) ++ (colon ∷ returns ∷ define ∷ body) ++ rest) (defined (heading, x) inner) after =
+      record {
+        front = (name ∷ gates) ++ colon ∷ returns ∷ define ∷ body;
+        back = rest;
+        one = (heading, x);
+        other = inner;
+        joined = refl;
+        first = headed;
+        second = as_inner limit after ds (within_second limit n m h) (is_first z (closing_row what)) (is_first z (closing_one what));
+        same = refl;
+      } in
+      behind_token (opening_word what) (Contents text what limit) word
+          ((name ∷ gates) ++ (colon ∷ returns ∷ define ∷ body) ++ rest ++ end ∷ []) behind _ i
           (record {
-            front = front ++ (colon ∷ returns ∷ define ∷ body) ++ rest;
-            back = last;
-            one = defined ((placed text name, formals, func), x) inner;
+            front = (name ∷ gates) ++ (colon ∷ returns ∷ define ∷ body) ++ rest;
+            back = end ∷ [];
+            one = defined (heading, x) inner;
             other = end;
             joined = refl;
-            first = record {
-              front = front ++ colon ∷ returns ∷ define ∷ body;
-              back = rest;
-              one = ((placed text name, formals, func), x);
-              other = inner;
-              joined = refl;
-              first = record {
-                front = front ++ colon ∷ returns ∷ [];
-                back = define ∷ body;
-                one = (placed text name, formals, func);
-                other = x;
-                joined = sym (append_assoc front (colon ∷ returns ∷ []) (define ∷ body));
-                first = record {
-                  front = front;
-                  back = colon ∷ returns ∷ [];
-                  one = (placed text name, formals);
-                  other = func;
-                  joined = refl;
-                  first = record {
-                    front = name ∷ [];
-                    back = gates;
-                    one = placed text name;
-                    other = formals;
-                    joined = refl;
-                    first = record { token = name; joined = refl; is = j; same = refl };
-                    second = gates_before;
-                    same = refl;
-                  };
-                  second = behind_token _ Declared colon (returns ∷ []) _ func c
-                      (record { token = returns; joined = refl; declares = f });
-                  same = refl;
-                };
-                second = behind_token _ (Expression text enabling limit) define body (rest ++ end ∷ behind) x k expression;
-                same = refl;
-              };
-              second = row;
-              same = refl;
-            };
+            first = told;
             second = record { joined = refl; is = z };
             same = refl;
           })
-
-  from_inner : (limit : Limit) (own behind : List Token) (ds : Defs) → Inner text limit own ds behind →
-      (n : ℕ) × Rest text n own ds × Within limit n
-  from_inner None _ behind _ (no_inner h) = (0, nothing, tt)
-  from_inner (Some limit) _ behind _ (no_inner h) = (0, nothing, omega arith)
-  from_inner limit _ behind _ (some_inner i r) = (r.nesting, definitions i r.several, r.within)
 
   -- the part is a definition whose nesting is within the limit
   pub from_definition : {what : Defined} (limit : Limit) (own behind : List Token) (d : Def) →
@@ -289,40 +333,28 @@ module _ (text : List ℕ) where
       let whole = uncover (opening_word what) (Contents text what limit) own behind d w in
       let c = whole.within in
       let told = c.first in
-      let h = told.first in
-      let f = h.first in
-      let named = f.first in
-      let returns = uncover _ Declared f.back _ f.other f.second in
-      let body = uncover _ (Expression text enabling limit) h.back _ h.other h.second in
+      let f = told.first in
+      let header = from_header f.front _ f.one f.first in
+      let body = uncover _ (Expression text enabling limit) f.back _ f.other f.second in
       let inner = from_inner limit told.back _ told.other told.second in
-      let nested = max body.within.nesting inner.0 in
-      let name = named.first.token in
-      let gates = named.back in
-      let front = whole.token ∷ name ∷ gates in
-      let names : f.front ≡ name ∷ gates = named.joined ∙ ap (λ m. m ++ gates) named.first.joined in
-      let colon : f.back ≡ returns.token ∷ returns.within.token ∷ [] =
-      returns.joined ∙ ap (λ m. returns.token ∷ m) returns.within.joined in
-      let header : h.front ≡ (name ∷ gates) ++ returns.token ∷ returns.within.token ∷ [] =
-      f.joined ∙ ap (λ m. m ++ f.back) names ∙ ap (λ m. (name ∷ gates) ++ m) colon in
-      let headed : told.front ≡ (name ∷ gates) ++ returns.token ∷ returns.within.token ∷ body.token ∷ body.inner =
-      h.joined ∙ ap (λ m. m ++ h.back) header
-      ∙ ap (λ m. ((name ∷ gates) ++ returns.token ∷ returns.within.token ∷ []) ++ m) body.joined
-      ∙ append_assoc (name ∷ gates) (returns.token ∷ returns.within.token ∷ []) (body.token ∷ body.inner) in
-      let tokens : own ≡ front ++ (returns.token ∷ returns.within.token ∷ body.token ∷ body.inner) ++ told.back ++ c.other ∷ [] =
+      let gates = header.name ∷ header.gates in
+      let mid : List Token = header.colon ∷ header.returns ∷ body.token ∷ body.inner in
+      let headed : told.front ≡ gates ++ mid =
+      f.joined ∙ ap (λ m. m ++ f.back) header.tokens
+      ∙ ap (λ m. (gates ++ header.colon ∷ header.returns ∷ []) ++ m) body.joined
+      ∙ append_assoc gates (header.colon ∷ header.returns ∷ []) (body.token ∷ body.inner) in
+      let tokens : own ≡ (whole.token ∷ gates) ++ mid ++ told.back ++ c.other ∷ [] =
       whole.joined ∙ ap (λ m. whole.token ∷ m)
       (c.joined ∙ ap (λ m. m ++ c.back) (told.joined ∙ ap (λ m. m ++ told.back) headed)
-      ∙ ap (λ m. (((name ∷ gates) ++ returns.token ∷ returns.within.token ∷ body.token ∷ body.inner) ++ told.back) ++ m)
-      c.second.joined) in
-      let says : d ≡ t.def (placed text name) named.other f.other h.other told.other =
-      c.same ∙ told.same ∙ ap (λ m. defined m told.other) (h.same ∙ ap (λ m. (m, h.other))
-      (f.same ∙ ap (λ (m : Placed × List Placed). (m.0, m.1, f.other))
-      (named.same ∙ ap (λ m. (m, named.other)) named.first.same))) in
+      ∙ ap (λ m. ((gates ++ mid) ++ told.back) ++ m) c.second.joined) in
+      let says : d ≡ defined ((placed text header.name, header.formals, header.func), f.other) told.other =
+      c.same ∙ told.same ∙ ap (λ m. defined m told.other) (f.same ∙ ap (λ m. (m, f.other)) header.same) in
       (
-        nested,
-        subst (λ m. Defines text what nested m d) (sym tokens)
-            (subst (λ m. Defines text what nested
-            (front ++ (returns.token ∷ returns.within.token ∷ body.token ∷ body.inner) ++ told.back ++ c.other ∷ []) m) (sym says)
-            (definition whole.is named.first.is named.second.gates returns.is returns.within.declares body.is body.within.spells
+        max body.within.nesting inner.0,
+        subst (λ m. Defines text what (max body.within.nesting inner.0) m d) (sym tokens)
+            (subst (λ m. Defines text what (max body.within.nesting inner.0)
+            ((whole.token ∷ gates) ++ mid ++ told.back ++ c.other ∷ []) m) (sym says)
+            (definition whole.is header.names header.listed header.separates header.declares body.is body.within.spells
             inner.1 c.second.is)),
         within_both limit body.within.nesting inner.0 body.within.within inner.2,
       )
