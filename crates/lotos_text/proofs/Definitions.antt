@@ -1,11 +1,11 @@
 -- Definitions: a list begins with one of them, and with one row of them, and they are the parts that the parser finds.
-use Rattle.std.proofs.Common.{◌≡◌, ℕ, ◌+◌, ◌<◌, ◌≤◌, max, Bool, List, [], ◌∷◌, ◌++◌, Option, Some, None, refl, sym, ◌∙◌, ap, append_assoc, arith, subst}
+use Rattle.std.proofs.Common.{◌≡◌, ℕ, ◌+◌, max, List, [], ◌∷◌, ◌++◌, Some, None, refl, sym, ◌∙◌, ap, append_assoc, arith, subst}
 use Rattle.lotos_text.specs.Tree as t
 use Rattle.lotos_text.specs.Tree.{Tree, Def, Defs}
 use Rattle.lotos_text.specs.Grammar.{Is, placed, GateList, Declares, enabling, Defined, a_specification, a_process, opening_word, defining_sign, closing_word, Defines, definition, Rest, nothing, definitions, Several, last, another, Specifies}
 use Rattle.lotos_text.specs.Follow.{kind_rank, rank}
 use Rattle.lotos_text.specs.Parsing.{Part, Limit, Within, NotFirst}
-use Rattle.lotos_text.specs.Parts.{Then, Name, Gates, Expression, Declared, Returns, Heading, Header, Body, Row, Inner, no_inner, some_inner, defined, Contents, Definition, Nothing, Whole}
+use Rattle.lotos_text.specs.Parts.{Then, Expression, Declared, Heading, Header, Body, Row, Inner, no_inner, some_inner, defined, Contents, Definition, Nothing, Whole}
 use Rattle.lotos_text.specs.declared.token.Token.{Token}
 use Rattle.lotos_text.specs.declared.token.TokenKind.TheVariants.{Identifier, Reserved, Sign}
 use Rattle.lotos_text.specs.declared.token.Word.TheVariants as w
@@ -13,11 +13,10 @@ use Rattle.lotos_text.specs.declared.token.Sign.TheVariants as s
 use Rattle.lotos_text.specs.declared.tree.Functionality.{Functionality}
 use Rattle.lotos_text.specs.declared.tree.Placed.{Placed}
 use Rattle.lotos_text.proofs.Firmness.{FirmWithin, firm_always, firm_then_within, firm_behind_within, firm_before_within, firm_expression, firm_header}
-use Rattle.lotos_text.proofs.FirstToken.{head_same, tail_same, same_is, not_first, is_first, starts_not}
+use Rattle.lotos_text.proofs.FirstToken.{head_same, tail_same, not_first, is_first, starts_not}
 use Rattle.lotos_text.proofs.Levels.{rank_none, rank_is}
 use Rattle.lotos_text.proofs.NameLists.{unique_gates}
 use Rattle.lotos_text.proofs.OneToken.{same_functionality, firm_nothing, behind as behind_token, uncover}
-use Rattle.lotos_text.proofs.Sequence.{Same}
 use Rattle.lotos_text.proofs.Unique.{unique}
 
 -- four lists before a fifth

@@ -1,5 +1,5 @@
 -- Parts with a limit of nesting: each is the only one, whatever the limits, and so are two in a row.
-use Rattle.std.proofs.Common.{◌≡◌, ℕ, List, [], ◌∷◌, ◌++◌, sym, ◌∙◌, ap, append_assoc, arith, subst}
+use Rattle.std.proofs.Common.{◌≡◌, ℕ, List, ◌++◌, sym, ◌∙◌, ap, append_assoc, arith, subst}
 use Rattle.lotos_text.specs.Grammar.{Level}
 use Rattle.lotos_text.specs.Parsing.{Part, Limit, Found, Starts, Lost}
 use Rattle.lotos_text.specs.Parts.{Then, One, Behind, Before, Name, Gates, Operation, Expression, Declared, Returns, Heading, Header}

@@ -1,4 +1,4 @@
-use Rattle.lotos_text.proofs.Definitions.{one_specification, as_definition, from_definition}
+use Rattle.lotos_text.proofs.Definitions.{one_specification}
 use Rattle.lotos_text.proofs.laws.one_specification.Goals as goal
 
 pub returns : goal.returns
