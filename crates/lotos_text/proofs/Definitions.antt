@@ -100,7 +100,8 @@ module _ (text : List ℕ) where
         record {
           tokens = (let a = head_same front in let b = head_same (tail_same front) in let c = u.tokens in
               let d = head_same u.rest in let e = head_same (tail_same u.rest) in
-              let f = head_same (tail_same (tail_same u.rest)) in let g = v.tokens in let i = h.tokens in let j = head_same h.rest in cc);
+              let f = head_same (tail_same (tail_same u.rest)) in let g = v.tokens in let i = h.tokens in
+              let j = head_same h.rest in cc);
           nesting = (let a = v.nesting in let b = h.nesting in cc);
           tree = (let a = u.said in let b = v.tree in let c = h.tree in cc);
           rest = tail_same h.rest;
@@ -301,7 +302,8 @@ module _ (text : List ℕ) where
         second = behind_token _ (Expression text enabling limit) define body (rest ++ after) x k expression;
         same = refl;
       } in
-      let told : Told what limit ((name ∷ gates) ++ (colon ∷ returns ∷ define ∷ body) ++ rest) (defined (heading, x) inner) after =
+      let told : Told what limit ((name ∷ gates) ++ (colon ∷ returns ∷ define ∷ body) ++ rest)
+      (defined (heading, x) inner) after =
       record {
         front = (name ∷ gates) ++ colon ∷ returns ∷ define ∷ body;
         back = rest;
@@ -309,21 +311,22 @@ module _ (text : List ℕ) where
         other = inner;
         joined = refl;
         first = headed;
-        second = as_inner limit after ds (within_second limit n m h) (is_first z (closing_row what)) (is_first z (closing_one what));
+        second = as_inner limit after ds (within_second limit n m h) (is_first z (closing_row what))
+            (is_first z (closing_one what));
         same = refl;
       } in
       behind_token (opening_word what) (Contents text what limit) word
-          ((name ∷ gates) ++ (colon ∷ returns ∷ define ∷ body) ++ rest ++ end ∷ []) behind _ i
-          (record {
-            front = (name ∷ gates) ++ (colon ∷ returns ∷ define ∷ body) ++ rest;
-            back = end ∷ [];
-            one = defined (heading, x) inner;
-            other = end;
-            joined = refl;
-            first = told;
-            second = record { joined = refl; is = z };
-            same = refl;
-          })
+      ((name ∷ gates) ++ (colon ∷ returns ∷ define ∷ body) ++ rest ++ end ∷ []) behind _ i
+      (record {
+        front = (name ∷ gates) ++ (colon ∷ returns ∷ define ∷ body) ++ rest;
+        back = end ∷ [];
+        one = defined (heading, x) inner;
+        other = end;
+        joined = refl;
+        first = told;
+        second = record { joined = refl; is = z };
+        same = refl;
+      })
 
   -- the part is a definition whose nesting is within the limit
   pub from_definition : {what : Defined} (limit : Limit) (own behind : List Token) (d : Def) →
@@ -347,8 +350,7 @@ module _ (text : List ℕ) where
       (c.joined ∙ ap (λ m. m ++ c.back) (told.joined ∙ ap (λ m. m ++ told.back) headed)
       ∙ ap (λ m. ((gates ++ mid) ++ told.back) ++ m) c.second.joined) in
       let says : d ≡ defined ((placed text header.name, header.formals, header.func), f.other) told.other =
-      c.same ∙ told.same ∙ ap (λ m. defined m told.other) (f.same ∙ ap (λ m. (m, f.other)) header.same) in
-      (
+      c.same ∙ told.same ∙ ap (λ m. defined m told.other) (f.same ∙ ap (λ m. (m, f.other)) header.same) in (
         max body.within.nesting inner.0,
         subst (λ m. Defines text what (max body.within.nesting inner.0) m d) (sym tokens)
             (subst (λ m. Defines text what (max body.within.nesting inner.0)

@@ -90,7 +90,8 @@ module _ (text : List ℕ) where
     pub rest : listed ++ word ∷ (body ++ behind) ≡ ts
 
   -- what begins with `stop` is that word
-  pub taken_stop : {n : Token} {o : Bool} {m : ℕ} {own : List Token} {x : Tree} (behind ts : List Token) → Is n (Reserved w.StopWord) →
+  pub taken_stop : {n : Token} {o : Bool} {m : ℕ} {own : List Token} {x : Tree} (behind ts : List Token) →
+      Is n (Reserved w.StopWord) →
       Spells text prefixing o m own x → own ++ behind ≡ n ∷ ts → Leaf n t.stop o m own x
   taken_stop behind ts i (stop j) e = record { tokens = ap (λ m. m ∷ []) (head_same e); shut = refl; nesting = refl; tree = refl }
   taken_stop behind ts i (exit j) e = absurd (apart j i (head_same e) (λ e. cc))
@@ -103,7 +104,8 @@ module _ (text : List ℕ) where
   taken_stop behind ts i (operation b d j f) e = elim b [ ]
 
   -- what begins with `exit` is that word
-  pub taken_exit : {n : Token} {o : Bool} {m : ℕ} {own : List Token} {x : Tree} (behind ts : List Token) → Is n (Reserved w.ExitWord) →
+  pub taken_exit : {n : Token} {o : Bool} {m : ℕ} {own : List Token} {x : Tree} (behind ts : List Token) →
+      Is n (Reserved w.ExitWord) →
       Spells text prefixing o m own x → own ++ behind ≡ n ∷ ts → Leaf n t.exit o m own x
   taken_exit behind ts i (stop j) e = absurd (apart j i (head_same e) (λ e. cc))
   taken_exit behind ts i (exit j) e = record { tokens = ap (λ m. m ∷ []) (head_same e); shut = refl; nesting = refl; tree = refl }
@@ -116,7 +118,8 @@ module _ (text : List ℕ) where
   taken_exit behind ts i (operation b d j f) e = elim b [ ]
 
   -- what begins with a left parenthesis is in brackets
-  pub taken_brackets : {n : Token} {o : Bool} {m : ℕ} {own : List Token} {x : Tree} (behind ts : List Token) → Is n (Sign s.LeftParenthesis) →
+  pub taken_brackets : {n : Token} {o : Bool} {m : ℕ} {own : List Token} {x : Tree} (behind ts : List Token) →
+      Is n (Sign s.LeftParenthesis) →
       Spells text prefixing o m own x → own ++ behind ≡ n ∷ ts → Bracketed n o m own x behind ts
   taken_brackets behind ts i (stop j) e = absurd (apart j i (head_same e) (λ e. cc))
   taken_brackets behind ts i (exit j) e = absurd (apart j i (head_same e) (λ e. cc))
@@ -140,7 +143,8 @@ module _ (text : List ℕ) where
   taken_brackets behind ts i (operation b d j f) e = elim b [ ]
 
   -- what begins with `i` is a prefix of the internal action
-  pub taken_internal : {n : Token} {o : Bool} {m : ℕ} {own : List Token} {x : Tree} (behind ts : List Token) → Is n (Reserved w.IWord) →
+  pub taken_internal : {n : Token} {o : Bool} {m : ℕ} {own : List Token} {x : Tree} (behind ts : List Token) →
+      Is n (Reserved w.IWord) →
       Spells text prefixing o m own x → own ++ behind ≡ n ∷ ts → Prefixed n Internal o m own x behind ts
   taken_internal behind ts i (stop j) e = absurd (apart j i (head_same e) (λ e. cc))
   taken_internal behind ts i (exit j) e = absurd (apart j i (head_same e) (λ e. cc))
@@ -165,7 +169,8 @@ module _ (text : List ℕ) where
 
   -- what begins with an identifier is a call, or a prefix of that gate
   pub taken_name : {n : Token} {o : Bool} {m : ℕ} {own : List Token} {x : Tree} (behind ts : List Token) → Is n (Identifier) →
-      Spells text prefixing o m own x → own ++ behind ≡ n ∷ ts → Called n o m own x behind ts ⊎ Prefixed n (Gate (placed text n)) o m own x behind ts
+      Spells text prefixing o m own x →
+      own ++ behind ≡ n ∷ ts → Called n o m own x behind ts ⊎ Prefixed n (Gate (placed text n)) o m own x behind ts
   taken_name behind ts i (stop j) e = absurd (apart j i (head_same e) (λ e. cc))
   taken_name behind ts i (exit j) e = absurd (apart j i (head_same e) (λ e. cc))
   taken_name behind ts i (brackets j d k) e = absurd (apart j i (head_same e) (λ e. cc))
@@ -203,7 +208,8 @@ module _ (text : List ℕ) where
   not_listed behind ts (gates j d k) e i h = apart j i (head_same e) (λ e. cc)
 
   -- what begins with an action and a semicolon is a prefix of it
-  pub taken_prefix : {n semicolon : Token} {act : Action} {o : Bool} {m : ℕ} {own : List Token} {x : Tree} (behind ts : List Token) →
+  pub taken_prefix : {n semicolon : Token} {act : Action} {o : Bool} {m : ℕ} {own : List Token} {x : Tree}
+      (behind ts : List Token) →
       Acts text n act → Is semicolon (Sign s.Semicolon) → Spells text prefixing o m own x →
       own ++ behind ≡ n ∷ semicolon ∷ ts → rank behind < bound prefixing o → Prefixed n act o m own x behind (semicolon ∷ ts)
   taken_prefix {semicolon = semicolon} behind ts (internal i) j d e h = taken_internal behind (semicolon ∷ ts) i d e
@@ -216,7 +222,8 @@ module _ (text : List ℕ) where
       only (inr p) = p
 
   -- what begins with `hide`, at any level, is a hide form
-  pub taken_hide : {n : Token} {l : Level} {o : Bool} {m : ℕ} {own : List Token} {x : Tree} (behind ts : List Token) → Is n (Reserved w.HideWord) →
+  pub taken_hide : {n : Token} {l : Level} {o : Bool} {m : ℕ} {own : List Token} {x : Tree} (behind ts : List Token) →
+      Is n (Reserved w.HideWord) →
       Spells text l o m own x → own ++ behind ≡ n ∷ ts → Hidden n o m own x behind ts
   taken_hide behind ts i (stop j) e = absurd (apart j i (head_same e) (λ e. cc))
   taken_hide behind ts i (exit j) e = absurd (apart j i (head_same e) (λ e. cc))
@@ -224,7 +231,8 @@ module _ (text : List ℕ) where
   taken_hide behind ts i (call j g) e = absurd (apart j i (head_same e) (λ e. cc))
   taken_hide behind ts i (prefix (gate j) k d) e = absurd (apart j i (head_same e) (λ e. cc))
   taken_hide behind ts i (prefix (internal j) k d) e = absurd (apart j i (head_same e) (λ e. cc))
-  taken_hide behind ts i (hide {within = word} {o = within} {n = depth} {gates = listed} {ts = body} {names = names} {x = after} j g k d) e =
+  taken_hide behind ts i (hide {within = word} {o = within} {n = depth} {gates = listed} {ts = body}
+      {names = names} {x = after} j g k d) e =
       record {
         listed = listed;
         names = names;
