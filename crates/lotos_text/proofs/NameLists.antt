@@ -128,6 +128,8 @@ module _ (text : List ℕ) where
         rest = tail_same (tail_same h.rest);
       }
 
+  -- so each of these parts is the only one
+
   pub firm_sync_list : Firm (SyncList text)
   firm_sync_list a b r more q x y p st o e = unique_sync_list more q p o e
 
