@@ -2,6 +2,7 @@ pub mod Insides
 pub mod Words
 pub mod Reserved
 pub mod Marks
+pub mod Comments
 pub mod Fronts
 pub mod Cutting
 pub mod Standing

@@ -94,8 +94,8 @@ fn comment_length(text: &[u8]) -> Option<usize>
     ensures open { IfNone result (Unclosed text.now) }
 {
     let mut at = 2;
-    while at + 1 < text.len() {
-        if text[at] == b'*' && text[at + 1] == b')' {
+    while at < text.len() {
+        if text[at..].starts_with(b"*)") {
             return Some(at + 2);
         }
         at += 1;
