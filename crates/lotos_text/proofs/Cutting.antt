@@ -3,10 +3,10 @@ use Rattle.std.proofs.Common.{◌≡◌, ℕ, ◌+◌, ◌-◌, ◌<◌, ◌≤�
 use Rattle.std.proofs.lemmas.List.{drop-drop, take_all, append-nil}
 use Rattle.std.proofs.Math.ListN.{drop_of_length-le}
 use Rattle.std.proofs.Math.Seq.{drop-append_seam}
-use Rattle.lotos_text.specs.Cut.{Cuts, nothing, blank, comment, word, mark, Cut, IsWord, spelled, token}
+use Rattle.lotos_text.specs.Cut.{Cuts, nothing, blank, comment, word, mark, Cut, SticksAtByte, SticksAtComment, IsWord, spelled, token}
 use Rattle.lotos_text.specs.Front.{Front, a_blank, a_comment, a_word, a_mark, no_end, no_piece}
 use Rattle.lotos_text.specs.declared.lexer.Piece.{Piece}
-use Rattle.lotos_text.specs.declared.lexer.Piece.TheVariants.{Blank, Comment, Token as a_token}
+use Rattle.lotos_text.specs.declared.lexer.Piece.TheVariants.{Blank, Comment, Token as a_token, Unclosed as Unended, Unknown}
 use Rattle.lotos_text.specs.declared.token.Sign.{Sign}
 use Rattle.lotos_text.specs.declared.token.Sign.TheVariants as s
 use Rattle.lotos_text.specs.declared.token.Token.{Token}
@@ -127,3 +127,17 @@ pub reached_end : (text : List ℕ) (at : ℕ) (found : List Token) → Reached 
 reached_end text at found r h =
     let e : at ≡ length text = omega (arith, r.inside) in
     subst (λ n. Cuts 0 text found n []) e (subst (λ t. Cuts 0 text found at t) (drop_of_length-le text h) r.cut)
+
+-- where nothing begins at the offset, or a comment that is not closed, the text sticks there
+pub stuck_at_byte : (text : List ℕ) (at : ℕ) (found : List Token) → Reached text at found → Front (rest_of text at) Unknown → SticksAtByte text at
+stuck_at_byte text at found r f = here (front_at text at Unknown f)
+  where
+    here : Front (drop at text) Unknown → SticksAtByte text at
+    here (no_piece b rest e i) =
+        record { before = found; byte = b; rest = rest; cut = subst (λ t. Cuts 0 text found at t) e r.cut; strange = i }
+
+pub stuck_at_comment : (text : List ℕ) (at : ℕ) (found : List Token) → Reached text at found → Front (rest_of text at) Unended → SticksAtComment text at
+stuck_at_comment text at found r f = here (front_at text at Unended f)
+  where
+    here : Front (drop at text) Unended → SticksAtComment text at
+    here (no_end u) = record { before = found; rest = drop at text; cut = r.cut; unclosed = u }
