@@ -6,6 +6,7 @@ pub mod Comments
 pub mod Fronts
 pub mod Cutting
 pub mod Standing
+pub mod CutLengths
 pub mod Cuts
 pub mod FirstToken
 pub mod Sequence
