@@ -101,8 +101,7 @@ comment_found text at o n h =
     let c : Begins closing (drop at text) = subst (λ l. Begins closing l) (from_is text at) (begins_true closing (from text at) h) in
     let inside : at + 2 ≤ length text = omega (arith, ap length c.1, length-drop at text, n.inside) in
     let long : length (take (at + 2) text) ≡ at + 2 = length-take-le (at + 2) text inside in
-    let whole : text ≡ take (at + 2) text ++ drop (at + 2) text = sym (take-append-drop (at + 2) text) in
-    (
+    let whole : text ≡ take (at + 2) text ++ drop (at + 2) text = sym (take-append-drop (at + 2) text) in (
       record {
         closed = (take (at - 2) o.0, closed_here text at o n.behind_opening n.inside c ∙ ap (λ l. l ++ closing) (opened_front text o.0 at o.1 n.behind_opening));
         first = λ front rest e k.
@@ -128,7 +127,7 @@ not_shorter front rest piece more text e f c i = elim (cases_order (length front
   | inr (inl less) ↦
       let n = length front in
       let own : take n piece ≡ front =
-          sym (take-append-le n piece more (omega (arith, less))) ∙ ap (take n) (sym f ∙ e) ∙ take-append_seam front rest in
+      sym (take-append-le n piece more (omega (arith, less))) ∙ ap (take n) (sym f ∙ e) ∙ take-append_seam front rest in
       let split : piece ≡ front ++ drop n piece = sym (take-append-drop n piece) ∙ ap (λ l. l ++ drop n piece) own in
       omega (arith, less, length-drop n piece, ap length (i.first front (drop n piece) split c))
   | inr (inr more) ↦ omega (arith, more)
