@@ -16,6 +16,6 @@ pub mod Unique
 pub mod Openings
 pub mod Expressions
 pub mod Stops
-pub mod Wholes
+pub mod Headers
 pub mod Answered
 pub mod Views
