@@ -17,5 +17,6 @@ pub mod Openings
 pub mod Expressions
 pub mod Stops
 pub mod Headers
+pub mod Contents
 pub mod Answered
 pub mod Views
