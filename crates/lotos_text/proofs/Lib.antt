@@ -13,6 +13,8 @@ pub mod NameLists
 pub mod Operands
 pub mod Levels
 pub mod Unique
+pub mod Firmness
+pub mod Definitions
 pub mod Openings
 pub mod Expressions
 pub mod Stops

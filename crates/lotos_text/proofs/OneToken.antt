@@ -40,6 +40,13 @@ firm_one k a b r more q x y p st o e =
     let h = same_token a b more q x y p.joined o.joined e in
     record { tokens = (let i = p.joined in let j = o.joined in let l = head_same h in cc); said = head_same h; rest = tail_same h }
 
+-- one token is one functionality
+pub same_functionality : {n m : Token} {x y : Functionality} → Declares n x → Declares m y → n ≡ m → x ≡ y
+same_functionality (exits i) (exits j) e = refl
+same_functionality (exits i) (never_exits j) e = absurd (apart i j e (λ e. cc))
+same_functionality (never_exits i) (exits j) e = absurd (apart i j e (λ e. cc))
+same_functionality (never_exits i) (never_exits j) e = refl
+
 -- a functionality is the only one
 pub firm_declared : Firm Declared
 firm_declared a b r more q x y p st o e =
@@ -49,12 +56,6 @@ firm_declared a b r more q x y p st o e =
       said = same_functionality p.declares o.declares (head_same h);
       rest = tail_same h;
     }
-  where
-    same_functionality : {n m : Token} {x y : Functionality} → Declares n x → Declares m y → n ≡ m → x ≡ y
-    same_functionality (exits i) (exits j) e = refl
-    same_functionality (exits i) (never_exits j) e = absurd (apart i j e (λ e. cc))
-    same_functionality (never_exits i) (exits j) e = absurd (apart i j e (λ e. cc))
-    same_functionality (never_exits i) (never_exits j) e = refl
 
 pub found_declared : (ts rest : List Token) (n : Token) (x : Functionality) → ts ≡ n ∷ rest → Declares n x →
     Found Declared ts x rest
