@@ -1,104 +1,176 @@
 -- A text has one cut, or sticks at one place, and never both.
 use Rattle.std.proofs.Common.{◌≡◌, ℕ, ◌+◌, List, [], ◌∷◌, ◌++◌, length, drop, refl, sym, ap, ◌∙◌, subst, arith}
-use Rattle.std.proofs.lemmas.List.{append-nil}
 use Rattle.std.proofs.Math.Seq.{drop-append_seam}
-use Rattle.lotos_text.specs.Cut.{Cuts, nothing, blank, word, mark, Cut, Sticks, spelled, token, word_kind}
-use Rattle.lotos_text.specs.Front.{Front, a_blank, a_word, a_mark, no_piece}
+use Rattle.lotos_text.specs.Cut.{Cuts, nothing, blank, comment, word, mark, Cut, Sticks, at_byte, at_comment, spelled, token, word_kind}
+use Rattle.lotos_text.specs.Front.{Front, a_blank, a_comment, a_word, a_mark, no_end, no_piece}
 use Rattle.lotos_text.specs.declared.lexer.Piece.{Piece}
-use Rattle.lotos_text.specs.declared.lexer.Piece.TheVariants.{Blank, Token as a_token, Unknown}
+use Rattle.lotos_text.specs.declared.lexer.Piece.TheVariants.{Blank, Comment, Token as a_token, Unclosed as Unended, Unknown}
 use Rattle.lotos_text.specs.declared.token.Token.{Token}
 use Rattle.lotos_text.specs.declared.token.TokenKind.{TokenKind}
 use Rattle.lotos_text.specs.declared.token.TokenKind.TheVariants.{Sign as of_sign}
 use Rattle.lotos_text.proofs.Fronts.{one_front}
 use Rattle.lotos_text.proofs.Cutting.{front_some}
 
--- how a cut of the whole text begins
-data Next (at : ℕ) (text : List ℕ) (ts : List Token) (end : ℕ) : Type 0 where
-  at_end : text ≡ [] → ts ≡ [] → Next at text ts end
-  at_blank : Front text Blank → Cuts (at + 1) (drop 1 text) ts end [] → Next at text ts end
-  at_token : (n : ℕ) (kind : TokenKind) (us : List Token) → Front text (a_token n kind) → ts ≡ token at n kind ∷ us →
-      Cuts (at + n) (drop n text) us end [] → Next at text ts end
-
--- what stands at the front of a text begins its cut
-next : {at end : ℕ} {text : List ℕ} {ts : List Token} → Cuts at text ts end [] → Next at text ts end
-next nothing = at_end refl refl
-next (blank {b} {text} i d) = at_blank (a_blank b text refl i) d
-next (word {at} {end} found {text} {ts} i f d) =
-    at_token (length found) (word_kind found) ts (a_word found text refl i f) refl
-    (subst (λ t. Cuts (at + length found) t ts end []) (sym (drop-append_seam found text)) d)
-next (mark {at} {end} sign {text} {ts} i d) =
-    at_token (length (spelled sign)) (of_sign sign) ts (a_mark sign text refl i) refl
-    (subst (λ t. Cuts (at + length (spelled sign)) t ts end []) (sym (drop-append_seam (spelled sign) text)) d)
+-- no cut goes on here: no blank, comment or token stands at the front
+record Halts (text : List ℕ) : Type 0 where
+  no_blank : Front text Blank → ⊥
+  no_comment : (n : ℕ) → Front text (Comment n) → ⊥
+  no_token : (n : ℕ) (kind : TokenKind) → Front text (a_token n kind) → ⊥
 
 -- an empty text has no piece
 nothing_in : {p : Piece} → Front [] p → ⊥
 nothing_in f = omega (arith, front_some f)
 
--- a cut of the whole text takes the blank that stands at its front
-past_blank : {at end : ℕ} {text : List ℕ} {ts : List Token} → Front text Blank → Next at text ts end → Cuts (at + 1) (drop 1 text) ts end []
-past_blank f (at_end e g) = absurd (nothing_in (subst (λ t. Front t Blank) e f))
-past_blank f (at_blank g d) = d
-past_blank f (at_token n kind us g e d) = absurd (cc (one_front f g))
+halts_end : Halts []
+halts_end = record { no_blank = nothing_in; no_comment = λ n f. nothing_in f; no_token = λ n kind f. nothing_in f }
+
+halts_unknown : {text : List ℕ} → Front text Unknown → Halts text
+halts_unknown u = record {
+  no_blank = λ f. cc (one_front u f);
+  no_comment = λ n f. cc (one_front u f);
+  no_token = λ n kind f. cc (one_front u f);
+}
+
+halts_unended : {text : List ℕ} → Front text Unended → Halts text
+halts_unended u = record {
+  no_blank = λ f. cc (one_front u f);
+  no_comment = λ n f. cc (one_front u f);
+  no_token = λ n kind f. cc (one_front u f);
+}
+
+-- how a cut up to the last text begins
+data Next (at : ℕ) (text : List ℕ) (ts : List Token) (end : ℕ) (last : List ℕ) : Type 0 where
+  ended : text ≡ last → ts ≡ [] → at ≡ end → Next at text ts end last
+  blank_first : Front text Blank → Cuts (at + 1) (drop 1 text) ts end last → Next at text ts end last
+  comment_first : (n : ℕ) → Front text (Comment n) → Cuts (at + n) (drop n text) ts end last → Next at text ts end last
+  token_first : (n : ℕ) (kind : TokenKind) (us : List Token) → Front text (a_token n kind) → ts ≡ token at n kind ∷ us →
+      Cuts (at + n) (drop n text) us end last → Next at text ts end last
+
+-- what stands at the front of a text begins its cut
+next : {at end : ℕ} {text last : List ℕ} {ts : List Token} → Cuts at text ts end last → Next at text ts end last
+next nothing = ended refl refl refl
+next (blank {b} {text} i d) = blank_first (a_blank b text refl i) d
+next (comment {at} {end} piece {text} {rest} {ts} i d) =
+    comment_first (length piece) (a_comment piece text refl i) (subst (λ t. Cuts (at + length piece) t ts end rest) (sym (drop-append_seam piece text)) d)
+next (word {at} {end} found {text} {rest} {ts} i f d) =
+    token_first (length found) (word_kind found) ts (a_word found text refl i f) refl
+    (subst (λ t. Cuts (at + length found) t ts end rest) (sym (drop-append_seam found text)) d)
+next (mark {at} {end} sign {text} {rest} {ts} i d) =
+    token_first (length (spelled sign)) (of_sign sign) ts (a_mark sign text refl i) refl
+    (subst (λ t. Cuts (at + length (spelled sign)) t ts end rest) (sym (drop-append_seam (spelled sign) text)) d)
 
 -- a cut goes on behind the token
-record Past (at n : ℕ) (kind : TokenKind) (text : List ℕ) (ts : List Token) (end : ℕ) : Type 0 where
+record Past (at n : ℕ) (kind : TokenKind) (text : List ℕ) (ts : List Token) (end : ℕ) (last : List ℕ) : Type 0 where
   more : List Token
   begins : ts ≡ token at n kind ∷ more
-  cut : Cuts (at + n) (drop n text) more end []
+  cut : Cuts (at + n) (drop n text) more end last
 
--- a cut of the whole text takes the token that stands at its front
-past_token : {at end n : ℕ} {kind : TokenKind} {text : List ℕ} {ts : List Token} → Front text (a_token n kind) → Next at text ts end → Past at n kind text ts end
-past_token {n} {kind} f (at_end e g) = absurd (nothing_in (subst (λ t. Front t (a_token n kind)) e f))
-past_token f (at_blank g d) = absurd (cc (one_front f g))
-past_token {at} {end} {n} {kind} {text} {ts} f (at_token m other us g e d) =
-    let same = one_front g f in
-    let length_same : m ≡ n = cc in
-    let kind_same : other ≡ kind = cc in
-    record {
-      more = us;
-      begins = e ∙ ap (λ k. token at k other ∷ us) length_same ∙ ap (λ k. token at n k ∷ us) kind_same;
-      cut = subst (λ k. Cuts (at + k) (drop k text) us end []) length_same d;
-    }
+-- two cuts end alike
+record Alike (us ts : List Token) (fin end : ℕ) (rest last : List ℕ) : Type 0 where
+  tokens : us ≡ ts
+  place : fin ≡ end
+  left : rest ≡ last
 
--- a cut of the whole text goes on where another one, of its beginning, ends
-record Meets (us ts : List Token) (at : ℕ) (rest : List ℕ) (end : ℕ) : Type 0 where
-  more : List Token
-  begins : ts ≡ us ++ more
-  cut : Cuts at rest more end []
+-- a cut stays where it halts
+stays : {at end : ℕ} {text last : List ℕ} {ts : List Token} → Halts text → Next at text ts end last → Alike [] ts at end text last
+stays h (ended e g p) = record { tokens = sym g; place = p; left = e }
+stays h (blank_first f d) = absurd (h.no_blank f)
+stays h (comment_first n f d) = absurd (h.no_comment n f)
+stays h (token_first n kind us f e d) = absurd (h.no_token n kind f)
 
--- two cuts that meet do so with one token more before both
-meet_token : {us ts : List Token} {at : ℕ} {rest : List ℕ} {end : ℕ} (t : Token) (ws : List Token) → ws ≡ t ∷ ts → Meets us ts at rest end → Meets (t ∷ us) ws at rest end
-meet_token t ws e m = record { more = m.more; begins = e ∙ ap (λ k. t ∷ k) m.begins; cut = m.cut }
+-- cuts that go on until they halt
 
--- a cut of the whole text begins with the tokens of each cut of its beginning
-meet : {at fin : ℕ} {text rest : List ℕ} {us : List Token} → Cuts at text us fin rest → (ts : List Token) (end : ℕ) → Cuts at text ts end [] → Meets us ts fin rest end
-meet nothing ts end d = record { more = ts; begins = refl; cut = d }
-meet (blank {b} {text} i c) ts end d = meet c ts end (past_blank (a_blank b text refl i) (next d))
-meet (word {at} found {text} i f c) ts end d =
-    let past = past_token (a_word found text refl i f) (next d) in
-    meet_token (token at (length found) (word_kind found)) ts past.begins
-    (meet c past.more end (subst (λ t. Cuts (at + length found) t past.more end []) (drop-append_seam found text) past.cut))
-meet (mark {at} sign {text} i c) ts end d =
-    let past = past_token (a_mark sign text refl i) (next d) in
-    meet_token (token at (length (spelled sign)) (of_sign sign)) ts past.begins
-    (meet c past.more end (subst (λ t. Cuts (at + length (spelled sign)) t past.more end []) (drop-append_seam (spelled sign) text) past.cut))
+module _ (end : ℕ) (last : List ℕ) (k : Halts last) where
+  -- such a cut takes the piece that stands at the front
+  past_blank : {at : ℕ} {text : List ℕ} {ts : List Token} → Front text Blank → Next at text ts end last → Cuts (at + 1) (drop 1 text) ts end last
+  past_blank f (ended e g p) = absurd (k.no_blank (subst (λ t. Front t Blank) e f))
+  past_blank f (blank_first g d) = d
+  past_blank f (comment_first n g d) = absurd (cc (one_front f g))
+  past_blank f (token_first n kind us g e d) = absurd (cc (one_front f g))
 
--- the cut of an empty text has no token
-ended : {at end : ℕ} {ts : List Token} → Next at [] ts end → ts ≡ []
-ended (at_end e g) = g
-ended (at_blank f d) = absurd (nothing_in f)
-ended (at_token n kind us f e d) = absurd (nothing_in f)
+  past_comment : {at n : ℕ} {text : List ℕ} {ts : List Token} → Front text (Comment n) → Next at text ts end last → Cuts (at + n) (drop n text) ts end last
+  past_comment {n = n} f (ended e g p) = absurd (k.no_comment n (subst (λ t. Front t (Comment n)) e f))
+  past_comment f (blank_first g d) = absurd (cc (one_front f g))
+  past_comment {at} {n} {text} {ts} f (comment_first m g d) =
+      let same = one_front g f in
+      let length_same : m ≡ n = cc in
+      subst (λ l. Cuts (at + l) (drop l text) ts end last) length_same d
+  past_comment f (token_first m kind us g e d) = absurd (cc (one_front f g))
 
+  past_token : {at n : ℕ} {kind : TokenKind} {text : List ℕ} {ts : List Token} → Front text (a_token n kind) → Next at text ts end last →
+      Past at n kind text ts end last
+  past_token {n = n} {kind} f (ended e g p) = absurd (k.no_token n kind (subst (λ t. Front t (a_token n kind)) e f))
+  past_token f (blank_first g d) = absurd (cc (one_front f g))
+  past_token f (comment_first m g d) = absurd (cc (one_front f g))
+  past_token {at} {n} {kind} {text} {ts} f (token_first m other us g e d) =
+      let same = one_front g f in
+      let length_same : m ≡ n = cc in
+      let kind_same : other ≡ kind = cc in
+      record {
+        more = us;
+        begins = e ∙ ap (λ l. token at l other ∷ us) length_same ∙ ap (λ l. token at n l ∷ us) kind_same;
+        cut = subst (λ l. Cuts (at + l) (drop l text) us end last) length_same d;
+      }
+
+  -- one token more before both
+  behind_token : {us vs : List Token} {fin : ℕ} {rest : List ℕ} (t : Token) (ts : List Token) → ts ≡ t ∷ vs → Alike us vs fin end rest last →
+      Alike (t ∷ us) ts fin end rest last
+  behind_token t ts e a = record { tokens = ap (λ l. t ∷ l) a.tokens ∙ sym e; place = a.place; left = a.left }
+
+  -- two cuts of one text that go on until they halt are alike
+  alike : {at fin : ℕ} {text rest : List ℕ} {us : List Token} → Halts rest → Cuts at text us fin rest → (ts : List Token) → Cuts at text ts end last →
+      Alike us ts fin end rest last
+  alike h nothing ts d = stays h (next d)
+  alike h (blank {b} {text} i c) ts d = alike h c ts (past_blank (a_blank b text refl i) (next d))
+  alike h (comment {at} piece {text} i c) ts d =
+      let past = past_comment (a_comment piece text refl i) (next d) in
+      alike h c ts (subst (λ t. Cuts (at + length piece) t ts end last) (drop-append_seam piece text) past)
+  alike h (word {at} found {text} i f c) ts d =
+      let past = past_token (a_word found text refl i f) (next d) in
+      behind_token (token at (length found) (word_kind found)) ts past.begins
+      (alike h c past.more (subst (λ t. Cuts (at + length found) t past.more end last) (drop-append_seam found text) past.cut))
+  alike h (mark {at} sign {text} i c) ts d =
+      let past = past_token (a_mark sign text refl i) (next d) in
+      behind_token (token at (length (spelled sign)) (of_sign sign)) ts past.begins
+      (alike h c past.more (subst (λ t. Cuts (at + length (spelled sign)) t past.more end last) (drop-append_seam (spelled sign) text) past.cut))
+
+-- where the text sticks its cut halts, before the end
+record Stuck (text : List ℕ) (at : ℕ) : Type 0 where
+  before : List Token
+  rest : List ℕ
+  cut : Cuts 0 text before at rest
+  halts : Halts rest
+  more : rest ≡ [] → ⊥
+
+stuck : {text : List ℕ} {at : ℕ} → Sticks text at → Stuck text at
+stuck (at_byte s) = record {
+  before = s.before;
+  rest = s.byte ∷ s.rest;
+  cut = s.cut;
+  halts = halts_unknown (no_piece s.byte s.rest refl s.strange);
+  more = λ e. cc;
+}
+stuck (at_comment s) = record {
+  before = s.before;
+  rest = s.rest;
+  cut = s.cut;
+  halts = halts_unended (no_end s.unclosed);
+  more = λ e. nothing_in (subst (λ t. Front t Unended) e (no_end s.unclosed));
+}
+
+-- a text has one cut
 pub one_cut : (text : List ℕ) (ts us : List Token) → Cut text ts → Cut text us → ts ≡ us
-one_cut text ts us c d =
-    let m = meet d ts (length text) c in
-    m.begins ∙ ap (λ k. us ++ k) (ended (next m.cut)) ∙ append-nil us
+one_cut text ts us c d = (alike (length text) [] halts_end halts_end c us d).tokens
 
--- no cut of the whole text passes a byte that begins no piece
-stuck : {at end : ℕ} {text : List ℕ} {ts : List Token} → Front text Unknown → Next at text ts end → ⊥
-stuck f (at_end e g) = nothing_in (subst (λ t. Front t Unknown) e f)
-stuck f (at_blank g d) = cc (one_front f g)
-stuck f (at_token n kind us g e d) = cc (one_front f g)
+-- a text sticks at one offset at most
+pub one_place : (text : List ℕ) (at other : ℕ) → Sticks text at → Sticks text other → at ≡ other
+one_place text at other s t =
+    let first = stuck s in
+    let second = stuck t in
+    (alike other second.rest second.halts first.halts first.cut second.before second.cut).place
 
+-- a text that is cut does not stick
 pub sticks_uncut : (text : List ℕ) (ts : List Token) (at : ℕ) → Cut text ts → Sticks text at → ⊥
-sticks_uncut text ts at c s = stuck (no_piece s.byte s.rest refl s.strange) (next (meet s.cut ts (length text) c).cut)
+sticks_uncut text ts at c s =
+    let here = stuck s in
+    here.more (alike (length text) [] halts_end here.halts here.cut ts c).left

@@ -3,14 +3,15 @@ use Rattle.std.proofs.Common.{◌≡◌, ℕ, ◌+◌, ◌-◌, ◌<◌, ◌≤�
 use Rattle.std.proofs.lemmas.List.{drop-drop, take_all, append-nil}
 use Rattle.std.proofs.Math.ListN.{drop_of_length-le}
 use Rattle.std.proofs.Math.Seq.{drop-append_seam}
-use Rattle.lotos_text.specs.Cut.{Cuts, nothing, blank, word, mark, Cut, IsWord, spelled, token}
-use Rattle.lotos_text.specs.Front.{Front, a_blank, a_word, a_mark, no_piece}
+use Rattle.lotos_text.specs.Cut.{Cuts, nothing, blank, comment, word, mark, Cut, SticksAtByte, SticksAtComment, IsWord, spelled, token}
+use Rattle.lotos_text.specs.Front.{Front, a_blank, a_comment, a_word, a_mark, no_end, no_piece}
 use Rattle.lotos_text.specs.declared.lexer.Piece.{Piece}
-use Rattle.lotos_text.specs.declared.lexer.Piece.TheVariants.{Blank, Token as a_token}
+use Rattle.lotos_text.specs.declared.lexer.Piece.TheVariants.{Blank, Comment, Token as a_token, Unclosed as Unended, Unknown}
 use Rattle.lotos_text.specs.declared.token.Sign.{Sign}
 use Rattle.lotos_text.specs.declared.token.Sign.TheVariants as s
 use Rattle.lotos_text.specs.declared.token.Token.{Token}
 use Rattle.lotos_text.specs.declared.token.TokenKind.{TokenKind}
+use Rattle.lotos_text.proofs.Comments.{comment_some}
 
 -- behind the bytes at an offset the rest follows, and the text reaches so far
 pub behind : (text : List ℕ) (at : ℕ) (found rest : List ℕ) → drop at text ≡ found ++ rest → drop (at + length found) text ≡ rest
@@ -23,6 +24,7 @@ fits text at found rest h e = omega (arith, ap length e, length-drop at text, le
 join : {at mid end : ℕ} {text more rest : List ℕ} {ts us : List Token} → Cuts at text ts mid more → Cuts mid more us end rest → Cuts at text (ts ++ us) end rest
 join nothing d = d
 join (blank i c) d = blank i (join c d)
+join (comment piece i c) d = comment piece i (join c d)
 join (word found i f c) d = word found i f (join c d)
 join (mark sign i c) d = mark sign i (join c d)
 
@@ -31,6 +33,11 @@ cut_blank : (text : List ℕ) (at : ℕ) → Front (drop at text) Blank → Cuts
 cut_blank text at (a_blank b rest e i) =
     let C : List ℕ → List ℕ → Type 0 = λ t r. Cuts at t [] (at + 1) r in
     subst (λ t. C t (drop (at + 1) text)) (sym e) (subst (λ r. C (b ∷ rest) r) (sym (behind text at (b ∷ []) rest e)) (blank i nothing))
+
+cut_comment : (text : List ℕ) (at n : ℕ) → Front (drop at text) (Comment n) → Cuts at (drop at text) [] (at + n) (drop (at + n) text)
+cut_comment text at n (a_comment piece rest e i) =
+    let C : List ℕ → List ℕ → Type 0 = λ t r. Cuts at t [] (at + n) r in
+    subst (λ t. C t (drop (at + n) text)) (sym e) (subst (λ r. C (piece ++ rest) r) (sym (behind text at piece rest e)) (comment piece i nothing))
 
 cut_token : (text : List ℕ) (at n : ℕ) (kind : TokenKind) → Front (drop at text) (a_token n kind) →
     Cuts at (drop at text) (token at n kind ∷ []) (at + n) (drop (at + n) text)
@@ -55,14 +62,22 @@ pub token_some : {text : List ℕ} {n : ℕ} {kind : TokenKind} → Front text (
 token_some (a_word found rest e i f) = word_some found i
 token_some (a_mark sign rest e i) = mark_some sign
 
+pub comment_front_some : {text : List ℕ} {n : ℕ} → Front text (Comment n) → 0 < n
+comment_front_some (a_comment piece rest e i) = comment_some piece i
+
 -- a text with a piece at its front is not empty
 pub front_some : {text : List ℕ} {p : Piece} → Front text p → 0 < length text
 front_some (a_blank b rest e i) = omega (arith, ap length e)
+front_some (a_comment piece rest e i) = omega (arith, ap length e, length-append piece rest, comment_some piece i)
 front_some (a_word found rest e i f) = omega (arith, ap length e, length-append found rest, word_some found i)
 front_some (a_mark sign rest e i) = omega (arith, ap length e, length-append (spelled sign) rest, mark_some sign)
+front_some (no_end u) = omega (arith, ap length u.opens.1)
 front_some (no_piece b rest e i) = omega (arith, ap length e)
 
--- a token at the front ends in the text
+-- a comment and a token at the front end in the text
+comment_fits : (text : List ℕ) (at n : ℕ) → at ≤ length text → Front (drop at text) (Comment n) → at + n ≤ length text
+comment_fits text at n h (a_comment piece rest e i) = fits text at piece rest h e
+
 token_fits : (text : List ℕ) (at n : ℕ) (kind : TokenKind) → at ≤ length text → Front (drop at text) (a_token n kind) → at + n ≤ length text
 token_fits text at n kind h (a_word found rest e i f) = fits text at found rest h e
 token_fits text at n kind h (a_mark sign rest e i) = fits text at (spelled sign) rest h e
@@ -93,6 +108,14 @@ reached_blank text at found r f =
       cut = subst (λ ts. Cuts 0 text ts (at + 1) (drop (at + 1) text)) (append-nil found) (join r.cut (cut_blank text at g));
     }
 
+pub reached_comment : (text : List ℕ) (at n : ℕ) (found : List Token) → Reached text at found → Front (rest_of text at) (Comment n) → Reached text (at + n) found
+reached_comment text at n found r f =
+    let g = front_at text at (Comment n) f in
+    record {
+      inside = comment_fits text at n r.inside g;
+      cut = subst (λ ts. Cuts 0 text ts (at + n) (drop (at + n) text)) (append-nil found) (join r.cut (cut_comment text at n g));
+    }
+
 pub reached_token : (text : List ℕ) (at n : ℕ) (kind : TokenKind) (found : List Token) → Reached text at found → Front (rest_of text at) (a_token n kind) →
     Reached text (at + n) (found ++ token at n kind ∷ [])
 reached_token text at n kind found r f =
@@ -104,3 +127,17 @@ pub reached_end : (text : List ℕ) (at : ℕ) (found : List Token) → Reached 
 reached_end text at found r h =
     let e : at ≡ length text = omega (arith, r.inside) in
     subst (λ n. Cuts 0 text found n []) e (subst (λ t. Cuts 0 text found at t) (drop_of_length-le text h) r.cut)
+
+-- where nothing begins at the offset, or a comment that is not closed, the text sticks there
+pub stuck_at_byte : (text : List ℕ) (at : ℕ) (found : List Token) → Reached text at found → Front (rest_of text at) Unknown → SticksAtByte text at
+stuck_at_byte text at found r f = here (front_at text at Unknown f)
+  where
+    here : Front (drop at text) Unknown → SticksAtByte text at
+    here (no_piece b rest e i) =
+        record { before = found; byte = b; rest = rest; cut = subst (λ t. Cuts 0 text found at t) e r.cut; strange = i }
+
+pub stuck_at_comment : (text : List ℕ) (at : ℕ) (found : List Token) → Reached text at found → Front (rest_of text at) Unended → SticksAtComment text at
+stuck_at_comment text at found r f = here (front_at text at Unended f)
+  where
+    here : Front (drop at text) Unended → SticksAtComment text at
+    here (no_end u) = record { before = found; rest = drop at text; cut = r.cut; unclosed = u }

@@ -2,9 +2,11 @@ pub mod Insides
 pub mod Words
 pub mod Reserved
 pub mod Marks
+pub mod Comments
 pub mod Fronts
 pub mod Cutting
 pub mod Standing
+pub mod CutLengths
 pub mod Cuts
 pub mod FirstToken
 pub mod Sequence

@@ -6,7 +6,7 @@ use Rattle.std.proofs.lemmas.Slice.Eq.{starts_is}
 use Rattle.std.proofs.Math.Seq.{take-append_seam}
 use Rattle.std.specs.Char.{is_ascii_alphabetic}
 use Rattle.std.specs.List.{AllByRecursion, list_all, starts_with}
-use Rattle.lotos_text.specs.Cut.{is_blank, spelled, Begins, IsLongest}
+use Rattle.lotos_text.specs.Cut.{is_blank, spelled, Begins, opening, IsMark}
 use Rattle.lotos_text.specs.Front.{marks, mark_of}
 use Rattle.lotos_text.specs.declared.token.Sign.{Sign}
 use Rattle.lotos_text.specs.declared.token.Sign.TheVariants as s
@@ -81,9 +81,13 @@ find_none test (n ∷ ms) e =
       | inr f ↦ ((λ t. both_ways (test n) f t), find_none test ms (sym (cond-false (test n) (Some n) (find test ms) f) ∙ e))
     ]
 
--- what the mark is followed by, where it is the longest at the front
-pub mark_found : (text : List ℕ) (sign : Sign) → mark_of text ≡ Some sign → (rest : List ℕ) × (text ≡ spelled sign ++ rest) × IsLongest sign rest
-mark_found text sign e =
+-- before the rest the mark is the longest that stands there
+abbrev IsLongest : Sign → List ℕ → Type 0
+IsLongest sign rest = (other : Sign) → Begins (spelled other) (spelled sign ++ rest) → length (spelled other) ≤ length (spelled sign)
+
+-- what the mark is followed by, where it is found
+longest_found : (text : List ℕ) (sign : Sign) → mark_of text ≡ Some sign → (rest : List ℕ) × (text ≡ spelled sign ++ rest) × IsLongest sign rest
+longest_found text sign e =
     let found = find_longest (begins text) marks sign refl e in
     let front = begins_true text sign found.passes in (
       drop (length (spelled sign)) text,
@@ -92,6 +96,13 @@ mark_found text sign e =
           of_each (λ n. begins text n ≡ true → length (spelled n) ≤ length (spelled sign)) found.longest other
           (begins_from text other (b.0, front ∙ b.1)),
     )
+
+-- the mark that is found stands at the front, where no comment opens there
+pub mark_found : (text : List ℕ) (sign : Sign) → (Begins opening text → ⊥) → mark_of text ≡ Some sign →
+    (rest : List ℕ) × (text ≡ spelled sign ++ rest) × IsMark sign rest
+mark_found text sign o e =
+    let found = longest_found text sign e in
+    (found.0, found.1, record { longest = found.2; no_comment = λ b. o (b.0, found.1 ∙ b.1) })
 
 -- where none is found, no mark begins the text
 pub no_mark_found : (text : List ℕ) → mark_of text ≡ None → (sign : Sign) → Begins (spelled sign) text → ⊥
@@ -110,14 +121,14 @@ same_mark a b text rest more e f h =
     let named : Some a ≡ Some b = sym (mark_of_spelled a) ∙ ap mark_of (front ∙ back) ∙ mark_of_spelled b in
     cc
 
--- the mark that is the longest at the front of a text is the one that is found
-pub mark_of_longest : (text : List ℕ) (sign : Sign) (rest : List ℕ) → text ≡ spelled sign ++ rest → IsLongest sign rest → mark_of text ≡ Some sign
+-- the mark that stands at the front of a text is the one that is found
+pub mark_of_longest : (text : List ℕ) (sign : Sign) (rest : List ℕ) → text ≡ spelled sign ++ rest → IsMark sign rest → mark_of text ≡ Some sign
 mark_of_longest text sign rest e h =
     (elim (mark_of text) as (λ o. mark_of text ≡ o → o ≡ Some sign) [
       | None ↦ λ f. absurd (no_mark_found text f sign (rest, e))
       | Some m ↦ λ f.
-          let found = mark_found text m f in
-          let below = h m (found.0, sym e ∙ found.1) in
+          let found = longest_found text m f in
+          let below = h.longest m (found.0, sym e ∙ found.1) in
           let above = found.2 sign (rest, sym found.1 ∙ e) in
           ap Some (same_mark m sign text found.0 rest found.1 e (omega (arith, below, above)))
     ]) refl

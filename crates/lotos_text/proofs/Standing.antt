@@ -2,7 +2,7 @@
 use Rattle.std.proofs.Common.{◌≡◌, ℕ, ◌+◌, ◌-◌, ◌≤◌, List, [], ◌∷◌, ◌++◌, length, take, drop, refl, sym, ap, ◌∙◌, subst, arith}
 use Rattle.std.proofs.Math.Seq.{take-append_seam}
 use Rattle.std.specs.List.{AllByRecursion}
-use Rattle.lotos_text.specs.Cut.{Cuts, nothing, blank, word, mark, Cut, Stands, AllStand, IsWord, spelled}
+use Rattle.lotos_text.specs.Cut.{Cuts, nothing, blank, comment, word, mark, Cut, Stands, AllStand, IsWord, spelled}
 use Rattle.lotos_text.specs.declared.token.Token.{Token}
 use Rattle.lotos_text.proofs.Cutting.{behind, fits}
 
@@ -17,6 +17,7 @@ stand_from : {at end : ℕ} {text rest : List ℕ} {ts : List Token} → Cuts at
     AllByRecursion (Stands whole) ts
 stand_from nothing whole h e = tt
 stand_from (blank {at} {b = b} {text = text} i c) whole h e = stand_from c whole (fits whole at (b ∷ []) text h e) (behind whole at (b ∷ []) text e)
+stand_from (comment {at} piece {text} i c) whole h e = stand_from c whole (fits whole at piece text h e) (behind whole at piece text e)
 stand_from (word {at} found {text} i f c) whole h e =
     let inside = fits whole at found text h e in (
       record { ordered = omega arith; inside = inside; word = λ _. subst IsWord (sym (slice_is whole at found text e)) i },

@@ -94,8 +94,8 @@ fn comment_length(text: &[u8]) -> Option<usize>
     ensures open { IfNone result (Unclosed text.now) }
 {
     let mut at = 2;
-    while at + 1 < text.len() {
-        if text[at] == b'*' && text[at + 1] == b')' {
+    while at < text.len() {
+        if text[at..].starts_with(b"*)") {
             return Some(at + 2);
         }
         at += 1;
@@ -388,14 +388,113 @@ mod tests {
     }
 
     #[test]
-    fn refuses_what_begins_no_token(rt: HostRuntime) {
-        let rows: [(&str, &[u8], usize); 17] = [
-            ("an asterisk", b"*", 0),
+    fn separates_by_comments(rt: HostRuntime) -> Result<(), Fail> {
+        let left = sign(Sign::LeftBracket);
+        let right = sign(Sign::RightBracket);
+        let rows: [(&str, &[u8], &[TokenKind]); 11] = [
+            ("an empty comment", b"(**)", &[]),
+            ("stars alone", b"(****)", &[]),
+            ("a parenthesis behind the opening", b"(*)*)", &[]),
+            ("parentheses around a star", b"(*(*)", &[]),
+            ("a comment at the end", b"a (* b *)", &[NAME]),
+            ("a comment between two letters", b"a(**)b", &[NAME, NAME]),
             (
-                "an opened comment, which is a mark and an asterisk",
-                b"a (* b *)",
-                3,
+                "a comment inside a reserved word",
+                b"st(**)op",
+                &[NAME, NAME],
             ),
+            ("a comment inside a mark", b"[(**)]", &[left, right]),
+            ("words and marks in a comment", b"(*stop;[]*)a", &[NAME]),
+            (
+                "a comment in parentheses",
+                b"((*a*))",
+                &[sign(Sign::LeftParenthesis), sign(Sign::RightParenthesis)],
+            ),
+            (
+                "a parenthesis behind the closing",
+                b"(**))",
+                &[sign(Sign::RightParenthesis)],
+            ),
+        ];
+        for (row, text, want) in &rows {
+            let found = kinds(rt.alloc(), text)?;
+            assert_eq!(rt; found.as_slice(), *want, "{row}");
+        }
+        Ok(())
+    }
+
+    #[test]
+    fn places_tokens_behind_comments(rt: HostRuntime) -> Result<(), Fail> {
+        let rows: [(&str, &[u8], &[(usize, usize)]); 8] = [
+            ("behind a comment", b"(*a*)b", &[(5, 6)]),
+            ("on each side", b"a(**)b", &[(0, 1), (5, 6)]),
+            ("behind two comments", b"(*a*)(*b*);", &[(10, 11)]),
+            (
+                "between comments and blanks",
+                b"(* a *) b (* c *) d",
+                &[(8, 9), (18, 19)],
+            ),
+            ("behind a line feed", b"(*\n*)a", &[(5, 6)]),
+            ("behind bytes of no text", b"(*\xff\x00*)a", &[(6, 7)]),
+            ("behind a second opening", b"a(* (* *)b", &[(0, 1), (9, 10)]),
+            (
+                "behind a star before the closing",
+                b"(***)a1;",
+                &[(5, 7), (7, 8)],
+            ),
+        ];
+        for (row, text, want) in &rows {
+            let found = tokens(rt.alloc(), text)?;
+            let mut places = Vec::new(rt.alloc());
+            for token in &found {
+                places.push((token.at, token.end))?;
+            }
+            assert_eq!(rt; places.as_slice(), *want, "{row}");
+        }
+        Ok(())
+    }
+
+    #[test]
+    fn refuses_a_comment_that_is_not_closed(rt: HostRuntime) {
+        let rows: [(&str, &[u8], usize); 12] = [
+            ("an opening alone", b"(*", 0),
+            ("an opening and a star", b"(**", 0),
+            ("an opening and a parenthesis", b"(*)", 0),
+            ("a star at the end", b"(* *", 0),
+            ("a blank inside the closing", b"(* * )", 0),
+            ("the closing's bytes in turn", b"(* )*", 0),
+            ("an opening behind a token", b"a (* b", 2),
+            (
+                "a byte that begins no token behind the opening",
+                b"; (* ?",
+                2,
+            ),
+            ("a token behind the opening", b"(*)a", 0),
+            ("the second of two", b"(**)(*", 4),
+            ("the first of two", b"a(*(*", 1),
+            ("an opening on the second line", b"(* a *)\n(* b", 8),
+        ];
+        for (row, text, want) in &rows {
+            match tokens(rt.alloc(), text) {
+                Err(TextFault::E02(at)) => assert_eq!(rt; at, *want, "{row}"),
+                _ => assert!(rt; false, "{row} is not refused with E02"),
+            }
+        }
+    }
+
+    #[test]
+    fn refuses_what_begins_no_token(rt: HostRuntime) {
+        let rows: [(&str, &[u8], usize); 25] = [
+            ("an asterisk", b"*", 0),
+            ("an asterisk behind a parenthesis and a blank", b"( *", 2),
+            ("an asterisk before an opening", b"* (*", 0),
+            ("a closing alone", b"*)", 0),
+            ("a second closing", b"(**)*)", 4),
+            ("an outer closing", b"(*(*a*)b*)", 8),
+            ("a byte behind a comment", b"(* x *) ?", 8),
+            ("the end of a mark behind a comment", b":(**)=", 5),
+            ("the greatest byte behind a comment", b"(*\xff*)\xff", 5),
+            ("the least byte behind a comment", b"(*\x00*)\x00", 5),
             ("an arrow's head alone", b"a > b", 2),
             ("an odd arrow's head", b">>>", 2),
             ("an equals sign", b"=", 0),
@@ -431,6 +530,15 @@ mod tests {
             0,
             "the longest text, of blanks"
         );
+        text.clear();
+        text.extend_from_slice(b"(*")?;
+        for _ in 2..1_048_576 {
+            text.push(b'*')?;
+        }
+        match tokens(rt.alloc(), &text) {
+            Err(TextFault::E02(0)) => {}
+            _ => Err("the longest text, of an opening and stars, is not refused with E02")?,
+        }
         text.clear();
         for _ in 0..1_048_577 {
             text.push(255)?;

@@ -14,9 +14,12 @@ fn fault_of(answer: Result<Specification, TextFault>) -> (u8, usize) {
     match answer {
         Ok(_) => (0, 0),
         Err(TextFault::E01(at)) => (1, at),
+        Err(TextFault::E02(at)) => (2, at),
         Err(TextFault::E03) => (3, 0),
         Err(TextFault::E04(at)) => (4, at),
+        Err(TextFault::E05(at)) => (5, at),
         Err(TextFault::E06(at)) => (6, at),
+        Err(TextFault::E07(at)) => (7, at),
         Err(TextFault::E99(_)) => (99, 0),
     }
 }

@@ -1,5 +1,5 @@
 use Rattle.std.proofs.Common.{◌+◌, arith, subst, sym}
-use Rattle.lotos_text.proofs.Cutting.{Reached, token_some, reached_start, reached_blank, reached_token, reached_end}
+use Rattle.lotos_text.proofs.Cutting.{Reached, token_some, reached_start, reached_blank, reached_comment, reached_token, reached_end, stuck_at_byte, stuck_at_comment}
 use Rattle.lotos_text.proofs.Standing.{all_stand}
 use Rattle.lotos_text.proofs.lexer.tokens.Goals as goal
 
@@ -8,6 +8,10 @@ loop-at-init c = subst (Reached c.args.text.now 0) (sym c.new-found.ensures.item
 
 pub loop-at-preserved-in-Blank : goal.loop-at-preserved-in-Blank
 loop-at-preserved-in-Blank c = reached_blank c.args.text.now c.loop-at.at c.loop-at.found.items c.loop-at.invariant c.in-Blank.ensures
+
+pub loop-at-preserved-in-Comment : goal.loop-at-preserved-in-Comment
+loop-at-preserved-in-Comment c =
+    reached_comment c.args.text.now c.loop-at.at c.in-Comment.length c.loop-at.found.items c.loop-at.invariant c.in-Comment.ensures
 
 pub overflow_add-end : goal.overflow_add-end
 overflow_add-end c =
@@ -21,6 +25,18 @@ pub loop-at-preserved : goal.loop-at-preserved
 loop-at-preserved c =
     let next = reached_token c.args.text.now c.loop-at.at c.in-Token.length c.in-Token.kind c.loop-at.found.items c.loop-at.invariant c.in-Token.ensures in
     subst (Reached c.args.text.now (c.loop-at.at + c.in-Token.length)) (sym c.in_ok-push-in-Token.ensures.items) next
+
+pub returns-in-Unclosed-clause-stuck : goal.returns-in-Unclosed-clause-stuck
+returns-in-Unclosed-clause-stuck c = record {
+  short = c.if-text-gt-TEXT_LIMIT.false;
+  sticks = stuck_at_comment c.args.text.now c.loop-at.at c.loop-at.found.items c.loop-at.invariant c.in-Unclosed.ensures;
+}
+
+pub returns-in-Unknown-clause-stuck : goal.returns-in-Unknown-clause-stuck
+returns-in-Unknown-clause-stuck c = record {
+  short = c.if-text-gt-TEXT_LIMIT.false;
+  sticks = stuck_at_byte c.args.text.now c.loop-at.at c.loop-at.found.items c.loop-at.invariant c.in-Unknown.ensures;
+}
 
 pub returns-clause-stand : goal.returns-clause-stand
 returns-clause-stand c =

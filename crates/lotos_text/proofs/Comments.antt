@@ -1,0 +1,146 @@
+-- Comments: where they open, where they close, and that one text opens with one comment at most.
+use Rattle.std.proofs.Common.{◌≡◌, ℕ, ◌+◌, ◌-◌, ◌<◌, ◌≤◌, true, false, List, [], ◌∷◌, ◌++◌, length, take, drop, nat_eq, zero, suc, inl, inr, refl, sym, ap, ◌∙◌, subst, arith, length-append, length-drop, append_assoc}
+use Rattle.std.proofs.lemmas.Bool.{both_ways, cases_order}
+use Rattle.std.proofs.lemmas.Bool.Decides.{Decides-eqb}
+use Rattle.std.proofs.lemmas.List.{take_all, take_at, take-append-drop, take-append-le, length-take-le}
+use Rattle.std.proofs.lemmas.Slice.Eq.{starts_is}
+use Rattle.std.proofs.Math.Seq.{drop-append_seam, take-append_seam}
+use Rattle.std.specs.List.{starts_with}
+use Rattle.lotos_text.specs.Cut.{Begins, opening, closing, Closed, IsComment, Unclosed}
+
+-- the test says whether the front begins the text
+pub begins_true : (front text : List ℕ) → starts_with nat_eq text front ≡ true → Begins front text
+begins_true front text h = (drop (length front) text, (starts_is {E = nat_eq} Decides-eqb text front (starts_with nat_eq text front) refl).0 h)
+
+pub begins_false : (front text : List ℕ) → starts_with nat_eq text front ≡ false → Begins front text → ⊥
+begins_false front text h b =
+    both_ways (starts_with nat_eq text front) h ((starts_is {E = nat_eq} Decides-eqb text front (starts_with nat_eq text front) refl).1 b.0 b.1)
+
+-- where the closing of a piece at the front of a text stands
+record Closing (front text : List ℕ) : Type 0 where
+  at : ℕ
+  behind_opening : 2 ≤ at
+  long : length front ≡ at + 2
+  stands : Begins closing (drop at text)
+
+closing_of : (front rest text : List ℕ) → text ≡ front ++ rest → Closed front → Closing front text
+closing_of front rest text e c =
+    let body = c.0 in
+    let two : suc (suc (length body)) ≡ length body + 2 = omega arith in
+    let tail : (body ++ closing) ++ rest ≡ body ++ (closing ++ rest) = append_assoc body closing rest in
+    record {
+      at = suc (suc (length body));
+      behind_opening = omega arith;
+      long = ap length c.1 ∙ omega (arith, length-append body closing);
+      stands = (rest, ap (drop (suc (suc (length body)))) (e ∙ ap (λ l. l ++ rest) c.1) ∙ ap (drop (length body)) tail ∙ drop-append_seam body (closing ++ rest));
+    }
+
+-- the offset stands behind the opening, and no closing stands between
+pub record NoneBefore (text : List ℕ) (at : ℕ) : Type 0 where
+  pub behind_opening : 2 ≤ at
+  pub inside : at ≤ length text
+  pub none : (k : ℕ) → 2 ≤ k → k < at → Begins closing (drop k text) → ⊥
+
+-- the rest of the text, as the program takes it
+abbrev pub from : List ℕ → ℕ → List ℕ
+from text at = take (length text - at) (drop at text)
+
+from_is : (text : List ℕ) (at : ℕ) → from text at ≡ drop at text
+from_is text at = take_all (length text - at) (drop at text) (omega (arith, length-drop at text))
+
+-- none stands before the bytes behind the opening
+pub none_at_start : (text : List ℕ) → Begins opening text → NoneBefore text 2
+none_at_start text b = record { behind_opening = omega arith; inside = omega (arith, ap length b.1); none = λ k h l c. omega (arith, h, l) }
+
+-- where none stands at the offset either, none stands before the one behind it
+pub none_step : (text : List ℕ) (at : ℕ) → NoneBefore text at → at < length text → starts_with nat_eq (from text at) closing ≡ false →
+    NoneBefore text (at + 1)
+none_step text at n s h = record {
+  behind_opening = omega (arith, n.behind_opening);
+  inside = omega (arith, s);
+  none = λ k low high c. elim (cases_order k at) [
+    | inl same ↦ begins_false closing (from text at) h (subst (λ l. Begins closing l) (ap (λ m. drop m text) same ∙ sym (from_is text at)) c)
+    | inr (inl less) ↦ n.none k low less c
+    | inr (inr more) ↦ omega (arith, more, high)
+  ];
+}
+
+-- so the closing of a closed beginning stands at the offset or behind it
+closed_behind : (front rest text : List ℕ) (at : ℕ) → NoneBefore text at → text ≡ front ++ rest → Closed front → at + 2 ≤ length front
+closed_behind front rest text at n e c =
+    let k = closing_of front rest text e c in
+    elim (cases_order k.at at) [
+      | inl same ↦ omega (arith, same, k.long)
+      | inr (inl less) ↦ absurd (n.none k.at k.behind_opening less k.stands)
+      | inr (inr more) ↦ omega (arith, more, k.long)
+    ]
+
+-- the text up to a closing is closed
+opened_front : (text more : List ℕ) (at : ℕ) → text ≡ opening ++ more → 2 ≤ at → take at text ≡ opening ++ take (at - 2) more
+opened_front text more zero e h = absurd (omega (arith, h))
+opened_front text more (suc zero) e h = absurd (omega (arith, h))
+opened_front text more (suc (suc j)) e h =
+    let same : j ≡ suc (suc j) - 2 = omega arith in
+    ap (take (suc (suc j))) e ∙ ap (λ m. opening ++ take m more) same
+
+closed_here : (text : List ℕ) (at : ℕ) → Begins opening text → 2 ≤ at → at ≤ length text → Begins closing (drop at text) → take (at + 2) text ≡ take at text ++ closing
+closed_here text at o h i c =
+    let rest = c.0 in
+    let whole : text ≡ take at text ++ closing ++ rest = sym (take-append-drop at text) ∙ ap (λ l. take at text ++ l) c.1 ∙ sym (append_assoc (take at text) closing rest) in
+    let long : length (take at text ++ closing) ≡ at + 2 = omega (arith, length-append (take at text) closing, length-take-le at text i) in
+    ap (take (at + 2)) whole ∙ take_at (take at text ++ closing) rest (at + 2) long
+
+no_bytes : (l : List ℕ) → length l ≡ 0 → l ≡ []
+no_bytes [] h = refl
+no_bytes (b ∷ bs) h = absurd (omega (arith, h))
+
+-- the text up to the first closing is a comment
+pub comment_found : (text : List ℕ) (at : ℕ) → Begins opening text → NoneBefore text at → starts_with nat_eq (from text at) closing ≡ true →
+    IsComment (take (at + 2) text) × (at + 2 ≤ length text)
+comment_found text at o n h =
+    let c : Begins closing (drop at text) = subst (λ l. Begins closing l) (from_is text at) (begins_true closing (from text at) h) in
+    let inside : at + 2 ≤ length text = omega (arith, ap length c.1, length-drop at text, n.inside) in
+    let long : length (take (at + 2) text) ≡ at + 2 = length-take-le (at + 2) text inside in
+    let whole : text ≡ take (at + 2) text ++ drop (at + 2) text = sym (take-append-drop (at + 2) text) in (
+      record {
+        closed = (take (at - 2) o.0, closed_here text at o n.behind_opening n.inside c ∙ ap (λ l. l ++ closing) (opened_front text o.0 at o.1 n.behind_opening));
+        first = λ front rest e k.
+            let all = whole ∙ ap (λ l. l ++ drop (at + 2) text) e ∙ append_assoc front rest (drop (at + 2) text) in
+            let past = closed_behind front (rest ++ drop (at + 2) text) text at n all k in
+            no_bytes rest (omega (arith, past, long, ap length e, length-append front rest));
+      },
+      inside,
+    )
+
+-- where no closing stands before the end, none closes the comment
+pub comment_open : (text : List ℕ) (at : ℕ) → Begins opening text → NoneBefore text at → length text ≤ at → Unclosed text
+comment_open text at o n h = record {
+  opens = o;
+  never = λ front b c. omega (arith, h, closed_behind front b.0 text at n b.1 c, ap length b.1, length-append front b.0);
+}
+
+-- a comment is no longer than a closed beginning of the same text
+not_shorter : (front rest piece more text : List ℕ) → text ≡ front ++ rest → text ≡ piece ++ more → Closed front → IsComment piece →
+    length piece ≤ length front
+not_shorter front rest piece more text e f c i = elim (cases_order (length front) (length piece)) [
+  | inl same ↦ omega (arith, same)
+  | inr (inl less) ↦
+      let n = length front in
+      let own : take n piece ≡ front =
+      sym (take-append-le n piece more (omega (arith, less))) ∙ ap (take n) (sym f ∙ e) ∙ take-append_seam front rest in
+      let split : piece ≡ front ++ drop n piece = sym (take-append-drop n piece) ∙ ap (λ l. l ++ drop n piece) own in
+      omega (arith, less, length-drop n piece, ap length (i.first front (drop n piece) split c))
+  | inr (inr more) ↦ omega (arith, more)
+]
+
+-- two comments at the front of one text are equally long
+pub one_comment : (a r b q text : List ℕ) → text ≡ a ++ r → text ≡ b ++ q → IsComment a → IsComment b → length a ≡ length b
+one_comment a r b q text e f i j =
+    omega (arith, not_shorter a r b q text e f i.closed j, not_shorter b q a r text f e j.closed i)
+
+-- a comment begins with an opening, and has a byte at least
+pub comment_opens : (text piece rest : List ℕ) → text ≡ piece ++ rest → IsComment piece → Begins opening text
+comment_opens text piece rest e i = (i.closed.0 ++ closing ++ rest, e ∙ ap (λ l. l ++ rest) i.closed.1)
+
+pub comment_some : (piece : List ℕ) → IsComment piece → 0 < length piece
+comment_some piece i = omega (arith, ap length i.closed.1)
