@@ -1,34 +1,27 @@
--- The header of a definition: what is found and lost of it, and that it is the only one.
+-- The header of a definition: what is found and lost of it.
 use Rattle.std.proofs.Common.{◌≡◌, ℕ, List, refl}
 use Rattle.lotos_text.specs.Parsing.{Part, Found, Lost}
-use Rattle.lotos_text.specs.Parts.{Then, Name, Gates, Declared, Returns, Heading, Header}
+use Rattle.lotos_text.specs.Parts.{Then, Name, Gates, Returns, Heading, Header}
 use Rattle.lotos_text.specs.declared.token.Token.{Token}
 use Rattle.lotos_text.specs.declared.tree.Functionality.{Functionality}
 use Rattle.lotos_text.specs.declared.tree.Placed.{Placed}
 use Rattle.lotos_text.proofs.NameLists.{firm_gates}
-use Rattle.lotos_text.proofs.OneToken.{firm_name, firm_declared, firm_behind}
+use Rattle.lotos_text.proofs.OneToken.{firm_name}
 use Rattle.lotos_text.proofs.Sequence.{Firm, found_then, lost_first, lost_second, firm_then}
 
-abbrev pub named : Placed → List Placed → Placed × List Placed
+abbrev named : Placed → List Placed → Placed × List Placed
 named name formals = (name, formals)
 
-abbrev pub headed : Placed × List Placed → Functionality → Heading
+abbrev headed : Placed × List Placed → Functionality → Heading
 headed front returns = (front.0, front.1, returns)
-
-firm_returns : Firm Returns
-firm_returns = firm_behind _ Declared firm_declared
 
 module _ (text : List ℕ) where
   -- the name and the formal gates
-  abbrev pub Front : Part (Placed × List Placed)
+  abbrev Front : Part (Placed × List Placed)
   Front = Then named (Name text) (Gates text)
 
   firm_front : Firm Front
   firm_front = firm_then named (Name text) (Gates text) (firm_name text) (firm_gates text)
-
-  -- a header is the only one
-  pub firm_header : Firm (Header text)
-  firm_header = firm_then headed Front Returns firm_front firm_returns
 
   found_front : (ts r q : List Token) (name : Placed) (formals : List Placed) → Found (Name text) ts name r →
       Found (Gates text) r formals q → Found Front ts (name, formals) q

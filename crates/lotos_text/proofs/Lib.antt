@@ -22,5 +22,6 @@ pub mod Expressions
 pub mod Stops
 pub mod Headers
 pub mod Contents
+pub mod Rows
 pub mod Answered
 pub mod Views
