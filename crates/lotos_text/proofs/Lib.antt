@@ -23,5 +23,6 @@ pub mod Stops
 pub mod Headers
 pub mod Contents
 pub mod Rows
+pub mod Wholes
 pub mod Answered
 pub mod Views

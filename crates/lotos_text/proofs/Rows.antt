@@ -1,5 +1,5 @@
 -- Rows of definitions, and inner definitions: what is found and lost of them.
-use Rattle.std.proofs.Common.{◌≡◌, ℕ, ◌+◌, ◌≤◌, List, [], ◌∷◌, ◌++◌, Some, None, refl, sym, ◌∙◌, ap, append_assoc, arith, subst, cond}
+use Rattle.std.proofs.Common.{◌≡◌, ℕ, ◌+◌, ◌≤◌, List, [], ◌∷◌, ◌++◌, Some, None, refl, sym, ◌∙◌, ap, append_assoc, arith, subst, cond, true, max}
 use Rattle.lotos_text.specs.Grammar.{Is, a_process, Defines, definition, Several, last, another}
 use Rattle.lotos_text.specs.Kinds.{opens, openings}
 use Rattle.lotos_text.specs.Parsing.{Limit, Within, NotFirst, Starts, Found, Lost, Deeper}
@@ -15,7 +15,7 @@ use Rattle.lotos_text.proofs.Stops.{Carries}
 
 -- a token that opens a construct is one opening
 one_opening : (n : Token) → opens n.kind ≡ true → openings (n ∷ []) ≡ 1
-one_opening n e = ap (λ b. cond b 1 0 + 0) e
+one_opening n e = ap (λ b. 0 + cond b 1 0) e
 
 module _ (text : List ℕ) where
   -- rows

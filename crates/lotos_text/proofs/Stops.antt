@@ -97,15 +97,20 @@ carries_further P Q R inner room outer ts us vs c d = record {
   crowds = (let i = c.crowds in let j = d.crowds in let k = openings_append d.before c.before in omega (arith, i, j, k));
 }
 
-carried : {A B : Type 0} (P : Limit → Part A) (Q : Limit → Part B) (inner room : ℕ) (ts us : List Token) →
-    Carries P inner ts Q room us → (e : Stop) → IsLostWithin P inner ts e → IsLostWithin Q room us e
-carried P Q inner room ts us c (At rest) l = c.free rest.now l
-carried P Q inner room ts us c (Deep token) l = record {
+-- a token that is one too many in a part is so in the whole
+pub deeper_on : {A B : Type 0} (P : Limit → Part A) (Q : Limit → Part B) (inner room : ℕ) (ts us : List Token) →
+    Carries P inner ts Q room us → (token : Token) → Deeper P inner ts token → Deeper Q room us token
+deeper_on P Q inner room ts us c token l = record {
   after = l.after;
   lost = c.limited (token ∷ l.after) l.lost;
   crowded = crowded_behind c.before ts us l.after token inner room c.joined c.crowds l.crowded;
   opens = l.opens;
 }
+
+carried : {A B : Type 0} (P : Limit → Part A) (Q : Limit → Part B) (inner room : ℕ) (ts us : List Token) →
+    Carries P inner ts Q room us → (e : Stop) → IsLostWithin P inner ts e → IsLostWithin Q room us e
+carried P Q inner room ts us c (At rest) l = c.free rest.now l
+carried P Q inner room ts us c (Deep token) l = deeper_on P Q inner room ts us c token l
 carried P Q inner room ts us c (Memory e) l = tt
 
 -- a part without nesting that stopped, in one with a limit
