@@ -37,16 +37,16 @@ module _ (text : List ℕ) where
   gates_inside (gates {right = right} {ts = ts} i d j) h = names_inside d (stand_front ts (right ∷ []) h.1)
 
   -- an operator joins trees that lie inside the text to one that does
-  join_inside : {l : Level} {op : List Token} {how : Operator} {x y : Tree} → Operates text l op how → AllStand text op →
-      IsTreeInside (length text) x → IsTreeInside (length text) y → IsTreeInside (length text) (join how x y)
-  join_inside (enable_sign {o = o} i) h x y = (x, token_inside o h.0, y)
-  join_inside (disable_sign i) h x y = (x, y)
-  join_inside (interleave_sign i) h x y = (x, tt, y)
-  join_inside (full_sign i) h x y = (x, tt, y)
-  join_inside (sync_on_none i j k) h x y = (x, tt, y)
-  join_inside (sync_on {right = right} {bar = bar} {ts = ts} i d j k) h x y =
+  join_inside : {l : Level} {op : List Token} {how : Operator} (left right : Tree) → Operates text l op how → AllStand text op →
+      IsTreeInside (length text) left → IsTreeInside (length text) right → IsTreeInside (length text) (join how left right)
+  join_inside l r (enable_sign {o = o} i) h x y = (x, token_inside o h.0, y)
+  join_inside l r (disable_sign i) h x y = (x, y)
+  join_inside l r (interleave_sign i) h x y = (x, tt, y)
+  join_inside l r (full_sign i) h x y = (x, tt, y)
+  join_inside l r (sync_on_none i j k) h x y = (x, tt, y)
+  join_inside l r (sync_on {right = right} {bar = bar} {ts = ts} i d j k) h x y =
       (x, names_inside d (stand_front ts (right ∷ bar ∷ []) h.1), y)
-  join_inside (choice_sign i) h x y = (x, y)
+  join_inside l r (choice_sign i) h x y = (x, y)
 
   tree_inside : {l : Level} {o : Bool} {n : ℕ} {ts : List Token} {x : Tree} → Spells text l o n ts x → AllStand text ts →
       IsTreeInside (length text) x
@@ -57,9 +57,10 @@ module _ (text : List ℕ) where
   tree_inside (prefix {act = act} (gate i) c d) h = (token_inside act h.0, tree_inside d h.1.1)
   tree_inside (prefix (internal i) c d) h = tree_inside d h.1.1
   tree_inside (tighter b d) h = tree_inside d h
-  tree_inside (operation {left = left} {op = op} {right = right} b d i e) h =
+  tree_inside (operation {left = left} {op = op} {right = right} {x = x} {y = y} b d i e) h =
       let front = stand_front (left ++ op) right h in
-      join_inside i (stand_rest left op front) (tree_inside d (stand_front left op front)) (tree_inside e (stand_rest (left ++ op) right h))
+      join_inside x y i (stand_rest left op front) (tree_inside d (stand_front left op front))
+      (tree_inside e (stand_rest (left ++ op) right h))
   tree_inside (hide {within = within} {gates = gs} {ts = ts} i d j e) h =
       (names_inside d (stand_front gs (within ∷ ts) h.1), tree_inside e (stand_rest gs (within ∷ ts) h.1).1)
 
