@@ -13,6 +13,7 @@ pub mod NameLists
 pub mod Operands
 pub mod Levels
 pub mod Unique
+pub mod Firmness
 pub mod Openings
 pub mod Expressions
 pub mod Stops

@@ -2,12 +2,13 @@
 use Rattle.std.proofs.Common.{◌≡◌, ℕ, List, [], ◌∷◌, ◌++◌, refl, sym, ◌∙◌, ap, append_assoc, subst}
 use Rattle.lotos_text.specs.Grammar.{Is, placed, Names, one_name, more_names, GateList, no_gates, gates}
 use Rattle.lotos_text.specs.Parsing.{Part, NotFirst, Found, Lost}
-use Rattle.lotos_text.specs.Parts.{One, Behind, Before, NameList, Gates}
+use Rattle.lotos_text.specs.Parts.{One, Behind, Before, NameList, Gates, SyncList, no_sync, some_sync}
 use Rattle.lotos_text.specs.declared.token.Token.{Token}
+use Rattle.lotos_text.specs.declared.token.TokenKind.{TokenKind}
 use Rattle.lotos_text.specs.declared.token.TokenKind.TheVariants.{Identifier, Sign}
 use Rattle.lotos_text.specs.declared.token.Sign.TheVariants as s
 use Rattle.lotos_text.specs.declared.tree.Placed.{Placed}
-use Rattle.lotos_text.proofs.FirstToken.{head_same, tail_same, not_first, is_first, starts_not}
+use Rattle.lotos_text.proofs.FirstToken.{head_same, tail_same, apart, not_first, is_first, starts_not}
 use Rattle.lotos_text.proofs.OneToken.{found_behind, lost_behind, firm_behind, found_before, lost_unclosed, lost_within}
 use Rattle.lotos_text.proofs.Sequence.{Same, Firm, lost_as, between, as_between}
 
@@ -97,6 +98,38 @@ module _ (text : List ℕ) where
         said = h.said;
         rest = tail_same h.rest;
       }
+
+  -- no list of names begins with what is no identifier
+  names_first : {a : List Token} {names : List Placed} {n : Token} {k : TokenKind} (r ts : List Token) → Names text a names →
+      Is n k → a ++ r ≡ n ∷ ts → (Identifier ≡ k → ⊥) → ⊥
+  names_first r ts (one_name i) j e two = apart i j (head_same e) two
+  names_first r ts (more_names i k d) j e two = apart i j (head_same e) two
+
+  -- one list begins with one list of names or none before `]` and `|`
+  pub unique_sync_list : {a b c d : List Token} {ns ms : List Placed} (r q : List Token) → SyncList text a ns c →
+      SyncList text b ms d → a ++ r ≡ b ++ q → Same a b ns ms r q
+  unique_sync_list r q (no_sync i j) (no_sync k l) e = record {
+    tokens = (let a = head_same e in let b = head_same (tail_same e) in cc);
+    said = refl;
+    rest = tail_same (tail_same e);
+  }
+  unique_sync_list r q (no_sync {bar = bar} i j) (some_sync {right = right} {bar = other} {ts = ts} d k l) e =
+      absurd (names_first (right ∷ other ∷ q) (bar ∷ r) d i (sym (e ∙ append_assoc ts (right ∷ other ∷ []) q)) (λ e. cc))
+  unique_sync_list r q (some_sync {right = right} {bar = bar} {ts = ts} d i j) (no_sync {bar = other} k l) e =
+      absurd (names_first (right ∷ bar ∷ r) (other ∷ q) d k (sym (append_assoc ts (right ∷ bar ∷ []) r) ∙ e) (λ e. cc))
+  unique_sync_list r q (some_sync {right = right} {bar = bar} {ts = ts} d i j)
+      (some_sync {right = right'} {bar = bar'} {ts = us} f k l) e =
+      let h = unique_names (right ∷ bar ∷ r) (right' ∷ bar' ∷ q) d f
+      (sym (append_assoc ts (right ∷ bar ∷ []) r) ∙ e ∙ append_assoc us (right' ∷ bar' ∷ []) q)
+      (is_first i (λ e. cc)) (is_first k (λ e. cc)) in
+      record {
+        tokens = (let a = h.tokens in let b = head_same h.rest in let c = head_same (tail_same h.rest) in cc);
+        said = h.said;
+        rest = tail_same (tail_same h.rest);
+      }
+
+  pub firm_sync_list : Firm (SyncList text)
+  firm_sync_list a b r more q x y p st o e = unique_sync_list more q p o e
 
   pub firm_names : Firm (NameList text)
   firm_names a b r more q x y p st o e = unique_names more q p.names o.names e (starts_not _ r more st p.quits) o.quits
