@@ -15,8 +15,15 @@ pub mod Levels
 pub mod Unique
 pub mod Firmness
 pub mod Openings
-pub mod Expressions
 pub mod Stops
+pub mod Limits
+pub mod Ends
+pub mod Bracketed
+pub mod Prefixes
+pub mod Calls
+pub mod Hidings
+pub mod SyncLists
+pub mod Operations
 pub mod Wholes
 pub mod Answered
 pub mod Views
