@@ -74,12 +74,12 @@ module _ (text : List ℕ) where
       (opened limit n ts between x i f) e j
 
   -- a bracket, a behaviour expression and a bracket, with which nothing goes on, are an operand
-  pub found_closed : (room : ℕ) (n right : Token) (ts between rest : List Token) (x : Tree) → 0 < room →
-      Is n (Sign s.LeftParenthesis) → Found (Expression text enabling (Some (room - 1))) ts x between → between ≡ right ∷ rest →
+  pub found_closed : (room : ℕ) (n right : Token) (ts others rest : List Token) (x : Tree) → 0 < room →
+      Is n (Sign s.LeftParenthesis) → Found (Expression text enabling (Some (room - 1))) ts x others → others ≡ right ∷ rest →
       Is right (Sign s.RightParenthesis) → rank rest < 5 → Found (Expression text prefixing (Some room)) (n ∷ ts) x rest
-  found_closed room n right ts between rest x h i f e j q =
-      let g = closed (Some (room - 1)) n right ts between rest x i f e j in
-      let b = between-of g.front rest x g.whole in
+  found_closed room n right ts others rest x h i f e j q =
+      let g = closed (Some (room - 1)) n right ts others rest x i f e j in
+      let b = between _ _ (Expression text enabling (Some (room - 1))) g.front rest x g.whole in
       record {
         front = g.front;
         joined = g.joined;
@@ -92,8 +92,6 @@ module _ (text : List ℕ) where
           within = (let k = b.within.within in omega (arith, h, k));
         };
       }
-    where
-      between-of = between (Sign s.LeftParenthesis) (Sign s.RightParenthesis) (Expression text enabling (Some (room - 1)))
 
   lost_inside : (limit : Limit) (n : Token) (ts rest : List Token) → Is n (Sign s.LeftParenthesis) →
       Lost (Expression text enabling (inside limit)) ts rest → Lost (Expression text prefixing limit) (n ∷ ts) rest

@@ -28,9 +28,6 @@ pub within_less : (limit : Limit) (n m : ℕ) → n ≤ m → Within limit m →
 within_less None n m e h = tt
 within_less (Some room) n m e h = omega (arith, e, h)
 
-one_opening : Token → ℕ
-one_opening n = cond (opens n.kind) 1 0
-
 -- a token of a kind that opens a construct opens one
 pub opens_is : {n : Token} {k : TokenKind} → Is n k → opens k ≡ true → opens n.kind ≡ true
 opens_is i e = ap opens i.same ∙ e
@@ -40,7 +37,7 @@ pub opens_among : (before after : List Token) (n : Token) → opens n.kind ≡ t
 opens_among before after n h =
     let e = sum_by-append (λ (t : Token). cond (opens t.kind) 1 0) before (n ∷ after) in
     let f = sum_by-cons (λ (t : Token). cond (opens t.kind) 1 0) n after in
-    let g = cond-true (opens n.kind) 1 0 h in
+    let g = cond-true {A = ℕ} (opens n.kind) 1 0 h in
     omega (arith, e, f, g)
 
 -- where there is no room, a token that opens a construct crowds

@@ -59,14 +59,19 @@ mark_rank n i.Full ts e = rank_is ts (is_mark n i.Full e)
 mark_rank n i.Sync ts e = rank_is ts (is_mark n i.Sync e)
 mark_rank n i.Choice ts e = rank_is ts (is_mark n i.Choice e)
 
+-- the tokens from a mark on rank as its level's operators
+pub marked : {l : Level} (between after : List Token) (n : Token) (m : Infix) → between ≡ n ∷ after → mark n.kind ≡ Some m →
+    mark_level m ≡ l → rank between ≡ level_rank l
+marked between after n m e i j = ap rank e ∙ mark_rank n m after i ∙ ap level_rank j
+
 -- behind what an operator follows nothing is open
-shut : (l : Level) {m : Level} (ends : Bool) (ts : List Token) → rank ts ≡ level_rank l → rank ts < bound m ends → ends ≡ false
-shut l false ts e h = refl
-shut enabling true ts e h = absurd (omega (arith, e, h))
-shut disabling true ts e h = absurd (omega (arith, e, h))
-shut parallel true ts e h = absurd (omega (arith, e, h))
-shut choosing true ts e h = absurd (omega (arith, e, h))
-shut prefixing true ts e h = absurd (omega (arith, e, h))
+shut : (l m : Level) (ends : Bool) (ts : List Token) → rank ts ≡ level_rank l → rank ts < bound m ends → ends ≡ false
+shut l m false ts e h = refl
+shut enabling m true ts e h = absurd (omega (arith, e, h))
+shut disabling m true ts e h = absurd (omega (arith, e, h))
+shut parallel m true ts e h = absurd (omega (arith, e, h))
+shut choosing m true ts e h = absurd (omega (arith, e, h))
+shut prefixing m true ts e h = absurd (omega (arith, e, h))
 
 -- a left operand is nested no deeper than the whole, a right one less deep
 left_within : (limit : Limit) (nl nr : ℕ) → Within limit (max nl (nr + 1)) → Within limit nl
@@ -100,7 +105,7 @@ module _ (text : List ℕ) where
   found_operation {l} {m} room ts between after rest how x y z h b f o g e =
       let ranks : rank between ≡ level_rank l = ap rank o.joined ∙ operator_rank text after o.whole.operates in
       let left : Spells text m false f.whole.nesting f.front x =
-      subst (λ ends. Spells text m ends f.whole.nesting f.front x) (shut l f.whole.ends between ranks f.whole.quits) f.whole.spells in
+      subst (λ ends. Spells text m ends f.whole.nesting f.front x) (shut l m f.whole.ends between ranks f.whole.quits) f.whole.spells in
       record {
         front = f.front ++ o.front ++ g.front;
         joined = f.joined ∙ ap (λ m. f.front ++ m) (o.joined ∙ ap (λ m. o.front ++ m) g.joined) ∙ sym
@@ -201,10 +206,17 @@ module _ (text : List ℕ) where
         (sym (append_assoc f.front l.front more) ∙ e) (taken_level text b p.spells) p.quits p.within;
   }
 
-  -- the tokens from a mark on rank as its level's operators
-  pub marked : {l : Level} (between after : List Token) (n : Token) (m : Infix) → between ≡ n ∷ after → mark n.kind ≡ Some m →
-      mark_level m ≡ l → rank between ≡ level_rank l
-  marked between after n m e i j = ap rank e ∙ mark_rank n m after i ∙ ap level_rank j
+  -- an operator of the mark's level, as one of this level before the same tokens
+  pub marked_found : {l k : Level} (between others after : List Token) (how : Operator) → between ≡ others → k ≡ l →
+      Found (Operation text k) others how after → Found (Operation text l) between how after
+  marked_found {k = k} between others after how e h f =
+      subst (λ m. Found (Operation text m) between how after) h
+      (subst (λ ts. Found (Operation text k) ts how after) (sym e) f)
+
+  pub marked_lost : {l k : Level} (between others rest : List Token) → between ≡ others → k ≡ l →
+      Lost (Operation text k) others rest → Lost (Operation text l) between rest
+  marked_lost {k = k} between others rest e h f =
+      subst (λ m. Lost (Operation text m) between rest) h (subst (λ ts. Lost (Operation text k) ts rest) (sym e) f)
 
   -- where the operator is lost, so is the whole
   pub lost_operator : {l m : Level} (within : Limit) (ts between rest : List Token) (x : Tree) → Below l m →
