@@ -18,8 +18,15 @@ pub mod Unique
 pub mod Firmness
 pub mod Definitions
 pub mod Openings
-pub mod Expressions
 pub mod Stops
+pub mod Limits
+pub mod Ends
+pub mod Bracketed
+pub mod Prefixes
+pub mod Calls
+pub mod Hidings
+pub mod SyncLists
+pub mod Operations
 pub mod Headers
 pub mod Contents
 pub mod Rows
