@@ -1,29 +1,18 @@
 -- What a text spells lies inside it.
-use Rattle.std.proofs.Common.{◌≡◌, ℕ, ◌+◌, ◌≤◌, List, [], ◌∷◌, ◌++◌, length, arith, length-append}
+use Rattle.std.proofs.Common.{◌≡◌, ℕ, ◌+◌, ◌≤◌, Bool, List, [], ◌∷◌, ◌++◌, length, arith}
 use Rattle.std.specs.List.{AllByRecursion}
-use Rattle.lotos_text.specs.Tree.{Tree, Def}
-use Rattle.lotos_text.specs.Cut.{Cuts, nothing, blank, word, mark, Sticks, spelled, Stands, AllStand}
-use Rattle.lotos_text.specs.Grammar.{Names, one_name, more_names, GateList, no_gates, gates, Level, gate, internal, choice_sign, Spells, stop, exit, brackets, prefix, tighter, operation, Specifies, specification}
-use Rattle.lotos_text.specs.Inside.{IsFaultInside, IsTreeInside, IsInside}
-use Rattle.lotos_text.specs.Refused.{IsStuck, IsRefused}
+use Rattle.lotos_text.specs.Tree.{Tree, Def, Defs}
+use Rattle.lotos_text.specs.Cut.{Stands, AllStand}
+use Rattle.lotos_text.specs.Grammar.{Names, one_name, more_names, GateList, no_gates, gates, Level, gate, internal, Operator, join, Operates, enable_sign, disable_sign, interleave_sign, full_sign, sync_on_none, sync_on, choice_sign, Spells, stop, exit, brackets, call, prefix, tighter, operation, hide, Defined, Defines, definition, Rest, nothing, definitions, Several, last, another}
+use Rattle.lotos_text.specs.Inside.{IsFaultInside, IsTreeInside, IsInside, AreInside}
+use Rattle.lotos_text.specs.Refused.{IsStuck, IsRefused, IsToken}
 use Rattle.lotos_text.specs.Spelled.{Spelled}
 use Rattle.lotos_text.specs.declared.fault.TextFault.{TextFault}
-use Rattle.lotos_text.specs.declared.fault.TextFault.TheVariants.{E01, E03, E04, E06, E99}
-use Rattle.lotos_text.proofs.Standing.{all_stand}
+use Rattle.lotos_text.specs.declared.fault.TextFault.TheVariants.{E01, E02, E03, E04, E05, E06, E07, E99}
 use Rattle.lotos_text.specs.declared.token.Token.{Token}
 use Rattle.lotos_text.specs.declared.tree.Placed.{Placed}
-use Rattle.std.specs.Prelude.{Bool}
-
--- ---- where a text is cut up to
-
-pub cut_length : {at end : ℕ} {text rest : List ℕ} {ts : List Token} → Cuts at text ts end rest → end + length rest ≡ at + length text
-cut_length nothing = omega arith
-cut_length (blank i d) = let h = cut_length d in omega (arith, h)
-cut_length (word found {text = text} i e d) = let h = cut_length d in let g = length-append found text in omega (arith, h, g)
-cut_length (mark sign {text = text} i d) = let h = cut_length d in let g = length-append (spelled sign) text in omega (arith, h, g)
-
-pub stuck_inside : (text : List ℕ) (at : ℕ) → Sticks text at → at ≤ length text
-stuck_inside text at s = let h = cut_length s.cut in omega (arith, h)
+use Rattle.lotos_text.proofs.CutLengths.{byte_inside, comment_inside}
+use Rattle.lotos_text.proofs.Standing.{all_stand}
 
 -- ---- tokens that stand in a text
 
@@ -47,43 +36,89 @@ module _ (text : List ℕ) where
   gates_inside no_gates h = tt
   gates_inside (gates {right = right} {ts = ts} i d j) h = names_inside d (stand_front ts (right ∷ []) h.1)
 
-  tree_inside : {l : Level} {o : Bool} {ts : List Token} {x : Tree} → Spells text l o ts x → AllStand text ts → IsTreeInside (length text) x
+  -- an operator joins trees that lie inside the text to one that does
+  join_inside : {l : Level} {op : List Token} {how : Operator} (left right : Tree) → Operates text l op how → AllStand text op →
+      IsTreeInside (length text) left → IsTreeInside (length text) right → IsTreeInside (length text) (join how left right)
+  join_inside l r (enable_sign {o = o} i) h x y = (x, token_inside o h.0, y)
+  join_inside l r (disable_sign i) h x y = (x, y)
+  join_inside l r (interleave_sign i) h x y = (x, tt, y)
+  join_inside l r (full_sign i) h x y = (x, tt, y)
+  join_inside l r (sync_on_none i j k) h x y = (x, tt, y)
+  join_inside l r (sync_on {right = right} {bar = bar} {ts = ts} i d j k) h x y =
+      (x, names_inside d (stand_front ts (right ∷ bar ∷ []) h.1), y)
+  join_inside l r (choice_sign i) h x y = (x, y)
+
+  tree_inside : {l : Level} {o : Bool} {n : ℕ} {ts : List Token} {x : Tree} → Spells text l o n ts x → AllStand text ts →
+      IsTreeInside (length text) x
   tree_inside (stop i) h = tt
   tree_inside (exit i) h = tt
   tree_inside (brackets {right = right} {ts = ts} i d j) h = tree_inside d (stand_front ts (right ∷ []) h.1)
+  tree_inside (call {name = name} i g) h = (token_inside name h.0, gates_inside g h.1)
   tree_inside (prefix {act = act} (gate i) c d) h = (token_inside act h.0, tree_inside d h.1.1)
   tree_inside (prefix (internal i) c d) h = tree_inside d h.1.1
   tree_inside (tighter b d) h = tree_inside d h
-  tree_inside (operation {left = left} {right = right} b d (choice_sign {o = sign} i) e) h =
-      (tree_inside d (stand_front left (sign ∷ []) (stand_front (left ++ sign ∷ []) right h)), tree_inside e (stand_rest (left ++ sign ∷ []) right h))
+  tree_inside (operation {left = left} {op = op} {right = right} {x = x} {y = y} b d i e) h =
+      let front = stand_front (left ++ op) right h in
+      join_inside x y i (stand_rest left op front) (tree_inside d (stand_front left op front))
+      (tree_inside e (stand_rest (left ++ op) right h))
+  tree_inside (hide {within = within} {gates = gs} {ts = ts} i d j e) h =
+      (names_inside d (stand_front gs (within ∷ ts) h.1), tree_inside e (stand_rest gs (within ∷ ts) h.1).1)
 
-  pub specification_inside : {ts : List Token} {whole : Def} → Specifies text ts whole → AllStand text ts → IsInside (length text) whole
-  specification_inside (specification {word = w} {name = name} {colon = colon} {returns = returns} {define = define} {end = end} {gates = gs} {body = body} i j g c f k s l) h =
-      let within = stand_front (gs ++ colon ∷ returns ∷ define ∷ body) (end ∷ []) h.1.1 in
-      let behind = stand_rest gs (colon ∷ returns ∷ define ∷ body) within in
-      (token_inside name h.1.0, gates_inside g (stand_front gs (colon ∷ returns ∷ define ∷ body) within), tree_inside s behind.1.1.1, tt)
+  mutual
+    -- the names of a definition lie inside the text
+    pub definition_inside : {what : Defined} {n : ℕ} {ts : List Token} {d : Def} → Defines text what n ts d → AllStand text ts →
+        IsInside (length text) d
+    definition_inside (definition {name = name} {colon = colon} {returns = returns} {define = define} {end = end} {gates = gs} {body = body} {rest = rest}
+        i j g c f k s l z) h =
+        let middle : List Token = colon ∷ returns ∷ define ∷ body in
+        let all = stand_front ((gs ++ middle) ++ rest) (end ∷ []) h.1.1 in
+        let outer = stand_front (gs ++ middle) rest all in (
+          token_inside name h.1.0,
+          gates_inside g (stand_front gs middle outer),
+          tree_inside s (stand_rest gs middle outer).1.1.1,
+          rest_inside l (stand_rest (gs ++ middle) rest all),
+        )
+
+    rest_inside : {n : ℕ} {ts : List Token} {ds : Defs} → Rest text n ts ds → AllStand text ts → AreInside (length text) ds
+    rest_inside nothing h = tt
+    rest_inside (definitions i d) h = several_inside d h.1
+
+    several_inside : {n : ℕ} {ts : List Token} {ds : Defs} → Several text n ts ds → AllStand text ts → AreInside (length text) ds
+    several_inside (last d) h = (definition_inside d h, tt)
+    several_inside (another {first = first} {others = others} d ds) h =
+        (definition_inside d (stand_front first others h), several_inside ds (stand_rest first others h))
 
 -- ---- faults
 
 module _ (text : List ℕ) where
-  middle_inside : (before after : List Token) (t : Token) → AllStand text (before ++ t ∷ after) → t.at ≤ length text
-  middle_inside before after t h = token_inside text t (stand_rest text before (t ∷ after) h).0
+  placed_within : (at : ℕ) (before : List Token) (t : Token) → IsToken text at before t → at ≤ length text
+  placed_within at before t s =
+      let stand = all_stand text (before ++ t ∷ s.after) s.cut in
+      let inside = token_inside text t (stand_rest text before (t ∷ s.after) stand).0 in
+      let place = s.place in omega arith
 
+  -- the fault lies inside the text
   pub fault_inside : (fault : TextFault) → IsRefused text fault → IsFaultInside (length text) fault
-  fault_inside (E01 at) h = stuck_inside text at h.sticks
+  fault_inside (E01 at) h = byte_inside text at h.sticks
+  fault_inside (E02 at) h = comment_inside text at h.sticks
   fault_inside E03 h = tt
-  fault_inside (E04 at) h =
-      let inside = middle_inside h.before h.after h.token (all_stand text (h.before ++ h.token ∷ h.after) h.cut) in
-      let place = h.place in omega arith
+  fault_inside (E04 at) h = placed_within at h.before h.token h.stands
+  fault_inside (E05 at) h = placed_within at h.before h.token h.stands
   fault_inside (E06 at) h = let place = h.place in omega arith
+  fault_inside (E07 at) h = placed_within at h.before h.token h.stands
   fault_inside (E99 e) h = tt
 
+  -- so does the place where the text is not cut
   pub stuck_fault_inside : (fault : TextFault) → IsStuck text fault → IsFaultInside (length text) fault
-  stuck_fault_inside (E01 at) h = stuck_inside text at h.sticks
+  stuck_fault_inside (E01 at) h = byte_inside text at h.sticks
+  stuck_fault_inside (E02 at) h = comment_inside text at h.sticks
   stuck_fault_inside E03 h = tt
   stuck_fault_inside (E04 at) h = absurd h
+  stuck_fault_inside (E05 at) h = absurd h
   stuck_fault_inside (E06 at) h = absurd h
+  stuck_fault_inside (E07 at) h = absurd h
   stuck_fault_inside (E99 e) h = tt
 
+  -- so does the specification
   pub spelled_inside : (whole : Def) → Spelled text whole → IsInside (length text) whole
-  spelled_inside whole s = specification_inside text s.spells (all_stand text s.tokens s.cut)
+  spelled_inside whole s = definition_inside text s.spells (all_stand text s.tokens s.cut)

@@ -99,6 +99,11 @@ lost_nothing n ts = record {
       (λ l. l ++ behind) j ∙ k in cc;
 }
 
+-- where tokens are left, the end is lost
+pub lost_end : (ts : List Token) → (ts ≡ [] → ⊥) → Lost Nothing ts ts
+lost_end [] h = absurd (h refl)
+lost_end (n ∷ ts) h = lost_nothing n ts
+
 -- a part behind a token
 
 module _ {A : Type 0} (k : TokenKind) (P : Part A) where

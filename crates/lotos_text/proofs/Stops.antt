@@ -86,15 +86,31 @@ pub record Carries {A B : Type 0} (P : Limit → Part A) (inner : ℕ) (ts : Lis
   pub joined : us ≡ before ++ ts
   pub crowds : room ≤ inner + openings before
 
-carried : {A B : Type 0} (P : Limit → Part A) (Q : Limit → Part B) (inner room : ℕ) (ts us : List Token) →
-    Carries P inner ts Q room us → (e : Stop) → IsLostWithin P inner ts e → IsLostWithin Q room us e
-carried P Q inner room ts us c (At rest) l = c.free rest.now l
-carried P Q inner room ts us c (Deep token) l = record {
+-- a part in a part of a part
+pub carries_further : {A B C : Type 0} (P : Limit → Part A) (Q : Limit → Part B) (R : Limit → Part C) (inner room outer : ℕ)
+    (ts us vs : List Token) → Carries P inner ts Q room us → Carries Q room us R outer vs → Carries P inner ts R outer vs
+carries_further P Q R inner room outer ts us vs c d = record {
+  free = λ rest l. d.free rest (c.free rest l);
+  limited = λ rest l. d.limited rest (c.limited rest l);
+  before = d.before ++ c.before;
+  joined = d.joined ∙ ap (λ m. d.before ++ m) c.joined ∙ sym (append_assoc d.before c.before ts);
+  crowds = (let i = c.crowds in let j = d.crowds in let k = openings_append d.before c.before in omega (arith, i, j, k));
+}
+
+-- a token that is one too many in a part is so in the whole
+pub deeper_on : {A B : Type 0} (P : Limit → Part A) (Q : Limit → Part B) (inner room : ℕ) (ts us : List Token) →
+    Carries P inner ts Q room us → (token : Token) → Deeper P inner ts token → Deeper Q room us token
+deeper_on P Q inner room ts us c token l = record {
   after = l.after;
   lost = c.limited (token ∷ l.after) l.lost;
   crowded = crowded_behind c.before ts us l.after token inner room c.joined c.crowds l.crowded;
   opens = l.opens;
 }
+
+carried : {A B : Type 0} (P : Limit → Part A) (Q : Limit → Part B) (inner room : ℕ) (ts us : List Token) →
+    Carries P inner ts Q room us → (e : Stop) → IsLostWithin P inner ts e → IsLostWithin Q room us e
+carried P Q inner room ts us c (At rest) l = c.free rest.now l
+carried P Q inner room ts us c (Deep token) l = deeper_on P Q inner room ts us c token l
 carried P Q inner room ts us c (Memory e) l = tt
 
 -- a part without nesting that stopped, in one with a limit

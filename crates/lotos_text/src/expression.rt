@@ -237,16 +237,18 @@ fn sync_list<'a>(
     ensures shorter { IfOk result (λ p. length p.1.now ≤ length tokens.now) }
     ensures lost { IfErr result (IsLost (SyncList text.now) tokens.now) }
 {
-    let (gates, rest) = match eat(tokens, TokenKind::Sign(Sign::RightBracket)) {
-        Some((_, rest)) => (Vec::new(alloc), rest),
+    match eat(tokens, TokenKind::Sign(Sign::RightBracket)) {
+        Some((_, rest)) => {
+            let (_, rest) = expect(rest, TokenKind::Sign(Sign::Bar))?;
+            Ok((Vec::new(alloc), rest))
+        }
         None => {
             let (gates, rest) = names(alloc, text, tokens)?;
             let (_, rest) = expect(rest, TokenKind::Sign(Sign::RightBracket))?;
-            (gates, rest)
+            let (_, rest) = expect(rest, TokenKind::Sign(Sign::Bar))?;
+            Ok((gates, rest))
         }
-    };
-    let (_, rest) = expect(rest, TokenKind::Sign(Sign::Bar))?;
-    Ok((gates, rest))
+    }
 }
 
 /// An operand: `stop`, `exit`, a behaviour expression in brackets, a prefix or a call.

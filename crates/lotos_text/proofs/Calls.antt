@@ -1,0 +1,91 @@
+-- Calls: what is found and lost behind the name of a process.
+use Rattle.std.proofs.Common.{◌≡◌, ℕ, ◌<◌, false, List, [], ◌∷◌, ◌++◌, Some, None, ◌⊎◌, inl, inr, Result, Ok, Err, IfErr, refl, sym, ◌∙◌, ap, arith, subst}
+use Rattle.std.proofs.lemmas.List.{append-nil}
+use Rattle.lotos_text.specs.Tree as t
+use Rattle.lotos_text.specs.Tree.{Tree}
+use Rattle.lotos_text.specs.Grammar.{Is, placed, prefixing, Spells, call}
+use Rattle.lotos_text.specs.Follow.{rank}
+use Rattle.lotos_text.specs.Parsing.{Part, NotFirst, Found, Starts, Lost, IsLost, IsLostWithin}
+use Rattle.lotos_text.specs.Parts.{Then, Gates, Expression}
+use Rattle.lotos_text.specs.declared.descent.Stop.{Stop}
+use Rattle.lotos_text.specs.declared.token.Sign.TheVariants as s
+use Rattle.lotos_text.specs.declared.token.Token.{Token}
+use Rattle.lotos_text.specs.declared.token.TokenKind.TheVariants.{Identifier, Sign}
+use Rattle.lotos_text.specs.declared.tree.Action.TheVariants.{Gate}
+use Rattle.lotos_text.specs.declared.tree.Placed.{Placed}
+use Rattle.lotos_text.proofs.Ends.{Ended}
+use Rattle.lotos_text.proofs.FirstToken.{not_first, starts_not, starts_behind}
+use Rattle.lotos_text.proofs.Limits.{within_none}
+use Rattle.lotos_text.proofs.NameLists.{firm_gates}
+use Rattle.lotos_text.proofs.Operands.{Called, Prefixed, below_calls, not_bracket, taken_name}
+use Rattle.lotos_text.proofs.Sequence.{lost_first, lost_second}
+use Rattle.lotos_text.proofs.Stops.{lost_free}
+
+-- an answer without nesting is passed on as it is, in a part with a limit
+pub still_free : {A T : Type 0} (room : ℕ) (P : Part A) (text : List ℕ) (us : List Token) (r : Result T Stop) →
+    IfErr r (IsLost (Expression text prefixing None) us) → IfErr r (IsLostWithin (Expression text prefixing) room us)
+still_free room P text us (Ok x) l = tt
+still_free room P text us (Err e) l =
+    lost_free (Expression text prefixing None) (Expression text prefixing) room us us (λ rest l. l) e l
+
+module _ (text : List ℕ) where
+  -- a name and its gates, with which nothing goes on, are a call
+  pub found_call : (room : ℕ) (n : Token) (ts rest : List Token) (name : Placed) (names : List Placed) → Is n Identifier →
+      name ≡ placed text n → Found (Gates text) ts names rest → rank rest < 5 →
+      Found (Expression text prefixing (Some room)) (n ∷ ts) (t.call name names) rest
+  found_call room n ts rest name names i e f h = record {
+    front = n ∷ f.front;
+    joined = ap (λ m. n ∷ m) f.joined;
+    whole = record {
+      ends = false;
+      nesting = 0;
+      spells = subst (λ m. Spells text prefixing false 0 (n ∷ f.front) (t.call m names)) (sym e) (call i f.whole.gates);
+      quits = h;
+      within = within_none (Some room);
+    };
+  }
+
+  abbrev alone : List Placed → Unit {0} → List Placed
+  alone names end = names
+
+  -- gates, with which nothing goes on
+  abbrev Listed : Part (List Placed)
+  Listed = Then alone (Gates text) Ended
+
+  -- what stands behind the name of a call is lost, and so is the call
+  lost_listed : (n : Token) (ts rest : List Token) → Is n Identifier → NotFirst (Sign s.Semicolon) ts → Lost Listed ts rest →
+      Lost (Expression text prefixing None) (n ∷ ts) rest
+  lost_listed n ts rest i without l = record {
+    front = n ∷ l.front;
+    joined = ap (λ m. n ∷ m) l.joined;
+    never = λ more own behind x st e p.
+        let alike : Starts ts (l.front ++ more) =
+        subst (λ m. Starts m (l.front ++ more)) (sym l.joined) (starts_behind l.front rest more st) in
+        let none = starts_not (Sign s.Semicolon) ts (l.front ++ more) alike without in
+        let quits = below_calls p.ends behind p.quits in
+        elim (taken_name text behind (l.front ++ more) i p.spells (sym e)) [
+          | inl c ↦ l.never more c.listed behind c.names st (sym c.rest) (record {
+              front = c.listed;
+              back = [];
+              one = c.names;
+              other = tt;
+              joined = sym (append-nil c.listed);
+              first = record { gates = c.gates; quits = λ e. not_bracket behind quits };
+              second = record { empty = refl; quits = quits };
+              same = refl;
+            })
+          | inr f ↦ not_first (Sign s.Semicolon) (l.front ++ more) (f.body ++ behind) none f.separates (sym f.rest)
+        ];
+  }
+
+  -- where the gates are lost, so is the call
+  pub lost_gates : (n : Token) (ts rest : List Token) → Is n Identifier → NotFirst (Sign s.Semicolon) ts →
+      Lost (Gates text) ts rest → Lost (Expression text prefixing None) (n ∷ ts) rest
+  lost_gates n ts rest i without l = lost_listed n ts rest i without (lost_first alone (Gates text) Ended ts rest l)
+
+  -- where something goes on with the call, it is no operand
+  pub lost_called : (n : Token) (ts between rest : List Token) (names : List Placed) → Is n Identifier →
+      NotFirst (Sign s.Semicolon) ts → Found (Gates text) ts names between → Lost Ended between rest →
+      Lost (Expression text prefixing None) (n ∷ ts) rest
+  lost_called n ts between rest names i without f l =
+      lost_listed n ts rest i without (lost_second alone (Gates text) Ended (firm_gates text) ts between rest names f l)
