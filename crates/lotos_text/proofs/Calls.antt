@@ -55,15 +55,15 @@ module _ (text : List ℕ) where
         let quits = below_calls p.ends behind p.quits in
         elim (taken_name text behind (l.front ++ more) i p.spells (sym e)) [
           | inl c ↦ l.never more c.listed behind c.names st (sym c.rest) (record {
-              front = c.listed;
-              back = [];
-              one = c.names;
-              other = tt;
-              joined = sym (append-nil c.listed);
-              first = record { gates = c.gates; quits = λ e. not_bracket behind quits };
-              second = record { empty = refl; quits = quits };
-              same = refl;
-            })
+            front = c.listed;
+            back = [];
+            one = c.names;
+            other = tt;
+            joined = sym (append-nil c.listed);
+            first = record { gates = c.gates; quits = λ e. not_bracket behind quits };
+            second = record { empty = refl; quits = quits };
+            same = refl;
+          })
           | inr f ↦ not_first (Sign s.Semicolon) (l.front ++ more) (f.body ++ behind) none f.separates (sym f.rest)
         ];
   }
