@@ -1,5 +1,5 @@
 -- Behaviour expressions in brackets: what is found and lost behind a left parenthesis.
-use Rattle.std.proofs.Common.{◌≡◌, ℕ, ◌+◌, ◌-◌, ◌<◌, ◌≤◌, false, List, [], ◌∷◌, ◌++◌, Some, None, refl, sym, ◌∙◌, ap, arith, subst}
+use Rattle.std.proofs.Common.{◌≡◌, ℕ, ◌+◌, ◌-◌, ◌<◌, false, List, [], ◌∷◌, ◌++◌, Some, None, refl, sym, ◌∙◌, arith, subst}
 use Rattle.std.proofs.lemmas.List.{append-nil}
 use Rattle.lotos_text.specs.Tree.{Tree}
 use Rattle.lotos_text.specs.Grammar.{Is, enabling, prefixing, Spells, brackets}
@@ -9,7 +9,7 @@ use Rattle.lotos_text.specs.Parts.{Then, One, Behind, Before, Expression}
 use Rattle.lotos_text.specs.declared.token.Sign.TheVariants as s
 use Rattle.lotos_text.specs.declared.token.Token.{Token}
 use Rattle.lotos_text.specs.declared.token.TokenKind.TheVariants.{Sign}
-use Rattle.lotos_text.proofs.Ends.{Ended, found_ended}
+use Rattle.lotos_text.proofs.Ends.{Ended}
 use Rattle.lotos_text.proofs.Firmness.{FirmWithin, firm_expression, firm_behind_within, firm_before_within, lost_after}
 use Rattle.lotos_text.proofs.Levels.{rank_none, rank_is}
 use Rattle.lotos_text.proofs.Limits.{inside, within_inside, opens_is, opens_among, crowded_here}

@@ -1,32 +1,22 @@
 -- Calls: what is found and lost behind the name of a process.
-use Rattle.std.proofs.Common.{◌≡◌, ℕ, ◌<◌, false, List, [], ◌∷◌, ◌++◌, Some, None, ◌⊎◌, inl, inr, Result, Ok, Err, IfErr, refl, sym, ◌∙◌, ap, arith, subst}
+use Rattle.std.proofs.Common.{◌≡◌, ℕ, ◌<◌, false, List, [], ◌∷◌, ◌++◌, Some, None, inl, inr, refl, sym, ap, subst}
 use Rattle.std.proofs.lemmas.List.{append-nil}
 use Rattle.lotos_text.specs.Tree as t
 use Rattle.lotos_text.specs.Tree.{Tree}
 use Rattle.lotos_text.specs.Grammar.{Is, placed, prefixing, Spells, call}
 use Rattle.lotos_text.specs.Follow.{rank}
-use Rattle.lotos_text.specs.Parsing.{Part, NotFirst, Found, Starts, Lost, IsLost, IsLostWithin}
+use Rattle.lotos_text.specs.Parsing.{Part, NotFirst, Found, Starts, Lost}
 use Rattle.lotos_text.specs.Parts.{Then, Gates, Expression}
-use Rattle.lotos_text.specs.declared.descent.Stop.{Stop}
 use Rattle.lotos_text.specs.declared.token.Sign.TheVariants as s
 use Rattle.lotos_text.specs.declared.token.Token.{Token}
 use Rattle.lotos_text.specs.declared.token.TokenKind.TheVariants.{Identifier, Sign}
-use Rattle.lotos_text.specs.declared.tree.Action.TheVariants.{Gate}
 use Rattle.lotos_text.specs.declared.tree.Placed.{Placed}
 use Rattle.lotos_text.proofs.Ends.{Ended}
 use Rattle.lotos_text.proofs.FirstToken.{not_first, starts_not, starts_behind}
 use Rattle.lotos_text.proofs.Limits.{within_none}
 use Rattle.lotos_text.proofs.NameLists.{firm_gates}
-use Rattle.lotos_text.proofs.Operands.{Called, Prefixed, below_calls, not_bracket, taken_name}
+use Rattle.lotos_text.proofs.Operands.{below_calls, not_bracket, taken_name}
 use Rattle.lotos_text.proofs.Sequence.{lost_first, lost_second}
-use Rattle.lotos_text.proofs.Stops.{lost_free}
-
--- an answer without nesting is passed on as it is, in a part with a limit
-pub still_free : {A T : Type 0} (room : ℕ) (P : Part A) (text : List ℕ) (us : List Token) (r : Result T Stop) →
-    IfErr r (IsLost (Expression text prefixing None) us) → IfErr r (IsLostWithin (Expression text prefixing) room us)
-still_free room P text us (Ok x) l = tt
-still_free room P text us (Err e) l =
-    lost_free (Expression text prefixing None) (Expression text prefixing) room us us (λ rest l. l) e l
 
 module _ (text : List ℕ) where
   -- a name and its gates, with which nothing goes on, are a call
@@ -65,15 +55,15 @@ module _ (text : List ℕ) where
         let quits = below_calls p.ends behind p.quits in
         elim (taken_name text behind (l.front ++ more) i p.spells (sym e)) [
           | inl c ↦ l.never more c.listed behind c.names st (sym c.rest) (record {
-              front = c.listed;
-              back = [];
-              one = c.names;
-              other = tt;
-              joined = sym (append-nil c.listed);
-              first = record { gates = c.gates; quits = λ e. not_bracket behind quits };
-              second = record { empty = refl; quits = quits };
-              same = refl;
-            })
+            front = c.listed;
+            back = [];
+            one = c.names;
+            other = tt;
+            joined = sym (append-nil c.listed);
+            first = record { gates = c.gates; quits = λ e. not_bracket behind quits };
+            second = record { empty = refl; quits = quits };
+            same = refl;
+          })
           | inr f ↦ not_first (Sign s.Semicolon) (l.front ++ more) (f.body ++ behind) none f.separates (sym f.rest)
         ];
   }

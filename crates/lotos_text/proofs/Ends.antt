@@ -1,12 +1,12 @@
 -- The end of an operand, where nothing goes on with it, and operands of one word.
-use Rattle.std.proofs.Common.{◌≡◌, ℕ, ◌+◌, ◌<◌, Bool, false, List, [], ◌∷◌, ◌++◌, Some, None, refl, sym, ◌∙◌, ap, arith, subst, Result, IfErr}
+use Rattle.std.proofs.Common.{◌≡◌, ℕ, ◌<◌, Bool, false, List, [], ◌∷◌, ◌++◌, Some, None, refl, sym, ◌∙◌, ap, arith, subst, Result, IfErr}
 use Rattle.std.specs.Result.{IsErrAnd}
 use Rattle.lotos_text.specs.Tree as t
 use Rattle.lotos_text.specs.Tree.{Tree}
-use Rattle.lotos_text.specs.Grammar.{Is, gate, internal, Level, prefixing, Spells, stop, exit, brackets, call, prefix, tighter, operation, hide}
-use Rattle.lotos_text.specs.Follow.{rank, bound}
+use Rattle.lotos_text.specs.Grammar.{Is, gate, internal, prefixing, Spells, stop, exit, brackets, call, prefix, tighter, operation, hide}
+use Rattle.lotos_text.specs.Follow.{rank}
 use Rattle.lotos_text.specs.Opens.{opening}
-use Rattle.lotos_text.specs.Parsing.{Part, NotFirst, Found, Lost, IsMissed, IsLostWithin, StopsAt}
+use Rattle.lotos_text.specs.Parsing.{NotFirst, Found, Lost, IsMissed, IsLostWithin, StopsAt}
 use Rattle.lotos_text.specs.Parts.{Expression}
 use Rattle.lotos_text.specs.declared.descent.Stop.{Stop}
 use Rattle.lotos_text.specs.declared.descent.Stop.TheVariants.{At, Deep, Memory}
@@ -24,9 +24,6 @@ use Rattle.lotos_text.proofs.Stops.{missed_free}
 pub record Ended (own : List Token) (said : Unit {0}) (behind : List Token) : Type 0 where
   pub empty : own ≡ []
   pub quits : rank behind < 5
-
-pub found_ended : (ts : List Token) → rank ts < 5 → Found Ended ts tt ts
-found_ended ts h = record { front = []; joined = refl; whole = record { empty = refl; quits = h } }
 
 lost_ended : (ts : List Token) → rank ts ≡ 5 → Lost Ended ts ts
 lost_ended ts h = record {
@@ -67,6 +64,7 @@ module _ (text : List ℕ) where
         (record { empty = refl; quits = below_calls p.ends behind p.quits });
   }
 
+  -- `stop`, with which nothing goes on, is an operand
   pub found_stop : (room : ℕ) (n : Token) (ts : List Token) → Is n (Reserved w.StopWord) → rank ts < 5 →
       Found (Expression text prefixing (Some room)) (n ∷ ts) t.stop ts
   found_stop room n ts i h = record {
@@ -80,6 +78,7 @@ module _ (text : List ℕ) where
       Lost (Expression text prefixing None) (n ∷ ts) rest
   lost_stop n ts rest i l = lost_leaf n ts rest t.stop (λ ends nesting own behind more x d e. taken_stop text behind more i d e) l
 
+  -- `exit`, with which nothing goes on, is an operand
   pub found_exit : (room : ℕ) (n : Token) (ts : List Token) → Is n (Reserved w.ExitWord) → rank ts < 5 →
       Found (Expression text prefixing (Some room)) (n ∷ ts) t.exit ts
   found_exit room n ts i h = record {
@@ -119,25 +118,3 @@ module _ (text : List ℕ) where
     never = λ more own behind x st e p.
         never_begun n p.ends p.nesting own behind st.0 x h without (sym st.1 ∙ e) p.spells;
   }
-
-  never_empty : (ends : Bool) (nesting : ℕ) (own behind : List Token) (x : Tree) → [] ≡ own ++ behind →
-      Spells text prefixing ends nesting own x → ⊥
-  never_empty ends nesting own behind x e (stop i) = cc
-  never_empty ends nesting own behind x e (exit i) = cc
-  never_empty ends nesting own behind x e (brackets i d j) = cc
-  never_empty ends nesting own behind x e (call i g) = cc
-  never_empty ends nesting own behind x e (prefix i j d) = cc
-  never_empty ends nesting own behind x e (tighter b d) = elim b [ ]
-  never_empty ends nesting own behind x e (operation b d j f) = elim b [ ]
-  never_empty ends nesting own behind x e (hide i g j d) = cc
-
-  -- no token spells no operand
-  pub lost_empty : (ts : List Token) → ts ≡ [] → Lost (Expression text prefixing None) ts ts
-  lost_empty ts h = subst (λ m. Lost (Expression text prefixing None) m m) (sym h) nothing
-    where
-      nothing : Lost (Expression text prefixing None) [] []
-      nothing = record {
-        front = [];
-        joined = refl;
-        never = λ more own behind x st e p. never_empty p.ends p.nesting own behind x (sym st ∙ e) p.spells;
-      }

@@ -1,5 +1,5 @@
 -- Hide forms: what is found and lost behind the word `hide`.
-use Rattle.std.proofs.Common.{◌≡◌, ℕ, ◌+◌, ◌-◌, ◌<◌, ◌≤◌, Bool, true, false, List, [], ◌∷◌, ◌++◌, Some, None, Result, Ok, Err, IfErr, refl, sym, ◌∙◌, ap, append_assoc, arith, subst}
+use Rattle.std.proofs.Common.{◌≡◌, ℕ, ◌+◌, ◌-◌, ◌<◌, Bool, true, false, List, [], ◌∷◌, ◌++◌, Some, None, Result, Ok, Err, IfErr, refl, sym, ◌∙◌, ap, append_assoc, arith, subst}
 use Rattle.lotos_text.specs.Tree as t
 use Rattle.lotos_text.specs.Tree.{Tree}
 use Rattle.lotos_text.specs.Grammar.{Is, Level, enabling, Spells, hide}

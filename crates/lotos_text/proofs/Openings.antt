@@ -36,9 +36,3 @@ is_exit n e = record { same = subst (λ x. Means n.kind x) e (means n.kind) }
 
 pub is_internal : (n : Token) → opening n.kind ≡ o.Internal → Is n (Reserved w.IWord)
 is_internal n e = record { same = subst (λ x. Means n.kind x) e (means n.kind) }
-
-pub is_name : (n : Token) → opening n.kind ≡ o.Name → Is n Identifier
-is_name n e = record { same = subst (λ x. Means n.kind x) e (means n.kind) }
-
-pub is_bracket : (n : Token) → opening n.kind ≡ o.Bracket → Is n (Sign s.LeftParenthesis)
-is_bracket n e = record { same = subst (λ x. Means n.kind x) e (means n.kind) }

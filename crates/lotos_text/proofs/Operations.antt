@@ -1,7 +1,7 @@
 -- Operations of a level: what is found and lost in a left operand, an operator and a right operand.
-use Rattle.std.proofs.Common.{◌≡◌, ℕ, ◌+◌, ◌-◌, ◌<◌, ◌≤◌, max, Bool, true, false, List, [], ◌∷◌, ◌++◌, Some, None, Result, IfErr, refl, sym, ◌∙◌, ap, append_assoc, arith, subst}
+use Rattle.std.proofs.Common.{◌≡◌, ℕ, ◌+◌, ◌-◌, ◌<◌, ◌≤◌, max, Bool, true, false, List, [], ◌∷◌, ◌++◌, Some, None, refl, sym, ◌∙◌, ap, append_assoc, arith, subst}
 use Rattle.lotos_text.specs.Tree.{Tree}
-use Rattle.lotos_text.specs.Grammar.{Is, Level, enabling, disabling, parallel, choosing, prefixing, Below, below_enabling, below_disabling, below_parallel, below_choosing, Operator, join, Operates, enable_sign, disable_sign, interleave_sign, full_sign, sync_on_none, sync_on, choice_sign, Spells, tighter, operation}
+use Rattle.lotos_text.specs.Grammar.{Level, enabling, disabling, parallel, choosing, prefixing, Below, below_enabling, below_disabling, below_parallel, below_choosing, Operator, join, Operates, enable_sign, disable_sign, interleave_sign, full_sign, sync_on_none, sync_on, choice_sign, Spells, tighter, operation}
 use Rattle.lotos_text.specs.Follow.{rank, level_rank, bound}
 use Rattle.lotos_text.specs.Kinds.{opens, openings}
 use Rattle.lotos_text.specs.Opens.{mark, mark_level}
@@ -12,7 +12,7 @@ use Rattle.lotos_text.specs.declared.expression.Infix.TheVariants as i
 use Rattle.lotos_text.specs.declared.token.Token.{Token}
 use Rattle.lotos_text.proofs.Firmness.{firm_operation}
 use Rattle.lotos_text.proofs.FirstToken.{starts_rank, starts_behind}
-use Rattle.lotos_text.proofs.Levels.{below_rank, bound_below, bound_most, rank_is, operator_rank, operator_below, Levelled, alone, operated, taken_level}
+use Rattle.lotos_text.proofs.Levels.{bound_below, bound_most, rank_is, operator_rank, operator_below, Levelled, alone, operated, taken_level}
 use Rattle.lotos_text.proofs.Limits.{inside, within_inside, within_less, opens_is, opens_among, crowded_here}
 use Rattle.lotos_text.proofs.Sequence.{lost_first, lost_second}
 use Rattle.lotos_text.proofs.Stops.{Carries}
@@ -213,6 +213,7 @@ module _ (text : List ℕ) where
       subst (λ m. Found (Operation text m) between how after) h
       (subst (λ ts. Found (Operation text k) ts how after) (sym e) f)
 
+  -- the same of an operator that is lost
   pub marked_lost : {l k : Level} (between others rest : List Token) → between ≡ others → k ≡ l →
       Lost (Operation text k) others rest → Lost (Operation text l) between rest
   marked_lost {k = k} between others rest e h f =
@@ -257,10 +258,10 @@ module _ (text : List ℕ) where
   }
 
   -- with no room left, an operator that goes on begins nothing
-  pub deep_operation : {l m : Level} (room : ℕ) (ts between after : List Token) (n : Token) (mark_found : Infix) (x : Tree) →
+  pub deep_operation : {l m : Level} (room : ℕ) (ts between after : List Token) (n : Token) (which : Infix) (x : Tree) →
       room ≡ 0 → Below l m → Found (Expression text m (Some room)) ts x between → between ≡ n ∷ after →
-      mark n.kind ≡ Some mark_found → mark_level mark_found ≡ l → Deeper (Expression text l) room ts n
-  deep_operation {l} room ts between after n mark_found x h b f e i j = record {
+      mark n.kind ≡ Some which → mark_level which ≡ l → Deeper (Expression text l) room ts n
+  deep_operation {l} room ts between after n which x h b f e i j = record {
     after = after;
     lost = record {
       front = f.front;
@@ -268,11 +269,11 @@ module _ (text : List ℕ) where
       never = λ more own behind z st g p.
           let same : rank more ≡ rank between = starts_rank (n ∷ after) more st ∙ ap rank (sym e) in
           never_deep f.front more own behind f.whole.ends p.ends f.whole.nesting p.nesting x z b f.whole.spells
-          (same ∙ marked between after n mark_found e i j) (let q = f.whole.quits in omega (arith, same, q)) g
+          (same ∙ marked between after n which e i j) (let q = f.whole.quits in omega (arith, same, q)) g
           (taken_level text b p.spells) p.quits (let k = p.within in omega (arith, h, k));
     };
-    crowded = crowded_here ts f.front after n room (f.joined ∙ ap (λ m. f.front ++ m) e) h (mark_opens n mark_found i);
-    opens = mark_opens n mark_found i;
+    crowded = crowded_here ts f.front after n room (f.joined ∙ ap (λ m. f.front ++ m) e) h (mark_opens n which i);
+    opens = mark_opens n which i;
   }
     where
       never_deep : {l m : Level} (front more own behind : List Token) (o ends : Bool) (n nesting : ℕ) (x z : Tree) →

@@ -1,5 +1,5 @@
 -- Prefixes: what is found and lost behind an action.
-use Rattle.std.proofs.Common.{◌≡◌, ℕ, ◌+◌, ◌-◌, ◌<◌, ◌≤◌, List, [], ◌∷◌, ◌++◌, Some, None, refl, sym, ◌∙◌, ap, arith, subst}
+use Rattle.std.proofs.Common.{◌≡◌, ℕ, ◌+◌, ◌-◌, ◌<◌, List, [], ◌∷◌, ◌++◌, Some, None, refl, sym, ◌∙◌, ap, arith, subst}
 use Rattle.lotos_text.specs.Tree as t
 use Rattle.lotos_text.specs.Tree.{Tree}
 use Rattle.lotos_text.specs.Grammar.{Is, Acts, prefixing, Spells, prefix}

@@ -1,10 +1,10 @@
 -- Operators, and the gates behind `|[`: what is found and lost.
 use Rattle.std.proofs.Common.{◌≡◌, ℕ, List, [], ◌∷◌, ◌++◌, Option, Some, None, refl, sym, ◌∙◌, ap, append_assoc, subst}
 use Rattle.lotos_text.specs.Tree as t
-use Rattle.lotos_text.specs.Grammar.{Is, Names, one_name, more_names, Level, parallel, Operator, synchronizes, Operates, enable_sign, disable_sign, interleave_sign, full_sign, sync_on_none, sync_on, choice_sign}
-use Rattle.lotos_text.specs.Opens.{mark, mark_level}
+use Rattle.lotos_text.specs.Grammar.{Is, Names, one_name, more_names, Level, parallel, Operator, synchronizes, Operates, interleave_sign, full_sign, sync_on_none, sync_on}
+use Rattle.lotos_text.specs.Opens.{mark}
 use Rattle.lotos_text.specs.Parsing.{Part, NotFirst, Found, Starts, Lost}
-use Rattle.lotos_text.specs.Parts.{One, Behind, Before, NameList, Operation, SyncList, no_sync, some_sync}
+use Rattle.lotos_text.specs.Parts.{One, Before, NameList, Operation, SyncList, no_sync, some_sync}
 use Rattle.lotos_text.specs.declared.expression.Infix.{Infix}
 use Rattle.lotos_text.specs.declared.expression.Infix.TheVariants as i
 use Rattle.lotos_text.specs.declared.token.Sign.{Sign as SignKind}
@@ -49,14 +49,12 @@ pub is_mark : (n : Token) (m : Infix) → mark n.kind ≡ Some m → Is n (Sign 
 is_mark n m e = record { same = subst (λ x. Means n.kind x) e (means n.kind) }
 
 module _ (text : List ℕ) where
-  -- an operator of one token
-
+  -- a mark that is an operator by itself
   pub found_sign : {l : Level} {how : Operator} (n : Token) (ts : List Token) → Operates text l (n ∷ []) how →
       Found (Operation text l) (n ∷ ts) how ts
   found_sign n ts i = record { front = n ∷ []; joined = refl; whole = record { operates = i } }
 
-  -- behind `|[` its gates make an operator
-
+  -- `|[` and the gates behind it are an operator
   pub found_sync : (n : Token) (ts rest : List Token) (names : List Placed) → Is n (Sign s.LeftSync) →
       Found (SyncList text) ts names rest → Found (Operation text parallel) (n ∷ ts) (synchronizes (t.gates names)) rest
   found_sync n ts rest names i f = record {

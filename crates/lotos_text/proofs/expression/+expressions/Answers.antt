@@ -1,14 +1,13 @@
-use Rattle.std.proofs.Common.{rules, ◌≡◌, ◌<◌, sym, ◌∙◌, subst, arith}
-use Rattle.lotos_text.specs.Grammar.{Is, Acts, gate, internal, placed, enabling, prefixing}
+use Rattle.std.proofs.Common.{rules, sym, ◌∙◌, subst, arith}
+use Rattle.lotos_text.specs.Grammar.{Acts, gate, internal, enabling, prefixing}
 use Rattle.lotos_text.specs.Parts.{One, NameList, Expression, Operation}
 use Rattle.lotos_text.specs.View.{level_of}
 use Rattle.lotos_text.specs.declared.tree.Action.TheVariants.{Gate}
 use Rattle.lotos_text.proofs.Bracketed.{found_closed, carries_inside, lost_open, lost_going_on, deep_bracket}
-use Rattle.lotos_text.proofs.Calls.{still_free}
-use Rattle.lotos_text.proofs.Ends.{unended, found_stop, lost_stop, found_exit, lost_exit, lost_begun, lost_empty}
+use Rattle.lotos_text.proofs.Ends.{unended, found_stop, lost_stop, found_exit, lost_exit, lost_begun}
 use Rattle.lotos_text.proofs.FirstToken.{not_first}
 use Rattle.lotos_text.proofs.Hidings.{each_level, found_hidden, lost_hidden, lost_unentered, carries_hidden, deep_hide}
-use Rattle.lotos_text.proofs.Openings.{is_stop, is_exit, is_internal, is_name, is_bracket}
+use Rattle.lotos_text.proofs.Openings.{is_stop, is_exit, is_internal}
 use Rattle.lotos_text.proofs.Operations.{marked, marked_found, marked_lost, found_alone, found_operation, carries_left, lost_operator, carries_right, deep_operation}
 use Rattle.lotos_text.proofs.Prefixes.{lost_not_first, found_body, lost_unseparated, carries_body, deep_prefix}
 use Rattle.lotos_text.proofs.Stops.{carried_on, freed_on, missed_free}
@@ -165,7 +164,26 @@ operation-returns-clause-found t c =
     c.in-Some.ensures.some.2 c.in_ok-how.ensures.found)
     c.in_ok-right.ensures.found c.in_ok-whole.ensures
 
+-- names
+
+pub named-prefixed-requires : goal.named-prefixed-requires
+named-prefixed-requires t c = (
+  search rules,
+  (
+    subst (λ p. Acts c.args.text.now c.args.first (Gate p)) (sym c.in_ok-name.ensures) (gate c.requires.named),
+    (
+      (λ absent. absurd (not_first _ c.args.tokens.now _ absent c.in-Some.ensures.some.1 c.in-Some.ensures.some.0)),
+      search rules,
+    ),
+  ),
+)
+
 -- operands
+
+pub operand-prefixed-requires : goal.operand-prefixed-requires
+operand-prefixed-requires t c =
+    let first = is_internal c.in-Some.first (sym c.opening_of.ensures ∙ c.in-Internal.is) in
+    (search rules, (internal first, ((λ absent. first), search rules)))
 
 pub operand-returns-in_err-whole-in-Stop-clause-lost : goal.operand-returns-in_err-whole-in-Stop-clause-lost
 operand-returns-in_err-whole-in-Stop-clause-lost t c =
@@ -197,20 +215,3 @@ operand-returns-in-Nothing-clause-lost t c =
     let shown = rw c.in-Some.ensures at c.requires.shown in
     rw c.in-Some.ensures (lost_begun c.args.text.now c.in-Some.first c.in-Some.rest.now
     (sym c.opening_of.ensures ∙ c.in-Nothing.is) shown)
-
-pub operand-prefixed-requires : goal.operand-prefixed-requires
-operand-prefixed-requires t c =
-    let first = is_internal c.in-Some.first (sym c.opening_of.ensures ∙ c.in-Internal.is) in
-    (search rules, (internal first, ((λ absent. first), search rules)))
-
-pub named-prefixed-requires : goal.named-prefixed-requires
-named-prefixed-requires t c = (
-  search rules,
-  (
-    subst (λ p. Acts c.args.text.now c.args.first (Gate p)) (sym c.in_ok-name.ensures) (gate c.requires.named),
-    (
-      (λ absent. absurd (not_first _ c.args.tokens.now _ absent c.in-Some.ensures.some.1 c.in-Some.ensures.some.0)),
-      search rules,
-    ),
-  ),
-)
