@@ -1,5 +1,5 @@
 use Rattle.lotos_text.specs.View.{definition_of}
-use Rattle.lotos_tool.proofs.Refusals.{broken_inside, broken_unaccepted}
+use Rattle.lotos_tool.proofs.Refusals.{broken_inside, broken_unaccepted, unsearched_unaccepted}
 use Rattle.lotos_tool.proofs.searching.accept.Goals as goal
 
 pub line_column-line-requires : goal.line_column-line-requires
