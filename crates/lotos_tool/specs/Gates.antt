@@ -1,6 +1,6 @@
 -- Lists of gates: those of a behaviour, and the first that breaks a rule.
 use Rattle.std.specs.Prelude.{◌≡◌, ℕ, List, [], ◌∷◌, ◌++◌}
-use Rattle.lotos_text.specs.Tree.{Tree, stop, exit, prefix, choice}
+use Rattle.lotos_text.specs.Tree.{Tree, stop, exit, prefix, choice, par, hide, enable, disable, call}
 use Rattle.lotos_text.specs.declared.tree.Placed.{Placed}
 use Rattle.lotos_text.specs.declared.tree.Action.{Action}
 use Rattle.lotos_text.specs.declared.tree.Action.TheVariants.{Internal, Gate}
@@ -11,12 +11,17 @@ abbrev pub head_gates : Action → List Placed
 head_gates Internal = []
 head_gates (Gate g) = g ∷ []
 
--- the gates that a behaviour uses, in text order
+-- the gates that a sequential behaviour uses, in text order
 abbrev pub gates_of : Tree → List Placed
 gates_of stop = []
 gates_of exit = []
 gates_of (prefix a b) = head_gates a ++ gates_of b
 gates_of (choice l r) = gates_of l ++ gates_of r
+gates_of (par l sync r) = []
+gates_of (hide gates b) = []
+gates_of (enable l at r) = []
+gates_of (disable l r) = []
+gates_of (call name gates) = []
 
 -- no name stands after one of the same text
 abbrev pub AreDistinct : List Placed → Type 0

@@ -4,6 +4,7 @@ pub mod Derivations
 pub mod Listing
 pub mod Steps
 pub mod Rules
+pub mod Sequential
 pub mod Accepted
 pub mod LabelWords
 pub mod Misuses

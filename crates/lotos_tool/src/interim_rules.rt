@@ -6,6 +6,7 @@ ghost use Rattle.lotos_tool.specs.Gates.{head_gates, gates_of, AreDistinct, IsFi
 ghost use Rattle.lotos_tool.specs.Rules as rules;
 ghost use Rattle.lotos_tool.specs.Rules.{In, texts, Func, WellTyped};
 ghost use Rattle.lotos_tool.specs.Misuses.{IsMisuse};
+ghost use Rattle.lotos_tool.specs.Sequential.{IsSearched, IsSequential};
 
 use crate::message::Declared;
 use indexmap::IndexSet;
@@ -44,6 +45,7 @@ pub struct Misuse {
 /// The first static rule that a specification breaks: a formal gate declared twice, then a gate not declared, then the
 /// functionality.
 pub fn misuse_of(alloc: Global, whole: &Definition) -> Result<Option<Misuse>, AllocError>
+    requires { IsSearched (definition_of whole.now) }
     ensures { IfOk result (λ found. MatchOption found (WellTyped (definition_of whole.now)) (IsMisuse (definition_of whole.now))) }
 {
     let mut declared = IndexSet::new(alloc);
@@ -92,6 +94,7 @@ fn declare_gates<'a>(
 
 /// The first gate in text order that is used and not declared.
 fn first_undeclared<'a>(body: &'a Behaviour, declared: &IndexSet<&str>) -> Option<&'a Placed>
+    requires { IsSequential (tree_of body.now) }
     ensures none { IfNone result (AreKnown (gates_of (tree_of body.now)) (map deref declared.now.keys)) }
     ensures first { IfSome result (λ gate. IsFirstUnknown gate.now (gates_of (tree_of body.now)) (map deref declared.now.keys)) }
 {
@@ -105,6 +108,11 @@ fn first_undeclared<'a>(body: &'a Behaviour, declared: &IndexSet<&str>) -> Optio
             Some(gate) => Some(gate),
             None => first_undeclared(right, declared),
         },
+        Behaviour::Par { .. }
+        | Behaviour::Hide { .. }
+        | Behaviour::Enable { .. }
+        | Behaviour::Disable { .. }
+        | Behaviour::Call { .. } => unreachable!(),
     }
 }
 
@@ -133,6 +141,7 @@ fn is_declared(gate: &Placed, declared: &IndexSet<&str>) -> bool
 
 /// The functionality of a behaviour.
 fn functionality_of(body: &Behaviour) -> Functionality
+    requires { IsSequential (tree_of body.now) }
     ensures { Func (tree_of body.now) result }
 {
     match body {
@@ -143,6 +152,11 @@ fn functionality_of(body: &Behaviour) -> Functionality
             functionality_of(left),
             functionality_of(right),
         ),
+        Behaviour::Par { .. }
+        | Behaviour::Hide { .. }
+        | Behaviour::Enable { .. }
+        | Behaviour::Disable { .. }
+        | Behaviour::Call { .. } => unreachable!(),
     }
 }
 

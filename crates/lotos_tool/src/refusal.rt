@@ -15,6 +15,10 @@ pub enum Refusal {
         fault: TextFault,
         place: Option<(usize, usize)>,
     },
+    /// The text spells a specification with a form that is not searched yet: anything but `stop`, `exit`, action prefix and
+    /// choice in its behaviour, or a definition in its `where`.
+    #[error("E30 form is not searched yet")]
+    E30,
     /// The specification breaks a static rule.
     #[error("{}{}", At(Some((*.line, *.column))), .fault)]
     Static {

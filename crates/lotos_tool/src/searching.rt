@@ -12,7 +12,7 @@ use crate::command::SearchRequest;
 use crate::device::{DeviceFailed, Sink, Source};
 use crate::interim_pattern::{Unread, read_labels};
 use crate::interim_rules::misuse_of;
-use crate::interim_search::can_show;
+use crate::interim_search::{can_show, is_searched};
 use crate::reading::{ReadFault, read_text};
 use crate::refusal::Refusal;
 use crate::writing::write_sequence;
@@ -22,8 +22,8 @@ use std::alloc::{AllocError, Global};
 /// Reads a specification and writes the listing of its sequences that match the request's pattern: those that some
 /// derivation of at most the request's depth of steps yields, each once, shorter first, then in the order of their labels.
 ///
-/// The words of the pattern are read first, then the text, which is then checked. What is refused first is answered, with
-/// nothing written, and for the words with nothing read. A line is composed whole before its first byte is written. Where
+/// The words of the pattern are read first, then the text, whose specification must have no form that is not searched yet,
+/// and is then checked. What is refused first is answered, with nothing written, and for the words with nothing read. A line is composed whole before its first byte is written. Where
 /// no fault came the writing ends with one flush. The reader and the writer have not failed yet.
 pub fn list<R: Source, W: Sink>(
     alloc: Global,
@@ -95,6 +95,9 @@ fn accept(alloc: Global, text: &[u8]) -> Result<Specification, Unaccepted>
         Ok(found) => found,
         Err(fault) => return Err(text_refusal(text, fault)),
     };
+    if !is_searched(&found.whole) {
+        return Err(Unaccepted::Refused(Refusal::E30));
+    }
     match misuse_of(alloc, &found.whole) {
         Ok(None) => Ok(found),
         Ok(Some(misuse)) => {
@@ -135,9 +138,12 @@ fn place_of(text: &[u8], fault: &TextFault) -> Option<(usize, usize)>
     ensures { IsPlaceOf text.now fault.now result }
 {
     match fault {
-        TextFault::E01(at) | TextFault::E04(at) | TextFault::E06(at) => Some(line_column(
-            text, *at,
-        )),
+        TextFault::E01(at)
+        | TextFault::E02(at)
+        | TextFault::E04(at)
+        | TextFault::E05(at)
+        | TextFault::E06(at)
+        | TextFault::E07(at) => Some(line_column(text, *at)),
         TextFault::E03 | TextFault::E99(_) => None,
     }
 }

@@ -1,6 +1,7 @@
 //! Runs over readers and writers in memory.
 
 mod devices;
+mod forms;
 mod reading;
 mod rows;
 mod running;

@@ -1,0 +1,179 @@
+//! Runs over texts of the whole grammar: forms that are not searched yet, and the faults of texts.
+
+use super::devices::{ArrayWriter, SliceReader, run_on};
+use std::alloc::{AllocError, Global};
+use std::process::Abort;
+
+const WORDS: &[&str] = &["lotosseq", "search", "--depth", "1", "A"];
+
+const UNSEARCHED: &[(&str, &[u8])] = &[
+    (
+        "interleaving",
+        b"specification S [a] : noexit behaviour a; stop ||| stop endspec",
+    ),
+    (
+        "full synchronization",
+        b"specification S [a] : noexit behaviour a; stop || stop endspec",
+    ),
+    (
+        "synchronization on a list",
+        b"specification S [a] : noexit behaviour a; stop |[a]| stop endspec",
+    ),
+    (
+        "synchronization on an empty list",
+        b"specification S [a] : noexit behaviour a; stop |[]| stop endspec",
+    ),
+    (
+        "hiding",
+        b"specification S [a] : noexit behaviour hide a in a; stop endspec",
+    ),
+    (
+        "enabling",
+        b"specification S [a] : noexit behaviour exit >> stop endspec",
+    ),
+    (
+        "disabling",
+        b"specification S [a] : noexit behaviour stop [> stop endspec",
+    ),
+    (
+        "a call without gates",
+        b"specification S [a] : noexit behaviour P endspec",
+    ),
+    (
+        "a call with gates",
+        b"specification S [a] : noexit behaviour P [a] endspec",
+    ),
+    (
+        "a definition beside a sequential body",
+        b"specification S [a] : noexit behaviour a; stop where process P : noexit := stop endproc endspec",
+    ),
+    (
+        "a form behind a prefix",
+        b"specification S [a] : noexit behaviour a; a; (stop ||| stop) endspec",
+    ),
+    (
+        "a form on the left of a choice",
+        b"specification S [a] : noexit behaviour (stop ||| stop) [] a; stop endspec",
+    ),
+    (
+        "a form on the right of a choice",
+        b"specification S [a] : noexit behaviour a; stop [] (stop ||| stop) endspec",
+    ),
+    (
+        "a form deep inside choices",
+        b"specification S [a] : noexit behaviour a; stop [] a; (a; stop [] i; (stop [] hide a in a; stop)) endspec",
+    ),
+    (
+        "beside a gate that is not declared",
+        b"specification S [a] : noexit behaviour b; stop ||| stop endspec",
+    ),
+    (
+        "beside a gate that is declared twice",
+        b"specification S [a,a] : noexit behaviour a; stop ||| stop endspec",
+    ),
+    (
+        "beside another functionality",
+        b"specification S [a] : exit behaviour a; stop ||| stop endspec",
+    ),
+];
+
+#[test]
+fn forms_that_are_not_searched_yet(rt: HostRuntime) {
+    for (name, text) in UNSEARCHED {
+        expect(
+            &rt,
+            rt.alloc(),
+            name,
+            *text,
+            b"",
+            b"lotosseq: E30 form is not searched yet\n",
+        );
+    }
+}
+
+const FAULTS: &[(&str, &[u8], &[u8])] = &[
+    (
+        "a token too many behind a form that is not searched",
+        b"specification S [a] : noexit behaviour stop ||| stop stop endspec",
+        b"lotosseq: 1:54: E04 token is not expected\n",
+    ),
+    (
+        "an empty list of gates in a call, which is the mark of a choice",
+        b"specification S [a] : noexit behaviour P[] endspec",
+        b"lotosseq: 1:44: E04 token is not expected\n",
+    ),
+    (
+        "the opening of a comment, whose asterisk closes nothing",
+        b"(*)",
+        b"lotosseq: 1:1: E02 comment is not closed\n",
+    ),
+    (
+        "a comment that is not closed, on the second line",
+        b"specification S [a] :\n noexit (* behaviour stop endspec",
+        b"lotosseq: 2:9: E02 comment is not closed\n",
+    ),
+    (
+        "a comment alone",
+        b"(**)",
+        b"lotosseq: 1:5: E06 text ends too early\n",
+    ),
+    (
+        "a data type",
+        b"type T is endtype",
+        b"lotosseq: 1:1: E07 word of full LOTOS\n",
+    ),
+    (
+        "a data type behind a form that is not searched",
+        b"specification S [a] : noexit behaviour stop ||| stop where\ntype T is endtype endspec",
+        b"lotosseq: 2:1: E07 word of full LOTOS\n",
+    ),
+];
+
+#[test]
+fn faults_of_texts(rt: HostRuntime) {
+    for (name, text, message) in FAULTS {
+        expect(&rt, rt.alloc(), name, *text, b"", *message);
+    }
+}
+
+#[test]
+fn comments_separate_tokens(rt: HostRuntime) {
+    let text = b"specification(**)S [a] : noexit behaviour a; (* b; *) stop endspec";
+    expect(&rt, rt.alloc(), "comments", text, b"A\n", b"");
+}
+
+#[test]
+fn prefixes_nest_so_deep_and_no_deeper(rt: HostRuntime) -> Result<(), AllocError> {
+    let cases: [(usize, &[u8], &[u8]); 2] = [
+        (200, b"A\n", b""),
+        (201, b"", b"lotosseq: 1:641: E05 nesting is over 200\n"),
+    ];
+    for (count, output, message) in cases {
+        let mut text = Vec::from_slice(rt.alloc(), b"specification S [a] : noexit behaviour ")?;
+        for _prefix in 0..count {
+            text.extend_from_slice(b"a; ")?;
+        }
+        text.extend_from_slice(b"stop endspec")?;
+        expect(
+            &rt,
+            rt.alloc(),
+            "prefixes",
+            text.as_slice(),
+            output,
+            message,
+        );
+    }
+    Ok(())
+}
+
+/// Searches the text, and expects what is written and what is said; the status is 0 exactly where nothing is said.
+fn expect(rt: &impl Abort, alloc: Global, name: &str, text: &[u8], output: &[u8], message: &[u8]) {
+    let reader = SliceReader::new(text, 4096);
+    let out = ArrayWriter::new(4096);
+    let err = ArrayWriter::new(4096);
+    let (status, _reader, out, err) = run_on(alloc, WORDS, reader, out, err);
+    assert_eq!(rt; out.got(), output, "{name}");
+    assert_eq!(rt; err.got(), message, "{name}");
+    assert_eq!(rt; status, if message.is_empty() { 0 } else { 2 }, "{name}");
+    assert_eq!(rt; out.flushes, usize::from(message.is_empty()), "{name}");
+}
