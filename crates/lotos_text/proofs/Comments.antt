@@ -42,24 +42,24 @@ pub record NoneBefore (text : List ℕ) (at : ℕ) : Type 0 where
   pub none : (k : ℕ) → 2 ≤ k → k < at → Begins closing (drop k text) → ⊥
 
 -- the rest of the text, as the program takes it
-abbrev pub from : List ℕ → ℕ → List ℕ
-from text at = take (length text - at) (drop at text)
+abbrev pub rest_of : List ℕ → ℕ → List ℕ
+rest_of text at = take (length text - at) (drop at text)
 
-from_is : (text : List ℕ) (at : ℕ) → from text at ≡ drop at text
-from_is text at = take_all (length text - at) (drop at text) (omega (arith, length-drop at text))
+pub rest_is : (text : List ℕ) (at : ℕ) → rest_of text at ≡ drop at text
+rest_is text at = take_all (length text - at) (drop at text) (omega (arith, length-drop at text))
 
 -- none stands before the bytes behind the opening
 pub none_at_start : (text : List ℕ) → Begins opening text → NoneBefore text 2
 none_at_start text b = record { behind_opening = omega arith; inside = omega (arith, ap length b.1); none = λ k h l c. omega (arith, h, l) }
 
 -- where none stands at the offset either, none stands before the one behind it
-pub none_step : (text : List ℕ) (at : ℕ) → NoneBefore text at → at < length text → starts_with nat_eq (from text at) closing ≡ false →
+pub none_step : (text : List ℕ) (at : ℕ) → NoneBefore text at → at < length text → starts_with nat_eq (rest_of text at) closing ≡ false →
     NoneBefore text (at + 1)
 none_step text at n s h = record {
   behind_opening = omega (arith, n.behind_opening);
   inside = omega (arith, s);
   none = λ k low high c. elim (cases_order k at) [
-    | inl same ↦ begins_false closing (from text at) h (subst (λ l. Begins closing l) (ap (λ m. drop m text) same ∙ sym (from_is text at)) c)
+    | inl same ↦ begins_false closing (rest_of text at) h (subst (λ l. Begins closing l) (ap (λ m. drop m text) same ∙ sym (rest_is text at)) c)
     | inr (inl less) ↦ n.none k low less c
     | inr (inr more) ↦ omega (arith, more, high)
   ];
@@ -95,10 +95,10 @@ no_bytes [] h = refl
 no_bytes (b ∷ bs) h = absurd (omega (arith, h))
 
 -- the text up to the first closing is a comment
-pub comment_found : (text : List ℕ) (at : ℕ) → Begins opening text → NoneBefore text at → starts_with nat_eq (from text at) closing ≡ true →
+pub comment_found : (text : List ℕ) (at : ℕ) → Begins opening text → NoneBefore text at → starts_with nat_eq (rest_of text at) closing ≡ true →
     IsComment (take (at + 2) text) × (at + 2 ≤ length text)
 comment_found text at o n h =
-    let c : Begins closing (drop at text) = subst (λ l. Begins closing l) (from_is text at) (begins_true closing (from text at) h) in
+    let c : Begins closing (drop at text) = subst (λ l. Begins closing l) (rest_is text at) (begins_true closing (rest_of text at) h) in
     let inside : at + 2 ≤ length text = omega (arith, ap length c.1, length-drop at text, n.inside) in
     let long : length (take (at + 2) text) ≡ at + 2 = length-take-le (at + 2) text inside in
     let whole : text ≡ take (at + 2) text ++ drop (at + 2) text = sym (take-append-drop (at + 2) text) in (

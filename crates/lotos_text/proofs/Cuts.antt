@@ -1,5 +1,5 @@
 -- A text has one cut, or sticks at one place, and never both.
-use Rattle.std.proofs.Common.{◌≡◌, ℕ, ◌+◌, List, [], ◌∷◌, ◌++◌, length, drop, refl, sym, ap, ◌∙◌, subst, arith}
+use Rattle.std.proofs.Common.{◌≡◌, ℕ, ◌+◌, List, [], ◌∷◌, length, drop, refl, sym, ap, ◌∙◌, subst, arith}
 use Rattle.std.proofs.Math.Seq.{drop-append_seam}
 use Rattle.lotos_text.specs.Cut.{Cuts, nothing, blank, comment, word, mark, Cut, Sticks, at_byte, at_comment, spelled, token, word_kind}
 use Rattle.lotos_text.specs.Front.{Front, a_blank, a_comment, a_word, a_mark, no_end, no_piece}

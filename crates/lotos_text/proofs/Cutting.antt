@@ -1,6 +1,6 @@
 -- The cut of a text so far, and the piece that takes it on.
-use Rattle.std.proofs.Common.{◌≡◌, ℕ, ◌+◌, ◌-◌, ◌<◌, ◌≤◌, List, [], ◌∷◌, ◌++◌, length, take, drop, sym, ap, ◌∙◌, subst, arith, length-append, length-drop}
-use Rattle.std.proofs.lemmas.List.{drop-drop, take_all, append-nil}
+use Rattle.std.proofs.Common.{◌≡◌, ℕ, ◌+◌, ◌<◌, ◌≤◌, List, [], ◌∷◌, ◌++◌, length, drop, sym, ap, ◌∙◌, subst, arith, length-append, length-drop}
+use Rattle.std.proofs.lemmas.List.{drop-drop, append-nil}
 use Rattle.std.proofs.Math.ListN.{drop_of_length-le}
 use Rattle.std.proofs.Math.Seq.{drop-append_seam}
 use Rattle.lotos_text.specs.Cut.{Cuts, nothing, blank, comment, word, mark, Cut, SticksAtByte, SticksAtComment, IsWord, spelled, token}
@@ -11,7 +11,7 @@ use Rattle.lotos_text.specs.declared.token.Sign.{Sign}
 use Rattle.lotos_text.specs.declared.token.Sign.TheVariants as s
 use Rattle.lotos_text.specs.declared.token.Token.{Token}
 use Rattle.lotos_text.specs.declared.token.TokenKind.{TokenKind}
-use Rattle.lotos_text.proofs.Comments.{comment_some}
+use Rattle.lotos_text.proofs.Comments.{rest_of, rest_is, comment_some}
 
 -- behind the bytes at an offset the rest follows, and the text reaches so far
 pub behind : (text : List ℕ) (at : ℕ) (found rest : List ℕ) → drop at text ≡ found ++ rest → drop (at + length found) text ≡ rest
@@ -87,13 +87,9 @@ pub record Reached (text : List ℕ) (at : ℕ) (found : List Token) : Type 0 wh
   pub inside : at ≤ length text
   pub cut : Cuts 0 text found at (drop at text)
 
--- the rest of the text, as the program takes it
-abbrev pub rest_of : List ℕ → ℕ → List ℕ
-rest_of text at = take (length text - at) (drop at text)
-
 -- what stands at the front of the rest stands at the offset
 front_at : (text : List ℕ) (at : ℕ) (p : Piece) → Front (rest_of text at) p → Front (drop at text) p
-front_at text at p f = subst (λ t. Front t p) (take_all (length text - at) (drop at text) (omega (arith, length-drop at text))) f
+front_at text at p f = subst (λ t. Front t p) (rest_is text at) f
 
 -- nothing is cut at the start
 pub reached_start : (text : List ℕ) → Reached text 0 []

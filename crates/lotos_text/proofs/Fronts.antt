@@ -120,10 +120,6 @@ word_front text h =
     subst (λ m. Front text (a_token m (word_kind found))) (length-prefix_len is_word_byte text)
     (a_word found (drop n text) whole (front_word text h) (front_ends text))
 
--- the test for an opening, and what it says
-pub opening_found : (text : List ℕ) → starts_with nat_eq text opening ≡ true → Begins opening text
-opening_found text h = begins_true opening text h
-
 pub comment_front : (text : List ℕ) (n : ℕ) → IsComment (take n text) → n ≤ length text → Front text (Comment n)
 comment_front text n i h =
     subst (λ m. Front text (Comment m)) (length-take-le n text h) (a_comment (take n text) (drop n text) (sym (take-append-drop n text)) i)
@@ -141,4 +137,4 @@ unknown_front [] h i k e = absurd (omega arith)
 unknown_front (b ∷ bs) h i k e = no_piece b bs refl (record { no_blank = i; no_letter = k; no_mark = no_mark_found (b ∷ bs) e })
 
 -- what `front` cites
-pub ruleset found_fronts = (blank_front, word_front, opening_found, comment_front, open_front, mark_front, unknown_front)
+pub ruleset found_fronts = (blank_front, word_front, comment_front, open_front, mark_front, unknown_front)
