@@ -37,7 +37,8 @@ cut_blank text at (a_blank b rest e i) =
 cut_comment : (text : List ℕ) (at n : ℕ) → Front (drop at text) (Comment n) → Cuts at (drop at text) [] (at + n) (drop (at + n) text)
 cut_comment text at n (a_comment piece rest e i) =
     let C : List ℕ → List ℕ → Type 0 = λ t r. Cuts at t [] (at + n) r in
-    subst (λ t. C t (drop (at + n) text)) (sym e) (subst (λ r. C (piece ++ rest) r) (sym (behind text at piece rest e)) (comment piece i nothing))
+    subst (λ t. C t (drop (at + n) text)) (sym e)
+    (subst (λ r. C (piece ++ rest) r) (sym (behind text at piece rest e)) (comment piece i nothing))
 
 cut_token : (text : List ℕ) (at n : ℕ) (kind : TokenKind) → Front (drop at text) (a_token n kind) →
     Cuts at (drop at text) (token at n kind ∷ []) (at + n) (drop (at + n) text)
@@ -104,7 +105,8 @@ reached_blank text at found r f =
       cut = subst (λ ts. Cuts 0 text ts (at + 1) (drop (at + 1) text)) (append-nil found) (join r.cut (cut_blank text at g));
     }
 
-pub reached_comment : (text : List ℕ) (at n : ℕ) (found : List Token) → Reached text at found → Front (rest_of text at) (Comment n) → Reached text (at + n) found
+pub reached_comment : (text : List ℕ) (at n : ℕ) (found : List Token) → Reached text at found → Front (rest_of text at) (Comment n) →
+    Reached text (at + n) found
 reached_comment text at n found r f =
     let g = front_at text at (Comment n) f in
     record {
@@ -125,14 +127,16 @@ reached_end text at found r h =
     subst (λ n. Cuts 0 text found n []) e (subst (λ t. Cuts 0 text found at t) (drop_of_length-le text h) r.cut)
 
 -- where nothing begins at the offset, or a comment that is not closed, the text sticks there
-pub stuck_at_byte : (text : List ℕ) (at : ℕ) (found : List Token) → Reached text at found → Front (rest_of text at) Unknown → SticksAtByte text at
+pub stuck_at_byte : (text : List ℕ) (at : ℕ) (found : List Token) → Reached text at found → Front (rest_of text at) Unknown →
+    SticksAtByte text at
 stuck_at_byte text at found r f = here (front_at text at Unknown f)
   where
     here : Front (drop at text) Unknown → SticksAtByte text at
     here (no_piece b rest e i) =
         record { before = found; byte = b; rest = rest; cut = subst (λ t. Cuts 0 text found at t) e r.cut; strange = i }
 
-pub stuck_at_comment : (text : List ℕ) (at : ℕ) (found : List Token) → Reached text at found → Front (rest_of text at) Unended → SticksAtComment text at
+pub stuck_at_comment : (text : List ℕ) (at : ℕ) (found : List Token) → Reached text at found → Front (rest_of text at) Unended →
+    SticksAtComment text at
 stuck_at_comment text at found r f = here (front_at text at Unended f)
   where
     here : Front (drop at text) Unended → SticksAtComment text at

@@ -49,7 +49,8 @@ word_head [] rest h = absurd h
 word_head (b ∷ bs) rest h = h.0
 
 -- where no mark begins, none is found
-mark_none : (text : List ℕ) → (Begins opening text → ⊥) → ((sign : Sign) → (rest : List ℕ) → text ≡ spelled sign ++ rest → ⊥) → mark_of text ≡ None
+mark_none : (text : List ℕ) → (Begins opening text → ⊥) → ((sign : Sign) → (rest : List ℕ) → text ≡ spelled sign ++ rest → ⊥) →
+    mark_of text ≡ None
 mark_none text o h =
     (elim (mark_of text) as (λ m. mark_of text ≡ m → m ≡ None) [
       | None ↦ λ _. refl
@@ -88,7 +89,8 @@ front_opened o (a_blank b rest e i) =
     absurd cc
 front_opened o (a_comment piece rest e i) = closed piece rest e i
 front_opened o (a_word found rest e i f) =
-    let letter : is_ascii_alphabetic 40 ≡ true = ap (λ t. is_ascii_alphabetic (slice_index t 0)) (sym o.1 ∙ e) ∙ word_head found rest i in
+    let head = ap (λ t. is_ascii_alphabetic (slice_index t 0)) (sym o.1 ∙ e) in
+    let letter : is_ascii_alphabetic 40 ≡ true = head ∙ word_head found rest i in
     absurd cc
 front_opened o (a_mark sign rest e i) = absurd (i.no_comment (o.0, sym e ∙ o.1))
 front_opened o (no_end u) = unclosed u
