@@ -10,11 +10,13 @@ use Rattle.lotos_text.specs.Cut.{Begins, opening, closing, Closed, IsComment, Un
 
 -- the test says whether the front begins the text
 pub begins_true : (front text : List ℕ) → starts_with nat_eq text front ≡ true → Begins front text
-begins_true front text h = (drop (length front) text, (starts_is {E = nat_eq} Decides-eqb text front (starts_with nat_eq text front) refl).0 h)
+begins_true front text h =
+    (drop (length front) text, (starts_is {E = nat_eq} Decides-eqb text front (starts_with nat_eq text front) refl).0 h)
 
 pub begins_false : (front text : List ℕ) → starts_with nat_eq text front ≡ false → Begins front text → ⊥
 begins_false front text h b =
-    both_ways (starts_with nat_eq text front) h ((starts_is {E = nat_eq} Decides-eqb text front (starts_with nat_eq text front) refl).1 b.0 b.1)
+    both_ways (starts_with nat_eq text front) h
+    ((starts_is {E = nat_eq} Decides-eqb text front (starts_with nat_eq text front) refl).1 b.0 b.1)
 
 -- where the closing of a piece at the front of a text stands
 record Closing (front text : List ℕ) : Type 0 where
@@ -26,13 +28,15 @@ record Closing (front text : List ℕ) : Type 0 where
 closing_of : (front rest text : List ℕ) → text ≡ front ++ rest → Closed front → Closing front text
 closing_of front rest text e c =
     let body = c.0 in
-    let two : suc (suc (length body)) ≡ length body + 2 = omega arith in
-    let tail : (body ++ closing) ++ rest ≡ body ++ (closing ++ rest) = append_assoc body closing rest in
     record {
       at = suc (suc (length body));
       behind_opening = omega arith;
       long = ap length c.1 ∙ omega (arith, length-append body closing);
-      stands = (rest, ap (drop (suc (suc (length body)))) (e ∙ ap (λ l. l ++ rest) c.1) ∙ ap (drop (length body)) tail ∙ drop-append_seam body (closing ++ rest));
+      stands = (
+        rest,
+        ap (drop (suc (suc (length body)))) (e ∙ ap (λ l. l ++ rest) c.1) ∙ ap (drop (length body)) (append_assoc body closing rest) ∙
+            drop-append_seam body (closing ++ rest),
+      );
     }
 
 -- the offset stands behind the opening, and no closing stands between
@@ -42,24 +46,30 @@ pub record NoneBefore (text : List ℕ) (at : ℕ) : Type 0 where
   pub none : (k : ℕ) → 2 ≤ k → k < at → Begins closing (drop k text) → ⊥
 
 -- the rest of the text, as the program takes it
-abbrev pub from : List ℕ → ℕ → List ℕ
-from text at = take (length text - at) (drop at text)
+abbrev pub rest_of : List ℕ → ℕ → List ℕ
+rest_of text at = take (length text - at) (drop at text)
 
-from_is : (text : List ℕ) (at : ℕ) → from text at ≡ drop at text
-from_is text at = take_all (length text - at) (drop at text) (omega (arith, length-drop at text))
+pub rest_is : (text : List ℕ) (at : ℕ) → rest_of text at ≡ drop at text
+rest_is text at = take_all (length text - at) (drop at text) (omega (arith, length-drop at text))
 
 -- none stands before the bytes behind the opening
 pub none_at_start : (text : List ℕ) → Begins opening text → NoneBefore text 2
-none_at_start text b = record { behind_opening = omega arith; inside = omega (arith, ap length b.1); none = λ k h l c. omega (arith, h, l) }
+none_at_start text b = record {
+  behind_opening = omega arith;
+  inside = omega (arith, ap length b.1);
+  none = λ k h l c. omega (arith, h, l);
+}
 
 -- where none stands at the offset either, none stands before the one behind it
-pub none_step : (text : List ℕ) (at : ℕ) → NoneBefore text at → at < length text → starts_with nat_eq (from text at) closing ≡ false →
+pub none_step : (text : List ℕ) (at : ℕ) → NoneBefore text at → at < length text → starts_with nat_eq (rest_of text at) closing ≡ false →
     NoneBefore text (at + 1)
 none_step text at n s h = record {
   behind_opening = omega (arith, n.behind_opening);
   inside = omega (arith, s);
   none = λ k low high c. elim (cases_order k at) [
-    | inl same ↦ begins_false closing (from text at) h (subst (λ l. Begins closing l) (ap (λ m. drop m text) same ∙ sym (from_is text at)) c)
+    | inl same ↦
+        begins_false closing (rest_of text at) h
+        (subst (λ l. Begins closing l) (ap (λ m. drop m text) same ∙ sym (rest_is text at)) c)
     | inr (inl less) ↦ n.none k low less c
     | inr (inr more) ↦ omega (arith, more, high)
   ];
@@ -83,11 +93,13 @@ opened_front text more (suc (suc j)) e h =
     let same : j ≡ suc (suc j) - 2 = omega arith in
     ap (take (suc (suc j))) e ∙ ap (λ m. opening ++ take m more) same
 
-closed_here : (text : List ℕ) (at : ℕ) → Begins opening text → 2 ≤ at → at ≤ length text → Begins closing (drop at text) → take (at + 2) text ≡ take at text ++ closing
-closed_here text at o h i c =
+closed_here : (text : List ℕ) (at : ℕ) → at ≤ length text → Begins closing (drop at text) → take (at + 2) text ≡ take at text ++ closing
+closed_here text at i c =
     let rest = c.0 in
-    let whole : text ≡ take at text ++ closing ++ rest = sym (take-append-drop at text) ∙ ap (λ l. take at text ++ l) c.1 ∙ sym (append_assoc (take at text) closing rest) in
-    let long : length (take at text ++ closing) ≡ at + 2 = omega (arith, length-append (take at text) closing, length-take-le at text i) in
+    let split = sym (take-append-drop at text) ∙ ap (λ l. take at text ++ l) c.1 in
+    let whole : text ≡ take at text ++ closing ++ rest = split ∙ sym (append_assoc (take at text) closing rest) in
+    let long : length (take at text ++ closing) ≡ at + 2 =
+    omega (arith, length-append (take at text) closing, length-take-le at text i) in
     ap (take (at + 2)) whole ∙ take_at (take at text ++ closing) rest (at + 2) long
 
 no_bytes : (l : List ℕ) → length l ≡ 0 → l ≡ []
@@ -95,15 +107,18 @@ no_bytes [] h = refl
 no_bytes (b ∷ bs) h = absurd (omega (arith, h))
 
 -- the text up to the first closing is a comment
-pub comment_found : (text : List ℕ) (at : ℕ) → Begins opening text → NoneBefore text at → starts_with nat_eq (from text at) closing ≡ true →
+pub comment_found : (text : List ℕ) (at : ℕ) → Begins opening text → NoneBefore text at → starts_with nat_eq (rest_of text at) closing ≡ true →
     IsComment (take (at + 2) text) × (at + 2 ≤ length text)
 comment_found text at o n h =
-    let c : Begins closing (drop at text) = subst (λ l. Begins closing l) (from_is text at) (begins_true closing (from text at) h) in
+    let c = subst (λ l. Begins closing l) (rest_is text at) (begins_true closing (rest_of text at) h) in
     let inside : at + 2 ≤ length text = omega (arith, ap length c.1, length-drop at text, n.inside) in
     let long : length (take (at + 2) text) ≡ at + 2 = length-take-le (at + 2) text inside in
     let whole : text ≡ take (at + 2) text ++ drop (at + 2) text = sym (take-append-drop (at + 2) text) in (
       record {
-        closed = (take (at - 2) o.0, closed_here text at o n.behind_opening n.inside c ∙ ap (λ l. l ++ closing) (opened_front text o.0 at o.1 n.behind_opening));
+        closed = (
+          take (at - 2) o.0,
+          closed_here text at n.inside c ∙ ap (λ l. l ++ closing) (opened_front text o.0 at o.1 n.behind_opening),
+        );
         first = λ front rest e k.
             let all = whole ∙ ap (λ l. l ++ drop (at + 2) text) e ∙ append_assoc front rest (drop (at + 2) text) in
             let past = closed_behind front (rest ++ drop (at + 2) text) text at n all k in

@@ -1,5 +1,5 @@
 -- A text has one cut, or sticks at one place, and never both.
-use Rattle.std.proofs.Common.{◌≡◌, ℕ, ◌+◌, List, [], ◌∷◌, ◌++◌, length, drop, refl, sym, ap, ◌∙◌, subst, arith}
+use Rattle.std.proofs.Common.{◌≡◌, ℕ, ◌+◌, List, [], ◌∷◌, length, drop, refl, sym, ap, ◌∙◌, subst, arith}
 use Rattle.std.proofs.Math.Seq.{drop-append_seam}
 use Rattle.lotos_text.specs.Cut.{Cuts, nothing, blank, comment, word, mark, Cut, Sticks, at_byte, at_comment, spelled, token, word_kind}
 use Rattle.lotos_text.specs.Front.{Front, a_blank, a_comment, a_word, a_mark, no_end, no_piece}
@@ -51,7 +51,8 @@ next : {at end : ℕ} {text last : List ℕ} {ts : List Token} → Cuts at text 
 next nothing = ended refl refl refl
 next (blank {b} {text} i d) = blank_first (a_blank b text refl i) d
 next (comment {at} {end} piece {text} {rest} {ts} i d) =
-    comment_first (length piece) (a_comment piece text refl i) (subst (λ t. Cuts (at + length piece) t ts end rest) (sym (drop-append_seam piece text)) d)
+    comment_first (length piece) (a_comment piece text refl i)
+    (subst (λ t. Cuts (at + length piece) t ts end rest) (sym (drop-append_seam piece text)) d)
 next (word {at} {end} found {text} {rest} {ts} i f d) =
     token_first (length found) (word_kind found) ts (a_word found text refl i f) refl
     (subst (λ t. Cuts (at + length found) t ts end rest) (sym (drop-append_seam found text)) d)
@@ -82,13 +83,15 @@ stays h (token_first n kind us f e d) = absurd (h.no_token n kind f)
 
 module _ (end : ℕ) (last : List ℕ) (k : Halts last) where
   -- such a cut takes the piece that stands at the front
-  past_blank : {at : ℕ} {text : List ℕ} {ts : List Token} → Front text Blank → Next at text ts end last → Cuts (at + 1) (drop 1 text) ts end last
+  past_blank : {at : ℕ} {text : List ℕ} {ts : List Token} → Front text Blank → Next at text ts end last →
+      Cuts (at + 1) (drop 1 text) ts end last
   past_blank f (ended e g p) = absurd (k.no_blank (subst (λ t. Front t Blank) e f))
   past_blank f (blank_first g d) = d
   past_blank f (comment_first n g d) = absurd (cc (one_front f g))
   past_blank f (token_first n kind us g e d) = absurd (cc (one_front f g))
 
-  past_comment : {at n : ℕ} {text : List ℕ} {ts : List Token} → Front text (Comment n) → Next at text ts end last → Cuts (at + n) (drop n text) ts end last
+  past_comment : {at n : ℕ} {text : List ℕ} {ts : List Token} → Front text (Comment n) → Next at text ts end last →
+      Cuts (at + n) (drop n text) ts end last
   past_comment {n = n} f (ended e g p) = absurd (k.no_comment n (subst (λ t. Front t (Comment n)) e f))
   past_comment f (blank_first g d) = absurd (cc (one_front f g))
   past_comment {at} {n} {text} {ts} f (comment_first m g d) =
@@ -113,13 +116,13 @@ module _ (end : ℕ) (last : List ℕ) (k : Halts last) where
       }
 
   -- one token more before both
-  behind_token : {us vs : List Token} {fin : ℕ} {rest : List ℕ} (t : Token) (ts : List Token) → ts ≡ t ∷ vs → Alike us vs fin end rest last →
-      Alike (t ∷ us) ts fin end rest last
+  behind_token : {us vs : List Token} {fin : ℕ} {rest : List ℕ} (t : Token) (ts : List Token) → ts ≡ t ∷ vs →
+      Alike us vs fin end rest last → Alike (t ∷ us) ts fin end rest last
   behind_token t ts e a = record { tokens = ap (λ l. t ∷ l) a.tokens ∙ sym e; place = a.place; left = a.left }
 
   -- two cuts of one text that go on until they halt are alike
-  alike : {at fin : ℕ} {text rest : List ℕ} {us : List Token} → Halts rest → Cuts at text us fin rest → (ts : List Token) → Cuts at text ts end last →
-      Alike us ts fin end rest last
+  alike : {at fin : ℕ} {text rest : List ℕ} {us : List Token} → Halts rest → Cuts at text us fin rest → (ts : List Token) →
+      Cuts at text ts end last → Alike us ts fin end rest last
   alike h nothing ts d = stays h (next d)
   alike h (blank {b} {text} i c) ts d = alike h c ts (past_blank (a_blank b text refl i) (next d))
   alike h (comment {at} piece {text} i c) ts d =

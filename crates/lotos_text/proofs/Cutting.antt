@@ -1,6 +1,6 @@
 -- The cut of a text so far, and the piece that takes it on.
-use Rattle.std.proofs.Common.{◌≡◌, ℕ, ◌+◌, ◌-◌, ◌<◌, ◌≤◌, List, [], ◌∷◌, ◌++◌, length, take, drop, sym, ap, ◌∙◌, subst, arith, length-append, length-drop}
-use Rattle.std.proofs.lemmas.List.{drop-drop, take_all, append-nil}
+use Rattle.std.proofs.Common.{◌≡◌, ℕ, ◌+◌, ◌<◌, ◌≤◌, List, [], ◌∷◌, ◌++◌, length, drop, sym, ap, ◌∙◌, subst, arith, length-append, length-drop}
+use Rattle.std.proofs.lemmas.List.{drop-drop, append-nil}
 use Rattle.std.proofs.Math.ListN.{drop_of_length-le}
 use Rattle.std.proofs.Math.Seq.{drop-append_seam}
 use Rattle.lotos_text.specs.Cut.{Cuts, nothing, blank, comment, word, mark, Cut, SticksAtByte, SticksAtComment, IsWord, spelled, token}
@@ -11,7 +11,7 @@ use Rattle.lotos_text.specs.declared.token.Sign.{Sign}
 use Rattle.lotos_text.specs.declared.token.Sign.TheVariants as s
 use Rattle.lotos_text.specs.declared.token.Token.{Token}
 use Rattle.lotos_text.specs.declared.token.TokenKind.{TokenKind}
-use Rattle.lotos_text.proofs.Comments.{comment_some}
+use Rattle.lotos_text.proofs.Comments.{rest_of, rest_is, comment_some}
 
 -- behind the bytes at an offset the rest follows, and the text reaches so far
 pub behind : (text : List ℕ) (at : ℕ) (found rest : List ℕ) → drop at text ≡ found ++ rest → drop (at + length found) text ≡ rest
@@ -37,7 +37,8 @@ cut_blank text at (a_blank b rest e i) =
 cut_comment : (text : List ℕ) (at n : ℕ) → Front (drop at text) (Comment n) → Cuts at (drop at text) [] (at + n) (drop (at + n) text)
 cut_comment text at n (a_comment piece rest e i) =
     let C : List ℕ → List ℕ → Type 0 = λ t r. Cuts at t [] (at + n) r in
-    subst (λ t. C t (drop (at + n) text)) (sym e) (subst (λ r. C (piece ++ rest) r) (sym (behind text at piece rest e)) (comment piece i nothing))
+    subst (λ t. C t (drop (at + n) text)) (sym e)
+    (subst (λ r. C (piece ++ rest) r) (sym (behind text at piece rest e)) (comment piece i nothing))
 
 cut_token : (text : List ℕ) (at n : ℕ) (kind : TokenKind) → Front (drop at text) (a_token n kind) →
     Cuts at (drop at text) (token at n kind ∷ []) (at + n) (drop (at + n) text)
@@ -87,13 +88,9 @@ pub record Reached (text : List ℕ) (at : ℕ) (found : List Token) : Type 0 wh
   pub inside : at ≤ length text
   pub cut : Cuts 0 text found at (drop at text)
 
--- the rest of the text, as the program takes it
-abbrev pub rest_of : List ℕ → ℕ → List ℕ
-rest_of text at = take (length text - at) (drop at text)
-
 -- what stands at the front of the rest stands at the offset
 front_at : (text : List ℕ) (at : ℕ) (p : Piece) → Front (rest_of text at) p → Front (drop at text) p
-front_at text at p f = subst (λ t. Front t p) (take_all (length text - at) (drop at text) (omega (arith, length-drop at text))) f
+front_at text at p f = subst (λ t. Front t p) (rest_is text at) f
 
 -- nothing is cut at the start
 pub reached_start : (text : List ℕ) → Reached text 0 []
@@ -108,7 +105,8 @@ reached_blank text at found r f =
       cut = subst (λ ts. Cuts 0 text ts (at + 1) (drop (at + 1) text)) (append-nil found) (join r.cut (cut_blank text at g));
     }
 
-pub reached_comment : (text : List ℕ) (at n : ℕ) (found : List Token) → Reached text at found → Front (rest_of text at) (Comment n) → Reached text (at + n) found
+pub reached_comment : (text : List ℕ) (at n : ℕ) (found : List Token) → Reached text at found → Front (rest_of text at) (Comment n) →
+    Reached text (at + n) found
 reached_comment text at n found r f =
     let g = front_at text at (Comment n) f in
     record {
@@ -129,14 +127,16 @@ reached_end text at found r h =
     subst (λ n. Cuts 0 text found n []) e (subst (λ t. Cuts 0 text found at t) (drop_of_length-le text h) r.cut)
 
 -- where nothing begins at the offset, or a comment that is not closed, the text sticks there
-pub stuck_at_byte : (text : List ℕ) (at : ℕ) (found : List Token) → Reached text at found → Front (rest_of text at) Unknown → SticksAtByte text at
+pub stuck_at_byte : (text : List ℕ) (at : ℕ) (found : List Token) → Reached text at found → Front (rest_of text at) Unknown →
+    SticksAtByte text at
 stuck_at_byte text at found r f = here (front_at text at Unknown f)
   where
     here : Front (drop at text) Unknown → SticksAtByte text at
     here (no_piece b rest e i) =
         record { before = found; byte = b; rest = rest; cut = subst (λ t. Cuts 0 text found at t) e r.cut; strange = i }
 
-pub stuck_at_comment : (text : List ℕ) (at : ℕ) (found : List Token) → Reached text at found → Front (rest_of text at) Unended → SticksAtComment text at
+pub stuck_at_comment : (text : List ℕ) (at : ℕ) (found : List Token) → Reached text at found → Front (rest_of text at) Unended →
+    SticksAtComment text at
 stuck_at_comment text at found r f = here (front_at text at Unended f)
   where
     here : Front (drop at text) Unended → SticksAtComment text at

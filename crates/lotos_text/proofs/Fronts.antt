@@ -49,7 +49,8 @@ word_head [] rest h = absurd h
 word_head (b ∷ bs) rest h = h.0
 
 -- where no mark begins, none is found
-mark_none : (text : List ℕ) → (Begins opening text → ⊥) → ((sign : Sign) → (rest : List ℕ) → text ≡ spelled sign ++ rest → ⊥) → mark_of text ≡ None
+mark_none : (text : List ℕ) → (Begins opening text → ⊥) → ((sign : Sign) → (rest : List ℕ) → text ≡ spelled sign ++ rest → ⊥) →
+    mark_of text ≡ None
 mark_none text o h =
     (elim (mark_of text) as (λ m. mark_of text ≡ m → m ≡ None) [
       | None ↦ λ _. refl
@@ -88,7 +89,8 @@ front_opened o (a_blank b rest e i) =
     absurd cc
 front_opened o (a_comment piece rest e i) = closed piece rest e i
 front_opened o (a_word found rest e i f) =
-    let letter : is_ascii_alphabetic 40 ≡ true = ap (λ t. is_ascii_alphabetic (slice_index t 0)) (sym o.1 ∙ e) ∙ word_head found rest i in
+    let head = ap (λ t. is_ascii_alphabetic (slice_index t 0)) (sym o.1 ∙ e) in
+    let letter : is_ascii_alphabetic 40 ≡ true = head ∙ word_head found rest i in
     absurd cc
 front_opened o (a_mark sign rest e i) = absurd (i.no_comment (o.0, sym e ∙ o.1))
 front_opened o (no_end u) = unclosed u
@@ -120,10 +122,6 @@ word_front text h =
     subst (λ m. Front text (a_token m (word_kind found))) (length-prefix_len is_word_byte text)
     (a_word found (drop n text) whole (front_word text h) (front_ends text))
 
--- the test for an opening, and what it says
-pub opening_found : (text : List ℕ) → starts_with nat_eq text opening ≡ true → Begins opening text
-opening_found text h = begins_true opening text h
-
 pub comment_front : (text : List ℕ) (n : ℕ) → IsComment (take n text) → n ≤ length text → Front text (Comment n)
 comment_front text n i h =
     subst (λ m. Front text (Comment m)) (length-take-le n text h) (a_comment (take n text) (drop n text) (sym (take-append-drop n text)) i)
@@ -141,4 +139,4 @@ unknown_front [] h i k e = absurd (omega arith)
 unknown_front (b ∷ bs) h i k e = no_piece b bs refl (record { no_blank = i; no_letter = k; no_mark = no_mark_found (b ∷ bs) e })
 
 -- what `front` cites
-pub ruleset found_fronts = (blank_front, word_front, opening_found, comment_front, open_front, mark_front, unknown_front)
+pub ruleset found_fronts = (blank_front, word_front, comment_front, open_front, mark_front, unknown_front)
