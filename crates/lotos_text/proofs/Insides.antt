@@ -1,5 +1,5 @@
 -- What a text spells lies inside it.
-use Rattle.std.proofs.Common.{◌≡◌, ℕ, ◌+◌, ◌≤◌, Bool, List, [], ◌∷◌, ◌++◌, length, arith}
+use Rattle.std.proofs.Common.{ℕ, ◌≤◌, Bool, List, [], ◌∷◌, ◌++◌, length, arith}
 use Rattle.std.specs.List.{AllByRecursion}
 use Rattle.lotos_text.specs.Tree.{Tree, Def, Defs}
 use Rattle.lotos_text.specs.Cut.{Stands, AllStand}

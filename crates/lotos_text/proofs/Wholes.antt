@@ -1,5 +1,5 @@
 -- The whole specification: what is found and lost of it, and that it is what its tokens spell.
-use Rattle.std.proofs.Common.{◌≡◌, ℕ, ◌≤◌, List, [], ◌∷◌, ◌++◌, Some, None, refl, sym, ◌∙◌, ap, arith, subst}
+use Rattle.std.proofs.Common.{◌≡◌, ℕ, List, [], ◌∷◌, ◌++◌, Some, None, refl, sym, ◌∙◌, ap, arith, subst}
 use Rattle.std.proofs.lemmas.List.{append-nil}
 use Rattle.lotos_text.specs.Grammar.{Is, a_specification, Specifies}
 use Rattle.lotos_text.specs.Parsing.{Part, Limit, Within, Found, Lost}

@@ -1,14 +1,12 @@
-use Rattle.std.proofs.Common.{rules, ◌≡◌, ◌+◌, ◌-◌, List, [], ◌∷◌, ◌++◌, map, Some, None, sym, ◌∙◌, ap, arith, length, subst, Err}
-use Rattle.lotos_text.specs.Grammar.{Is, enabling, a_process, defining_sign, closing_word}
-use Rattle.lotos_text.specs.Parsing.{Found, Lost, NotFirst}
+use Rattle.std.proofs.Common.{rules, ◌-◌, List, [], ◌∷◌, ◌++◌, map, Some, None, sym, ap, arith, length, subst}
+use Rattle.lotos_text.specs.Grammar.{Is, enabling, a_process}
+use Rattle.lotos_text.specs.Parsing.{Found, Lost}
 use Rattle.lotos_text.specs.Parts.{One, Expression, Contents, Header, Inner, Row}
-use Rattle.lotos_text.specs.Tree.{Def, Defs, def, no_defs}
+use Rattle.lotos_text.specs.Tree.{Def, Defs}
 use Rattle.lotos_text.specs.View.{row_of, defined_of, definition_of, definitions_of}
-use Rattle.lotos_text.specs.declared.token.Token.{Token}
 use Rattle.lotos_text.specs.declared.token.TokenKind.TheVariants.{Reserved}
 use Rattle.lotos_text.specs.declared.token.Word.TheVariants as w
 use Rattle.lotos_text.specs.declared.tree.Definition.{Definition}
-use Rattle.lotos_text.specs.declared.descent.Stop.TheVariants.{Deep}
 use Rattle.lotos_text.proofs.Contents.{found_body, found_contents, lost_header, lost_sign, lost_closing, carries_behaviour, carries_inner}
 use Rattle.lotos_text.proofs.Rows.{found_last_process, found_more_processes, lost_word, carries_process, carries_more, carries_all, deep_process, found_no_inner, found_inner, carries_row}
 use Rattle.lotos_text.proofs.Stops.{freed_on, missed_free, carried_on, deeper_on, still_found, still_carried, carries_further}
