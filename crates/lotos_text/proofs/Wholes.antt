@@ -35,7 +35,8 @@ module _ (text : List ℕ) where
   lost_opening limit ts rest l = lost_first closed (Specification limit) Nothing ts rest
       (lost_before _ (Contents text a_specification limit) ts rest l)
 
-  lost_contents : (limit : Limit) (ts after rest : List Token) (n : Token) → ts ≡ n ∷ after → Is n (Reserved w.SpecificationWord) →
+  lost_contents : (limit : Limit) (ts after rest : List Token) (n : Token) → ts ≡ n ∷ after →
+      Is n (Reserved w.SpecificationWord) →
       Lost (Contents text a_specification limit) after rest → Lost (Whole text limit) ts rest
   lost_contents limit ts after rest n e i l = lost_first closed (Specification limit) Nothing ts rest
       (lost_behind _ (Contents text a_specification limit) ts after rest n e i l)

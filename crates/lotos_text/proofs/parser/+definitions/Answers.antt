@@ -50,7 +50,8 @@ contents-inner-requires t c =
 pub contents-returns-in_err-inner-clause-lost : goal.contents-returns-in_err-inner-clause-lost
 contents-returns-in_err-inner-clause-lost t c =
     let what = defined_of c.args.what in
-    let body = found_body c.args.text.now what (Some c.args.room) c.in_ok-heading.rest.now c.in_ok-rest.rest.now c.in_ok-body.rest.now
+    let body =
+    found_body c.args.text.now what (Some c.args.room) c.in_ok-heading.rest.now c.in_ok-rest.rest.now c.in_ok-body.rest.now
     c.in_ok-rest.field-0-0 _ c.in_ok-rest.ensures.found.0
     (subst (λ k. Is c.in_ok-rest.field-0-0 k) c.defining_sign.ensures c.in_ok-rest.ensures.found.1) c.in_ok-body.ensures.found in
     carried_on (Inner c.args.text.now) (Contents c.args.text.now what) c.args.room c.args.room
@@ -63,7 +64,8 @@ contents-returns-in_err-inner-clause-lost t c =
 pub contents-returns-in_err-rest-2-clause-lost : goal.contents-returns-in_err-rest-2-clause-lost
 contents-returns-in_err-rest-2-clause-lost t c =
     let what = defined_of c.args.what in
-    let body = found_body c.args.text.now what (Some c.args.room) c.in_ok-heading.rest.now c.in_ok-rest.rest.now c.in_ok-body.rest.now
+    let body =
+    found_body c.args.text.now what (Some c.args.room) c.in_ok-heading.rest.now c.in_ok-rest.rest.now c.in_ok-body.rest.now
     c.in_ok-rest.field-0-0 _ c.in_ok-rest.ensures.found.0
     (subst (λ k. Is c.in_ok-rest.field-0-0 k) c.defining_sign.ensures c.in_ok-rest.ensures.found.1) c.in_ok-body.ensures.found in
     missed_free (One c.closing_word.result) (Contents c.args.text.now what) c.args.room c.in_ok-inner.rest.now c.args.tokens.now
@@ -76,7 +78,8 @@ contents-returns-in_err-rest-2-clause-lost t c =
 pub contents-returns-clause-found : goal.contents-returns-clause-found
 contents-returns-clause-found t c =
     let what = defined_of c.args.what in
-    let body = found_body c.args.text.now what (Some c.args.room) c.in_ok-heading.rest.now c.in_ok-rest.rest.now c.in_ok-body.rest.now
+    let body =
+    found_body c.args.text.now what (Some c.args.room) c.in_ok-heading.rest.now c.in_ok-rest.rest.now c.in_ok-body.rest.now
     c.in_ok-rest.field-0-0 _ c.in_ok-rest.ensures.found.0
     (subst (λ k. Is c.in_ok-rest.field-0-0 k) c.defining_sign.ensures c.in_ok-rest.ensures.found.1) c.in_ok-body.ensures.found in
     subst (λ d. Found (Contents c.args.text.now what (Some c.args.room)) c.args.tokens.now d c.in_ok-rest-2.rest.now)
@@ -151,7 +154,8 @@ pub row-returns-in_err-one-clause-lost : goal.row-returns-in_err-one-clause-lost
 row-returns-in_err-one-clause-lost t c =
     carried_on (Contents c.args.text.now a_process) (Row c.args.text.now) (c.args.room - 1) c.args.room c.in_ok-word.after.now
     c.args.tokens.now
-    (carries_further (Contents c.args.text.now a_process) (Row c.args.text.now) (Row c.args.text.now) (c.args.room - 1) c.args.room
+    (carries_further (Contents c.args.text.now a_process) (Row c.args.text.now) (Row c.args.text.now)
+    (c.args.room - 1) c.args.room
     c.args.room c.in_ok-word.after.now c.loop-found.rest.now c.args.tokens.now
     (carries_process c.args.text.now (c.args.room - 1) c.args.room c.loop-found.rest.now c.in_ok-word.after.now c.in_ok-word.word
     (let h = c.if-room-eq0.false in omega (arith, h)) c.in_ok-word.ensures.found.0 c.in_ok-word.ensures.found.1)
