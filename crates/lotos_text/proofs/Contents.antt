@@ -31,16 +31,21 @@ module _ (text : List ℕ) (what : Defined) where
   firm_open = firm_then_within defined Outer (Inner text) firm_outer (firm_inner text)
 
   -- the sign and the behaviour are the body
-  pub found_body : (limit : Limit) (ts between rest : List Token) (n : Token) (x : Tree) → ts ≡ n ∷ between → Is n (defining_sign what) →
+  pub found_body : (limit : Limit) (ts between rest : List Token) (n : Token) (x : Tree) → ts ≡ n ∷ between →
+      Is n (defining_sign what) →
       Found (Expression text enabling limit) between x rest → Found (Body text what limit) ts x rest
-  found_body limit ts between rest n x e i f = found_behind (defining_sign what) (Expression text enabling limit) ts between rest n x e i f
+  found_body limit ts between rest n x e i f =
+      found_behind (defining_sign what) (Expression text enabling limit) ts between rest n x e i f
 
   found_outer : (limit : Limit) (ts r q : List Token) (heading : Heading) (x : Tree) → Found (Header text) ts heading r →
       Found (Body text what limit) r x q → Found (Outer limit) ts (heading, x) q
-  found_outer limit ts r q heading x f g = found_then bodied (Header text) (Body text what limit) ts r q heading x (heading, x) f g refl
+  found_outer limit ts r q heading x f g =
+      found_then bodied (Header text) (Body text what limit) ts r q heading x (heading, x) f g refl
 
-  found_open : (limit : Limit) (ts r q p : List Token) (heading : Heading) (x : Tree) (inner : Defs) → Found (Header text) ts heading r →
-      Found (Body text what limit) r x q → Found (Inner text limit) q inner p → Found (Open limit) ts (defined (heading, x) inner) p
+  found_open : (limit : Limit) (ts r q p : List Token) (heading : Heading) (x : Tree) (inner : Defs) →
+      Found (Header text) ts heading r →
+      Found (Body text what limit) r x q → Found (Inner text limit) q inner p →
+      Found (Open limit) ts (defined (heading, x) inner) p
   found_open limit ts r q p heading x inner f g h = found_then defined (Outer limit) (Inner text limit) ts q p (heading, x) inner
       (defined (heading, x) inner) (found_outer limit ts r q heading x f g) h refl
 
@@ -71,14 +76,16 @@ module _ (text : List ℕ) (what : Defined) where
       (lost_before (defining_sign what) (Expression text enabling limit) r rest l)
 
   -- where the behaviour behind the sign is lost, so are the contents
-  pub lost_behaviour : (limit : Limit) (ts r between rest : List Token) (n : Token) (heading : Heading) → Found (Header text) ts heading r →
+  pub lost_behaviour : (limit : Limit) (ts r between rest : List Token) (n : Token) (heading : Heading) →
+      Found (Header text) ts heading r →
       r ≡ n ∷ between → Is n (defining_sign what) → Lost (Expression text enabling limit) between rest →
       Lost (Contents text what limit) ts rest
   lost_behaviour limit ts r between rest n heading f e i l = lost_body limit ts r rest heading f
       (lost_behind (defining_sign what) (Expression text enabling limit) r between rest n e i l)
 
   -- where the inner definitions behind the body are lost, so are the contents
-  pub lost_inner : (found limit : Limit) (ts r q rest : List Token) (heading : Heading) (x : Tree) → Found (Header text) ts heading r →
+  pub lost_inner : (found limit : Limit) (ts r q rest : List Token) (heading : Heading) (x : Tree) →
+      Found (Header text) ts heading r →
       Found (Body text what found) r x q → Lost (Inner text limit) q rest → Lost (Contents text what limit) ts rest
   lost_inner found limit ts r q rest heading x f g l = lost_within (Open limit) (closing_word what) ts rest
       (lost_after defined Outer (Inner text limit) found limit firm_outer ts q rest (heading, x)
@@ -92,7 +99,8 @@ module _ (text : List ℕ) (what : Defined) where
       found limit firm_open ts p rest (defined (heading, x) inner) (found_open found ts r q p heading x inner f g h) l
 
   -- the behaviour carries to the contents what is lost in it
-  pub carries_behaviour : (room : ℕ) (ts r between : List Token) (n : Token) (heading : Heading) → Found (Header text) ts heading r →
+  pub carries_behaviour : (room : ℕ) (ts r between : List Token) (n : Token) (heading : Heading) →
+      Found (Header text) ts heading r →
       r ≡ n ∷ between → Is n (defining_sign what) →
       Carries (Expression text enabling) room between (Contents text what) room ts
   carries_behaviour room ts r between n heading f e i = record {

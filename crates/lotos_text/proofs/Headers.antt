@@ -1,5 +1,5 @@
 -- The header of a definition: what is found and lost of it.
-use Rattle.std.proofs.Common.{◌≡◌, ℕ, List, refl}
+use Rattle.std.proofs.Common.{ℕ, List, refl}
 use Rattle.lotos_text.specs.Parsing.{Part, Found, Lost}
 use Rattle.lotos_text.specs.Parts.{Then, Name, Gates, Returns, Heading, Header}
 use Rattle.lotos_text.specs.declared.token.Token.{Token}

@@ -1,5 +1,5 @@
 -- What a text spells lies inside it.
-use Rattle.std.proofs.Common.{◌≡◌, ℕ, ◌+◌, ◌≤◌, Bool, List, [], ◌∷◌, ◌++◌, length, arith}
+use Rattle.std.proofs.Common.{ℕ, ◌≤◌, Bool, List, [], ◌∷◌, ◌++◌, length, arith}
 use Rattle.std.specs.List.{AllByRecursion}
 use Rattle.lotos_text.specs.Tree.{Tree, Def, Defs}
 use Rattle.lotos_text.specs.Cut.{Stands, AllStand}
@@ -28,11 +28,13 @@ module _ (text : List ℕ) where
   pub token_inside : (t : Token) → Stands text t → t.at ≤ length text
   token_inside t h = let a = h.ordered in let b = h.inside in omega (arith, a, b)
 
-  names_inside : {ts : List Token} {names : List Placed} → Names text ts names → AllStand text ts → AllByRecursion (λ g. g.at ≤ length text) names
+  names_inside : {ts : List Token} {names : List Placed} → Names text ts names → AllStand text ts →
+      AllByRecursion (λ g. g.at ≤ length text) names
   names_inside (one_name {n = n} i) h = (token_inside n h.0, tt)
   names_inside (more_names {n = n} i c d) h = (token_inside n h.0, names_inside d h.1.1)
 
-  gates_inside : {ts : List Token} {names : List Placed} → GateList text ts names → AllStand text ts → AllByRecursion (λ g. g.at ≤ length text) names
+  gates_inside : {ts : List Token} {names : List Placed} → GateList text ts names → AllStand text ts →
+      AllByRecursion (λ g. g.at ≤ length text) names
   gates_inside no_gates h = tt
   gates_inside (gates {right = right} {ts = ts} i d j) h = names_inside d (stand_front ts (right ∷ []) h.1)
 
@@ -68,7 +70,8 @@ module _ (text : List ℕ) where
     -- the names of a definition lie inside the text
     pub definition_inside : {what : Defined} {n : ℕ} {ts : List Token} {d : Def} → Defines text what n ts d → AllStand text ts →
         IsInside (length text) d
-    definition_inside (definition {name = name} {colon = colon} {returns = returns} {define = define} {end = end} {gates = gs} {body = body} {rest = rest}
+    definition_inside (definition {name = name} {colon = colon} {returns = returns} {define = define} {end = end} {gates = gs}
+        {body = body} {rest = rest}
         i j g c f k s l z) h =
         let middle : List Token = colon ∷ returns ∷ define ∷ body in
         let all = stand_front ((gs ++ middle) ++ rest) (end ∷ []) h.1.1 in

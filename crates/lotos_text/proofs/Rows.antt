@@ -21,7 +21,8 @@ module _ (text : List ℕ) where
   -- rows
 
   -- a process and nothing that is a process behind it are a row
-  pub found_last_process : (inner room : ℕ) (ts after behind : List Token) (n : Token) (d : Def) → inner + 1 ≤ room → ts ≡ n ∷ after →
+  pub found_last_process : (inner room : ℕ) (ts after behind : List Token) (n : Token) (d : Def) → inner + 1 ≤ room →
+      ts ≡ n ∷ after →
       Is n (Reserved w.ProcessWord) → Found (Contents text a_process (Some inner)) after d behind →
       NotFirst (Reserved w.ProcessWord) behind → Found (Row text (Some room)) ts (more_defs d no_defs) behind
   found_last_process inner room ts after behind n d h e i f g =
@@ -34,7 +35,8 @@ module _ (text : List ℕ) where
       }
 
   -- a process goes before a row
-  pub found_more_processes : (inner room : ℕ) (ts after behind rest : List Token) (n : Token) (d : Def) (ds : Defs) → inner + 1 ≤ room →
+  pub found_more_processes : (inner room : ℕ) (ts after behind rest : List Token) (n : Token) (d : Def) (ds : Defs) →
+      inner + 1 ≤ room →
       ts ≡ n ∷ after → Is n (Reserved w.ProcessWord) → Found (Contents text a_process (Some inner)) after d behind →
       Found (Row text (Some room)) behind ds rest → Found (Row text (Some room)) ts (more_defs d ds) rest
   found_more_processes inner room ts after behind rest n d ds h e i f g =
@@ -68,7 +70,8 @@ module _ (text : List ℕ) where
       record { word = b.word; others = b.others ++ others; joined = ap (λ m. m ++ others) b.joined; is = b.is }
 
   -- where the word `process` is lost, so is the row
-  pub lost_word : (limit : Limit) (ts rest : List Token) → Lost (One (Reserved w.ProcessWord)) ts rest → Lost (Row text limit) ts rest
+  pub lost_word : (limit : Limit) (ts rest : List Token) → Lost (One (Reserved w.ProcessWord)) ts rest →
+      Lost (Row text limit) ts rest
   lost_word limit ts rest l = record {
     front = l.front;
     joined = l.joined;
@@ -89,8 +92,10 @@ module _ (text : List ℕ) where
       (as_definition text inner (others ++ behind) p (to n (within_first limit (n + 1) m v)))
 
   -- where the first process is lost, so is the row
-  lost_process : (inner limit : Limit) (ts after rest : List Token) (n : Token) → ((n : ℕ) → Within limit (n + 1) → Within inner n) →
-      ts ≡ n ∷ after → Is n (Reserved w.ProcessWord) → Lost (Contents text a_process inner) after rest → Lost (Row text limit) ts rest
+  lost_process : (inner limit : Limit) (ts after rest : List Token) (n : Token) →
+      ((n : ℕ) → Within limit (n + 1) → Within inner n) →
+      ts ≡ n ∷ after → Is n (Reserved w.ProcessWord) → Lost (Contents text a_process inner) after rest →
+      Lost (Row text limit) ts rest
   lost_process inner limit ts after rest n to e i lost =
       let l = lost_behind _ (Contents text a_process inner) ts after rest n e i lost in
       record {
@@ -111,7 +116,8 @@ module _ (text : List ℕ) where
     crowds = (let j = one_opening n (ap opens i.same) in omega (arith, h, j));
   }
 
-  never_more : {n : ℕ} {own : List Token} {ds : Defs} (inner : ℕ) (limit : Limit) (front behind more rest : List Token) (m : Token) (d : Def) →
+  never_more : {n : ℕ} {own : List Token} {ds : Defs} (inner : ℕ) (limit : Limit) (front behind more rest : List Token)
+      (m : Token) (d : Def) →
       Definition text a_process (Some inner) front d behind → Starts behind more → Is m (Reserved w.ProcessWord) →
       (others : List Token) → more ≡ m ∷ others → NotFirst (Reserved w.ProcessWord) rest →
       ((a : List Token) (es : Defs) → more ≡ a ++ rest → Row text limit a es rest → ⊥) →
@@ -127,7 +133,8 @@ module _ (text : List ℕ) where
       h own es one.rest (record { nesting = k; several = qs; ends = ends; within = within_second limit (n + 1) k v })
 
   -- a row that is lost behind a process is lost with it
-  lost_more_processes : (inner : ℕ) (limit : Limit) (ts after behind rest others : List Token) (n m : Token) (d : Def) → ts ≡ n ∷ after →
+  lost_more_processes : (inner : ℕ) (limit : Limit) (ts after behind rest others : List Token) (n m : Token) (d : Def) →
+      ts ≡ n ∷ after →
       Is n (Reserved w.ProcessWord) → Found (Contents text a_process (Some inner)) after d behind → behind ≡ m ∷ others →
       Is m (Reserved w.ProcessWord) → Lost (Row text limit) behind rest → Lost (Row text limit) ts rest
   lost_more_processes inner limit ts after behind rest others n m d e i f g j l =
@@ -188,11 +195,13 @@ module _ (text : List ℕ) where
   -- inner definitions
 
   -- where no `where` stands, there are none
-  pub found_no_inner : (limit : Limit) (ts : List Token) → NotFirst (Reserved w.WhereWord) ts → Found (Inner text limit) ts no_defs ts
+  pub found_no_inner : (limit : Limit) (ts : List Token) → NotFirst (Reserved w.WhereWord) ts →
+      Found (Inner text limit) ts no_defs ts
   found_no_inner limit ts h = record { front = []; joined = refl; whole = no_inner h }
 
   -- the word and a row
-  pub found_inner : (limit : Limit) (ts after rest : List Token) (n : Token) (ds : Defs) → ts ≡ n ∷ after → Is n (Reserved w.WhereWord) →
+  pub found_inner : (limit : Limit) (ts after rest : List Token) (n : Token) (ds : Defs) → ts ≡ n ∷ after →
+      Is n (Reserved w.WhereWord) →
       Found (Row text limit) after ds rest → Found (Inner text limit) ts ds rest
   found_inner limit ts after rest n ds e i f = record {
     front = n ∷ f.front;
@@ -200,7 +209,8 @@ module _ (text : List ℕ) where
     whole = some_inner i f.whole;
   }
 
-  never_inner : {own behind : List Token} {said : Defs} (limit : Limit) (n : Token) (front more : List Token) → Is n (Reserved w.WhereWord) →
+  never_inner : {own behind : List Token} {said : Defs} (limit : Limit) (n : Token) (front more : List Token) →
+      Is n (Reserved w.WhereWord) →
       ((a : List Token) → front ++ more ≡ a ++ behind → Row text limit a said behind → ⊥) →
       n ∷ (front ++ more) ≡ own ++ behind → Inner text limit own said behind → ⊥
   never_inner limit n front more i h e (no_inner {behind = behind} g) = not_first _ behind (front ++ more) g i (sym e)

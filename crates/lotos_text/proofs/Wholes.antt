@@ -1,5 +1,5 @@
 -- The whole specification: what is found and lost of it, and that it is what its tokens spell.
-use Rattle.std.proofs.Common.{◌≡◌, ℕ, ◌≤◌, List, [], ◌∷◌, ◌++◌, Some, None, refl, sym, ◌∙◌, ap, arith, subst}
+use Rattle.std.proofs.Common.{◌≡◌, ℕ, List, [], ◌∷◌, ◌++◌, Some, None, refl, sym, ◌∙◌, ap, arith, subst}
 use Rattle.std.proofs.lemmas.List.{append-nil}
 use Rattle.lotos_text.specs.Grammar.{Is, a_specification, Specifies}
 use Rattle.lotos_text.specs.Parsing.{Part, Limit, Within, Found, Lost}
@@ -35,7 +35,8 @@ module _ (text : List ℕ) where
   lost_opening limit ts rest l = lost_first closed (Specification limit) Nothing ts rest
       (lost_before _ (Contents text a_specification limit) ts rest l)
 
-  lost_contents : (limit : Limit) (ts after rest : List Token) (n : Token) → ts ≡ n ∷ after → Is n (Reserved w.SpecificationWord) →
+  lost_contents : (limit : Limit) (ts after rest : List Token) (n : Token) → ts ≡ n ∷ after →
+      Is n (Reserved w.SpecificationWord) →
       Lost (Contents text a_specification limit) after rest → Lost (Whole text limit) ts rest
   lost_contents limit ts after rest n e i l = lost_first closed (Specification limit) Nothing ts rest
       (lost_behind _ (Contents text a_specification limit) ts after rest n e i l)

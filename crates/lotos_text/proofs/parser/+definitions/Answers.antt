@@ -1,14 +1,12 @@
-use Rattle.std.proofs.Common.{rules, ◌≡◌, ◌+◌, ◌-◌, List, [], ◌∷◌, ◌++◌, map, Some, None, sym, ◌∙◌, ap, arith, length, subst, Err}
-use Rattle.lotos_text.specs.Grammar.{Is, enabling, a_process, defining_sign, closing_word}
-use Rattle.lotos_text.specs.Parsing.{Found, Lost, NotFirst}
+use Rattle.std.proofs.Common.{rules, ◌-◌, List, [], ◌∷◌, ◌++◌, map, Some, None, sym, ap, arith, length, subst}
+use Rattle.lotos_text.specs.Grammar.{Is, enabling, a_process}
+use Rattle.lotos_text.specs.Parsing.{Found, Lost}
 use Rattle.lotos_text.specs.Parts.{One, Expression, Contents, Header, Inner, Row}
-use Rattle.lotos_text.specs.Tree.{Def, Defs, def, no_defs}
+use Rattle.lotos_text.specs.Tree.{Def, Defs}
 use Rattle.lotos_text.specs.View.{row_of, defined_of, definition_of, definitions_of}
-use Rattle.lotos_text.specs.declared.token.Token.{Token}
 use Rattle.lotos_text.specs.declared.token.TokenKind.TheVariants.{Reserved}
 use Rattle.lotos_text.specs.declared.token.Word.TheVariants as w
 use Rattle.lotos_text.specs.declared.tree.Definition.{Definition}
-use Rattle.lotos_text.specs.declared.descent.Stop.TheVariants.{Deep}
 use Rattle.lotos_text.proofs.Contents.{found_body, found_contents, lost_header, lost_sign, lost_closing, carries_behaviour, carries_inner}
 use Rattle.lotos_text.proofs.Rows.{found_last_process, found_more_processes, lost_word, carries_process, carries_more, carries_all, deep_process, found_no_inner, found_inner, carries_row}
 use Rattle.lotos_text.proofs.Stops.{freed_on, missed_free, carried_on, deeper_on, still_found, still_carried, carries_further}
@@ -52,7 +50,8 @@ contents-inner-requires t c =
 pub contents-returns-in_err-inner-clause-lost : goal.contents-returns-in_err-inner-clause-lost
 contents-returns-in_err-inner-clause-lost t c =
     let what = defined_of c.args.what in
-    let body = found_body c.args.text.now what (Some c.args.room) c.in_ok-heading.rest.now c.in_ok-rest.rest.now c.in_ok-body.rest.now
+    let body =
+    found_body c.args.text.now what (Some c.args.room) c.in_ok-heading.rest.now c.in_ok-rest.rest.now c.in_ok-body.rest.now
     c.in_ok-rest.field-0-0 _ c.in_ok-rest.ensures.found.0
     (subst (λ k. Is c.in_ok-rest.field-0-0 k) c.defining_sign.ensures c.in_ok-rest.ensures.found.1) c.in_ok-body.ensures.found in
     carried_on (Inner c.args.text.now) (Contents c.args.text.now what) c.args.room c.args.room
@@ -65,7 +64,8 @@ contents-returns-in_err-inner-clause-lost t c =
 pub contents-returns-in_err-rest-2-clause-lost : goal.contents-returns-in_err-rest-2-clause-lost
 contents-returns-in_err-rest-2-clause-lost t c =
     let what = defined_of c.args.what in
-    let body = found_body c.args.text.now what (Some c.args.room) c.in_ok-heading.rest.now c.in_ok-rest.rest.now c.in_ok-body.rest.now
+    let body =
+    found_body c.args.text.now what (Some c.args.room) c.in_ok-heading.rest.now c.in_ok-rest.rest.now c.in_ok-body.rest.now
     c.in_ok-rest.field-0-0 _ c.in_ok-rest.ensures.found.0
     (subst (λ k. Is c.in_ok-rest.field-0-0 k) c.defining_sign.ensures c.in_ok-rest.ensures.found.1) c.in_ok-body.ensures.found in
     missed_free (One c.closing_word.result) (Contents c.args.text.now what) c.args.room c.in_ok-inner.rest.now c.args.tokens.now
@@ -78,7 +78,8 @@ contents-returns-in_err-rest-2-clause-lost t c =
 pub contents-returns-clause-found : goal.contents-returns-clause-found
 contents-returns-clause-found t c =
     let what = defined_of c.args.what in
-    let body = found_body c.args.text.now what (Some c.args.room) c.in_ok-heading.rest.now c.in_ok-rest.rest.now c.in_ok-body.rest.now
+    let body =
+    found_body c.args.text.now what (Some c.args.room) c.in_ok-heading.rest.now c.in_ok-rest.rest.now c.in_ok-body.rest.now
     c.in_ok-rest.field-0-0 _ c.in_ok-rest.ensures.found.0
     (subst (λ k. Is c.in_ok-rest.field-0-0 k) c.defining_sign.ensures c.in_ok-rest.ensures.found.1) c.in_ok-body.ensures.found in
     subst (λ d. Found (Contents c.args.text.now what (Some c.args.room)) c.args.tokens.now d c.in_ok-rest-2.rest.now)
@@ -153,7 +154,8 @@ pub row-returns-in_err-one-clause-lost : goal.row-returns-in_err-one-clause-lost
 row-returns-in_err-one-clause-lost t c =
     carried_on (Contents c.args.text.now a_process) (Row c.args.text.now) (c.args.room - 1) c.args.room c.in_ok-word.after.now
     c.args.tokens.now
-    (carries_further (Contents c.args.text.now a_process) (Row c.args.text.now) (Row c.args.text.now) (c.args.room - 1) c.args.room
+    (carries_further (Contents c.args.text.now a_process) (Row c.args.text.now) (Row c.args.text.now)
+    (c.args.room - 1) c.args.room
     c.args.room c.in_ok-word.after.now c.loop-found.rest.now c.args.tokens.now
     (carries_process c.args.text.now (c.args.room - 1) c.args.room c.loop-found.rest.now c.in_ok-word.after.now c.in_ok-word.word
     (let h = c.if-room-eq0.false in omega (arith, h)) c.in_ok-word.ensures.found.0 c.in_ok-word.ensures.found.1)

@@ -33,11 +33,14 @@ returns-clause-refused c =
 
 pub returns-clause-nothing : goal.returns-clause-nothing
 returns-clause-nothing c =
-    lost_spells_nothing c.args.text.now c.in_ok-cut.cut.items c.in_ok-cut.ensures.short c.in_ok-cut.ensures.cut c.in-Err.stop c.fault_of.result
-    (subst (λ ts. IsLostWithin (Whole c.args.text.now) 200 ts c.in-Err.stop) c.as_slice.ensures.value c.in-Err.ensures.lost) c.fault_of.ensures
+    lost_spells_nothing c.args.text.now c.in_ok-cut.cut.items c.in_ok-cut.ensures.short c.in_ok-cut.ensures.cut c.in-Err.stop
+    c.fault_of.result
+    (subst (λ ts. IsLostWithin (Whole c.args.text.now) 200 ts c.in-Err.stop) c.as_slice.ensures.value c.in-Err.ensures.lost)
+    c.fault_of.ensures
 
 pub returns-in_err-cut-clause-fault_inside : goal.returns-in_err-cut-clause-fault_inside
-returns-in_err-cut-clause-fault_inside c = let h = stuck_fault_inside c.args.text.now c.in_err-cut.field-0.0 c.in_err-cut.ensures.stuck in search rules
+returns-in_err-cut-clause-fault_inside c =
+    let h = stuck_fault_inside c.args.text.now c.in_err-cut.field-0.0 c.in_err-cut.ensures.stuck in search rules
 
 pub returns-in-Ok-clause-tree_inside : goal.returns-in-Ok-clause-tree_inside
 returns-in-Ok-clause-tree_inside c = spelled_inside c.args.text.now (definition_of c.in-Ok.whole) (returns-in-Ok-clause-spelled c)
