@@ -8,7 +8,7 @@ use Rattle.std.proofs.Math.Seq.{drop-append_seam, take-append_seam}
 use Rattle.std.specs.List.{starts_with}
 use Rattle.lotos_text.specs.Cut.{Begins, opening, closing, Closed, IsComment, Unclosed}
 
--- the test says whether the front begins the text
+-- where the test passes, the front begins the text; where it fails, it does not
 pub begins_true : (front text : List ℕ) → starts_with nat_eq text front ≡ true → Begins front text
 begins_true front text h =
     (drop (length front) text, (starts_is {E = nat_eq} Decides-eqb text front (starts_with nat_eq text front) refl).0 h)
@@ -49,6 +49,7 @@ pub record NoneBefore (text : List ℕ) (at : ℕ) : Type 0 where
 abbrev pub rest_of : List ℕ → ℕ → List ℕ
 rest_of text at = take (length text - at) (drop at text)
 
+-- it is all bytes from the offset on
 pub rest_is : (text : List ℕ) (at : ℕ) → rest_of text at ≡ drop at text
 rest_is text at = take_all (length text - at) (drop at text) (omega (arith, length-drop at text))
 
@@ -153,9 +154,10 @@ pub one_comment : (a r b q text : List ℕ) → text ≡ a ++ r → text ≡ b +
 one_comment a r b q text e f i j =
     omega (arith, not_shorter a r b q text e f i.closed j, not_shorter b q a r text f e j.closed i)
 
--- a comment begins with an opening, and has a byte at least
+-- a comment begins with an opening
 pub comment_opens : (text piece rest : List ℕ) → text ≡ piece ++ rest → IsComment piece → Begins opening text
 comment_opens text piece rest e i = (i.closed.0 ++ closing ++ rest, e ∙ ap (λ l. l ++ rest) i.closed.1)
 
+-- a comment has a byte at least
 pub comment_some : (piece : List ℕ) → IsComment piece → 0 < length piece
 comment_some piece i = omega (arith, ap length i.closed.1)

@@ -58,7 +58,7 @@ mark_some : (sign : Sign) → 0 < length (spelled sign)
 mark_some s.Semicolon = omega arith
 mark_some _ = omega arith
 
--- a token has a byte at least
+-- a token has a byte at least, and so has a comment
 pub token_some : {text : List ℕ} {n : ℕ} {kind : TokenKind} → Front text (a_token n kind) → 0 < n
 token_some (a_word found rest e i f) = word_some found i
 token_some (a_mark sign rest e i) = mark_some sign

@@ -122,10 +122,12 @@ word_front text h =
     subst (λ m. Front text (a_token m (word_kind found))) (length-prefix_len is_word_byte text)
     (a_word found (drop n text) whole (front_word text h) (front_ends text))
 
+-- the comment of so many bytes stands at the front
 pub comment_front : (text : List ℕ) (n : ℕ) → IsComment (take n text) → n ≤ length text → Front text (Comment n)
 comment_front text n i h =
     subst (λ m. Front text (Comment m)) (length-take-le n text h) (a_comment (take n text) (drop n text) (sym (take-append-drop n text)) i)
 
+-- the opening of a comment that is not closed stands there
 pub open_front : (text : List ℕ) → Unclosed text → Front text Unended
 open_front text u = no_end u
 
