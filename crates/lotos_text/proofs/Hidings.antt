@@ -43,7 +43,8 @@ module _ (text : List ℕ) where
   firm_hiding : Firm Hiding
   firm_hiding = firm_before Opened _ (firm_behind _ (NameList text) (firm_names text))
 
-  found_form : (l : Level) (room : ℕ) (ts rest : List Token) (x : Tree) → 0 < room → Found (HideForm (Some (room - 1))) ts x rest →
+  found_form : (l : Level) (room : ℕ) (ts rest : List Token) (x : Tree) → 0 < room →
+      Found (HideForm (Some (room - 1))) ts x rest →
       Found (Expression text l (Some room)) ts x rest
   found_form l room ts rest x h f =
       let p = f.whole in
@@ -95,12 +96,14 @@ module _ (text : List ℕ) where
   opened n ts between names i f = found_behind _ (NameList text) (n ∷ ts) ts between n names refl i f
 
   hiding : (n word : Token) (ts between after : List Token) (names : List Placed) → Is n (Reserved w.HideWord) →
-      Found (NameList text) ts names between → between ≡ word ∷ after → Is word (Reserved w.InWord) → Found Hiding (n ∷ ts) names after
+      Found (NameList text) ts names between → between ≡ word ∷ after → Is word (Reserved w.InWord) →
+      Found Hiding (n ∷ ts) names after
   hiding n word ts between after names i f e j = found_before Opened _ (n ∷ ts) between after word names
       (opened n ts between names i f) e j
 
   -- names, `in` and a behaviour expression are a hide form of each level
-  pub found_hidden : (l : Level) (room : ℕ) (n word : Token) (ts between after rest : List Token) (names : List Placed) (x z : Tree) →
+  pub found_hidden : (l : Level) (room : ℕ) (n word : Token) (ts between after rest : List Token)
+      (names : List Placed) (x z : Tree) →
       0 < room → Is n (Reserved w.HideWord) → Found (NameList text) ts names between → between ≡ word ∷ after →
       Is word (Reserved w.InWord) → Found (Expression text enabling (Some (room - 1))) after x rest → z ≡ t.hide names x →
       Found (Expression text l (Some room)) (n ∷ ts) z rest
@@ -129,8 +132,8 @@ module _ (text : List ℕ) where
       Is n (Reserved w.HideWord) → Found (NameList text) ts names between → between ≡ word ∷ after → Is word (Reserved w.InWord) →
       Lost (Expression text enabling (inside limit)) after rest → Lost (Expression text l limit) (n ∷ ts) rest
   lost_body l limit n word ts between after rest names i f e j lost =
-      lost_form l limit n ts rest i (lost_second t.hide Hiding (Expression text enabling (inside limit)) firm_hiding (n ∷ ts) after
-      rest names (hiding n word ts between after names i f e j) lost)
+      lost_form l limit n ts rest i
+      (lost_second t.hide Hiding (Expression text enabling (inside limit)) firm_hiding (n ∷ ts) after rest names (hiding n word ts between after names i f e j) lost)
 
   -- where the behaviour expression is lost, so is the hide form
   pub carries_hidden : (l : Level) (room : ℕ) (n word : Token) (ts between after : List Token) (names : List Placed) →

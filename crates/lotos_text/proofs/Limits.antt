@@ -41,8 +41,8 @@ opens_among before after n h =
     omega (arith, e, f, g)
 
 -- where there is no room, a token that opens a construct crowds
-pub crowded_here : (ts front after : List Token) (n : Token) (room : ℕ) → ts ≡ front ++ n ∷ after → room ≡ 0 → opens n.kind ≡ true →
-    Crowded room ts n after
+pub crowded_here : (ts front after : List Token) (n : Token) (room : ℕ) → ts ≡ front ++ n ∷ after → room ≡ 0 →
+    opens n.kind ≡ true → Crowded room ts n after
 crowded_here ts front after n room e h i = record {
   front = front;
   joined = e;

@@ -105,7 +105,8 @@ module _ (text : List ℕ) where
   found_operation {l} {m} room ts between after rest how x y z h b f o g e =
       let ranks : rank between ≡ level_rank l = ap rank o.joined ∙ operator_rank text after o.whole.operates in
       let left : Spells text m false f.whole.nesting f.front x =
-      subst (λ ends. Spells text m ends f.whole.nesting f.front x) (shut l m f.whole.ends between ranks f.whole.quits) f.whole.spells in
+      subst (λ ends. Spells text m ends f.whole.nesting f.front x) (shut l m f.whole.ends between ranks f.whole.quits)
+      f.whole.spells in
       record {
         front = f.front ++ o.front ++ g.front;
         joined = f.joined ∙ ap (λ m. f.front ++ m) (o.joined ∙ ap (λ m. o.front ++ m) g.joined) ∙ sym
@@ -113,7 +114,8 @@ module _ (text : List ℕ) where
         whole = record {
           ends = g.whole.ends;
           nesting = max f.whole.nesting (g.whole.nesting + 1);
-          spells = subst (λ m. Spells text l g.whole.ends (max f.whole.nesting (g.whole.nesting + 1)) (f.front ++ o.front ++ g.front) m)
+          spells = subst
+              (λ m. Spells text l g.whole.ends (max f.whole.nesting (g.whole.nesting + 1)) (f.front ++ o.front ++ g.front) m)
               (sym e) (operation b left o.whole.operates g.whole.spells);
           quits = g.whole.quits;
           within = (let k = f.whole.within in let j = g.whole.within in omega (arith, h, k, j));
@@ -126,8 +128,15 @@ module _ (text : List ℕ) where
       ((a r : List Token) (y : Tree) → ts ≡ a ++ r → Expression text m limit a y r → ⊥) →
       ts ≡ own ++ behind → Levelled text l m ends nesting own x → rank behind < bound l ends → Within limit nesting → ⊥
   never_left limit ts own behind ends nesting x b h e (alone d) q u = h own behind x e
-      (record { ends = ends; nesting = nesting; spells = d; quits = (let g = bound_below ends b in omega (arith, g, q)); within = u })
-  never_left limit ts _ behind ends _ _ b h e (operated {nl = nl} {nr = nr} {left = left} {op = op} {right = right} {x = x} d i f) q u =
+      (record {
+        ends = ends;
+        nesting = nesting;
+        spells = d;
+        quits = (let g = bound_below ends b in omega (arith, g, q));
+        within = u;
+      })
+  never_left limit ts _ behind ends _ _ b h e
+      (operated {nl = nl} {nr = nr} {left = left} {op = op} {right = right} {x = x} d i f) q u =
       h left (op ++ (right ++ behind)) x (e ∙ join_assoc left op right behind) (record {
         ends = false;
         nesting = nl;
@@ -232,7 +241,8 @@ module _ (text : List ℕ) where
       Lost (Expression text l (inside limit)) after rest → Lost (Expression text l limit) ts rest
   lost_right {l} limit within ts between after rest how x b f ranks o lost =
       lost_behind limit within ts between rest x b f ranks
-      (lost_second paired (Operation text l) (Expression text l (inside limit)) (firm_operation text l) between after rest how o lost)
+      (lost_second paired (Operation text l) (Expression text l (inside limit)) (firm_operation text l) between after rest how o
+      lost)
 
   operator_opens : {l : Level} (front op : List Token) (how : Operator) → Operates text l op how → 1 ≤ openings (front ++ op)
   operator_opens front _ how (enable_sign {o = o} i) = opens_among front [] o (opens_is i refl)
@@ -247,7 +257,8 @@ module _ (text : List ℕ) where
 
   -- where the right operand is lost, so is the whole
   pub carries_right : {l m : Level} (room : ℕ) (ts between after : List Token) (how : Operator) (x : Tree) → Below l m →
-      Found (Expression text m (Some room)) ts x between → rank between ≡ level_rank l → Found (Operation text l) between how after →
+      Found (Expression text m (Some room)) ts x between → rank between ≡ level_rank l →
+      Found (Operation text l) between how after →
       Carries (Expression text l) (room - 1) after (Expression text l) room ts
   carries_right room ts between after how x b f ranks o = record {
     free = λ rest. lost_right None (Some room) ts between after rest how x b f ranks o;

@@ -49,7 +49,8 @@ module _ (text : List ℕ) where
     joined = ap (λ m. n ∷ m) l.joined;
     never = λ more own behind x st e p.
         let b = taken_internal text behind (l.front ++ more) i p.spells (sym e) in
-        l.never more (b.semicolon ∷ []) (b.body ++ behind) b.semicolon st (sym b.rest) (record { joined = refl; is = b.separates });
+        l.never more (b.semicolon ∷ []) (b.body ++ behind) b.semicolon st (sym b.rest)
+        (record { joined = refl; is = b.separates });
   }
 
   lost_body : (limit : Limit) (n semicolon : Token) (act : Action) (ts after rest : List Token) → Acts text n act →

@@ -63,8 +63,8 @@ module _ (text : List ℕ) where
     whole = record { operates = of_list i f.whole };
   }
     where
-      of_list : {n : Token} {own behind : List Token} {names : List Placed} → Is n (Sign s.LeftSync) → SyncList text own names behind →
-          Operates text parallel (n ∷ own) (synchronizes (t.gates names))
+      of_list : {n : Token} {own behind : List Token} {names : List Placed} → Is n (Sign s.LeftSync) →
+          SyncList text own names behind → Operates text parallel (n ∷ own) (synchronizes (t.gates names))
       of_list i (no_sync j k) = sync_on_none i j k
       of_list i (some_sync d j k) = sync_on i d j k
 
@@ -136,10 +136,12 @@ module _ (text : List ℕ) where
     front = right ∷ l.front;
     joined = e ∙ ap (λ m. right ∷ m) l.joined;
     never = λ more own behind names st g p.
-        never right (l.front ++ more) i (λ bar ms h j. l.never more (bar ∷ []) ms bar st h (record { joined = refl; is = j })) g p;
+        never right (l.front ++ more) i
+        (λ bar ms h j. l.never more (bar ∷ []) ms bar st h (record { joined = refl; is = j })) g p;
   }
     where
-      never : (right : Token) (more : List Token) {own behind : List Token} {names : List Placed} → Is right (Sign s.RightBracket) →
+      never : (right : Token) (more : List Token) {own behind : List Token} {names : List Placed} →
+          Is right (Sign s.RightBracket) →
           ((bar : Token) (ms : List Token) → more ≡ bar ∷ ms → Is bar (Sign s.Bar) → ⊥) → right ∷ more ≡ own ++ behind →
           SyncList text own names behind → ⊥
       never right more i none e (no_sync {bar = bar} {behind = behind} j k) = none bar behind (tail_same e) k
@@ -194,17 +196,19 @@ module _ (text : List ℕ) where
   -- where the names are lost and no `]` stands, so is the list
   pub lost_listed : (ts rest : List Token) → NotFirst (Sign s.RightBracket) ts → Lost (NameList text) ts rest →
       Lost (SyncList text) ts rest
-  lost_listed ts rest without l = lost_barred ts rest without (lost_within Closed _ ts rest (lost_within (NameList text) _ ts rest l))
+  lost_listed ts rest without l =
+      lost_barred ts rest without (lost_within Closed _ ts rest (lost_within (NameList text) _ ts rest l))
 
   -- where `]` is lost behind the names, so is the list
   pub lost_unbracketed : (ts between rest : List Token) (names : List Placed) → NotFirst (Sign s.RightBracket) ts →
       Found (NameList text) ts names between → Lost (One (Sign s.RightBracket)) between rest → Lost (SyncList text) ts rest
   lost_unbracketed ts between rest names without f l =
-      lost_barred ts rest without (lost_within Closed _ ts rest (lost_unclosed (NameList text) _ (firm_names text) ts between rest names f l))
+      lost_barred ts rest without (lost_within Closed _ ts rest
+      (lost_unclosed (NameList text) _ (firm_names text) ts between rest names f l))
 
   -- where `|` is lost behind the names and `]`, so is the list
-  pub lost_unbarred : (ts between after rest : List Token) (right : Token) (names : List Placed) → NotFirst (Sign s.RightBracket) ts →
-      Found (NameList text) ts names between → between ≡ right ∷ after → Is right (Sign s.RightBracket) →
+  pub lost_unbarred : (ts between after rest : List Token) (right : Token) (names : List Placed) →
+      NotFirst (Sign s.RightBracket) ts → Found (NameList text) ts names between → between ≡ right ∷ after → Is right (Sign s.RightBracket) →
       Lost (One (Sign s.Bar)) after rest → Lost (SyncList text) ts rest
   lost_unbarred ts between after rest right names without f e i l =
       lost_barred ts rest without (lost_unclosed Closed _ (firm_before (NameList text) _ (firm_names text)) ts after rest names
