@@ -7,11 +7,18 @@ use Rattle.lotos_tool.specs.Answers.{IsPlaceOf}
 
 -- a fault with an offset has a place
 pub place_known : (text : List ℕ) (fault : TextFault) (at : ℕ) (place : ℕ × ℕ) →
-    (fault ≡ E01 at) ⊎ ((fault ≡ E02 at) ⊎ ((fault ≡ E04 at) ⊎ ((fault ≡ E05 at) ⊎ ((fault ≡ E06 at) ⊎ (fault ≡ E07 at))))) →
+    (fault ≡ E01 at) ⊎ ((fault ≡ E02 at) ⊎ ((fault ≡ E04 at) ⊎
+    ((fault ≡ E05 at) ⊎ ((fault ≡ E06 at) ⊎ (fault ≡ E07 at))))) →
     IsPlace text at place.0 place.1 → IsPlaceOf text fault (Some place)
-place_known text fault at place (inl e) h = subst (λ f. IsPlaceOf text f (Some place)) (sym e) (place.0, place.1, refl, h)
-place_known text fault at place (inr (inl e)) h = subst (λ f. IsPlaceOf text f (Some place)) (sym e) (place.0, place.1, refl, h)
-place_known text fault at place (inr (inr (inl e))) h = subst (λ f. IsPlaceOf text f (Some place)) (sym e) (place.0, place.1, refl, h)
-place_known text fault at place (inr (inr (inr (inl e)))) h = subst (λ f. IsPlaceOf text f (Some place)) (sym e) (place.0, place.1, refl, h)
-place_known text fault at place (inr (inr (inr (inr (inl e))))) h = subst (λ f. IsPlaceOf text f (Some place)) (sym e) (place.0, place.1, refl, h)
-place_known text fault at place (inr (inr (inr (inr (inr e))))) h = subst (λ f. IsPlaceOf text f (Some place)) (sym e) (place.0, place.1, refl, h)
+place_known text fault at place (inl e) h =
+    subst (λ f. IsPlaceOf text f (Some place)) (sym e) (place.0, place.1, refl, h)
+place_known text fault at place (inr (inl e)) h =
+    subst (λ f. IsPlaceOf text f (Some place)) (sym e) (place.0, place.1, refl, h)
+place_known text fault at place (inr (inr (inl e))) h =
+    subst (λ f. IsPlaceOf text f (Some place)) (sym e) (place.0, place.1, refl, h)
+place_known text fault at place (inr (inr (inr (inl e)))) h =
+    subst (λ f. IsPlaceOf text f (Some place)) (sym e) (place.0, place.1, refl, h)
+place_known text fault at place (inr (inr (inr (inr (inl e))))) h =
+    subst (λ f. IsPlaceOf text f (Some place)) (sym e) (place.0, place.1, refl, h)
+place_known text fault at place (inr (inr (inr (inr (inr e))))) h =
+    subst (λ f. IsPlaceOf text f (Some place)) (sym e) (place.0, place.1, refl, h)
