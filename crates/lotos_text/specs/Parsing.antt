@@ -1,5 +1,5 @@
 -- What a part of the parser found, and how it was lost.
-use Rattle.std.specs.Prelude.{◌≡◌, ℕ, ◌≤◌, ◌<◌, Bool, true, false, if◌then◌else◌, List, [], ◌∷◌, ◌++◌, Option, Some, None}
+use Rattle.std.specs.Prelude.{◌≡◌, ℕ, ◌≤◌, ◌<◌, true, if◌then◌else◌, List, [], ◌∷◌, ◌++◌, Option, Some, None}
 use Rattle.lotos_text.specs.Grammar.{Is}
 use Rattle.lotos_text.specs.Kinds.{opens, openings, is_full}
 use Rattle.lotos_text.specs.declared.fault.TextFault.{TextFault}

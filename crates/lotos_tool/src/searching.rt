@@ -23,9 +23,9 @@ use std::alloc::{AllocError, Global};
 /// derivation of at most the request's depth of steps yields, each once, shorter first, then in the order of their labels.
 ///
 /// The words of the pattern are read first, then the text, whose specification must have no form that is not searched yet,
-/// and is then checked. What is refused first is answered, with nothing written, and for the words with nothing read. A
-/// line is composed whole before its first byte is written. Where no fault came the writing ends with one flush. The reader
-/// and the writer have not failed yet.
+/// and is then checked. What is refused first is answered, with nothing written, and for the words with nothing read. A line
+/// is composed whole before its first byte is written. Where no fault came the writing ends with one flush. The reader and the
+/// writer have not failed yet.
 pub fn list<R: Source, W: Sink>(
     alloc: Global,
     request: &SearchRequest,
