@@ -1,0 +1,158 @@
+-- A specification whose names are distinct has one flat system.
+use Rattle.std.proofs.Common.{◌≡◌, ℕ, ◌<◌, ◌⊎◌, List, [], ◌∷◌, refl, sym, ◌∙◌, subst, inl, inr, arith, Some, length, zero, suc}
+use Rattle.std.specs.Prelude.{slice_get}
+use Rattle.lotos_text.specs.Tree.{Tree, Def, body_of}
+use Rattle.lotos_text.specs.declared.tree.Placed.{Placed}
+use Rattle.lotos_text.specs.declared.tree.Functionality.{Functionality}
+use Rattle.lotos_check.specs.Names.{Name, In, Below, ends, smaller, same, Ascends, none, one, more, IsSetOf}
+use Rattle.lotos_check.specs.Scope.{Scope, Visible, Means, DistinctScope, processes_of}
+use Rattle.lotos_check.specs.Causes.{IsDistinct}
+use Rattle.lotos_check.specs.Flat.{Flat, FlatProcess, System, Pairwise, no_pair, one_pair, IsProcess, IsFlat, Resolves, of_stop, of_exit, of_prefix, of_choice, of_par, of_par_all, of_hide, of_enable, of_disable, of_call}
+use Rattle.lotos_check.specs.Guard.{Calls, CallsUnguarded, itself, left_choice, right_choice, left_par, right_par, under_hide, left_enable, left_disable, right_disable}
+use Rattle.lotos_check.proofs.OneMeaning.{one_meant}
+use Rattle.lotos_check.proofs.Visibles.{visible_distinct, meant_below}
+
+below_differ : (x y : Name) → Below x y → x ≡ y → ⊥
+below_differ [] (b ∷ y) ends e = cc
+below_differ (a ∷ x) (b ∷ y) (smaller h) e = let f : a ≡ b = cc in absurd (omega arith)
+below_differ (a ∷ x) (b ∷ y) (same h) e = below_differ x y h (cc)
+below_differ [] [] h e = elim h [ ]
+below_differ (a ∷ x) [] h e = elim h [ ]
+
+not_below : (x : Name) → Below x x → ⊥
+not_below x h = below_differ x x h refl
+
+below_both : (x y z : Name) → Below x y → Below y z → Below x z
+below_both [] (b ∷ y) (c ∷ z) ends k = ends
+below_both (a ∷ x) (b ∷ y) (c ∷ z) (smaller h) (smaller k) = smaller (omega arith)
+below_both (a ∷ x) (b ∷ y) (c ∷ z) (smaller h) (same k) = smaller h
+below_both (a ∷ x) (b ∷ y) (c ∷ z) (same h) (smaller k) = smaller k
+below_both (a ∷ x) (b ∷ y) (c ∷ z) (same h) (same k) = same (below_both x y z h k)
+below_both [] [] z h k = elim h [ ]
+below_both (a ∷ x) [] z h k = elim h [ ]
+below_both [] (b ∷ y) [] h k = elim k [ ]
+below_both (a ∷ x) (b ∷ y) [] h k = elim k [ ]
+
+first_below : (x : Name) (xs : List Name) → Ascends (x ∷ xs) → (y : Name) → In y xs → Below x y
+first_below x [] a y i = absurd i
+first_below x (z ∷ zs) (more b a) y (inl e) = subst (Below x) e b
+first_below x (z ∷ zs) (more b a) y (inr i) = below_both x z y b (first_below z zs a y i)
+
+rest_ascends : (x : Name) (xs : List Name) → Ascends (x ∷ xs) → Ascends xs
+rest_ascends x [] one = none
+rest_ascends x (y ∷ ys) (more b a) = a
+
+same_first : (x y : Name) (xs ys : List Name) → Ascends (x ∷ xs) → Ascends (y ∷ ys) → (x ≡ y) ⊎ In y xs → (y ≡ x) ⊎ In x ys → x ≡ y
+same_first x y xs ys a b (inl e) j = e
+same_first x y xs ys a b (inr i) (inl e) = sym e
+same_first x y xs ys a b (inr i) (inr j) = absurd (not_below x (below_both x y x (first_below x xs a y i) (first_below y ys b x j)))
+
+in_rest : (x y n : Name) (xs ys : List Name) → Ascends (x ∷ xs) → x ≡ y → (In n (x ∷ xs) → In n (y ∷ ys)) → In n xs → In n ys
+in_rest x y n xs ys a e to i = elim (to (inr i)) [
+  | inl f ↦ absurd (not_below x (subst (Below x) (sym (e ∙ f)) (first_below x xs a n i)))
+  | inr j ↦ j
+]
+
+-- names in order without repeats are known by which they are
+pub one_set : (xs ys : List Name) → Ascends xs → Ascends ys → ((n : Name) → In n xs → In n ys) → ((n : Name) → In n ys → In n xs) → xs ≡ ys
+one_set [] [] a b to from = refl
+one_set [] (y ∷ ys) a b to from = absurd (from y (inl refl))
+one_set (x ∷ xs) [] a b to from = absurd (to x (inl refl))
+one_set (x ∷ xs) (y ∷ ys) a b to from =
+    let e = same_first x y xs ys a b (from y (inl refl)) (to x (inl refl)) in
+    let r = one_set xs ys (rest_ascends x xs a) (rest_ascends y ys b)
+    (λ n. in_rest x y n xs ys a e (to n)) (λ n. in_rest y x n ys xs b (sym e) (from n)) in
+    cc
+
+one_set_of : (xs ys : List Name) (list : List Placed) → IsSetOf xs list → IsSetOf ys list → xs ≡ ys
+one_set_of xs ys list h k =
+    one_set xs ys h.ascends k.ascends (λ n i. (k.same n).1 ((h.same n).0 i)) (λ n i. (h.same n).1 ((k.same n).0 i))
+
+-- a behaviour has one flat form where names have one meaning
+pub one_flat : (scope : Scope) → DistinctScope scope → (t : Tree) (c e : Flat) → Resolves scope t c → Resolves scope t e → c ≡ e
+one_flat scope distinct t c e of_stop of_stop = refl
+one_flat scope distinct t c e of_exit of_exit = refl
+one_flat scope distinct t c e (of_prefix x) (of_prefix y) = let a = one_flat scope distinct _ _ _ x y in cc
+one_flat scope distinct t c e (of_choice x u) (of_choice y v) =
+    let a = one_flat scope distinct _ _ _ x y in let b = one_flat scope distinct _ _ _ u v in cc
+one_flat scope distinct t c e (of_par {gs = gs} {names = names} x s u) (of_par {names = other} y r v) =
+    let a = one_flat scope distinct _ _ _ x y in let b = one_flat scope distinct _ _ _ u v in let d = one_set_of names other gs s r in cc
+one_flat scope distinct t c e (of_par_all x u) (of_par_all y v) =
+    let a = one_flat scope distinct _ _ _ x y in let b = one_flat scope distinct _ _ _ u v in cc
+one_flat scope distinct t c e (of_hide {gs = gs} {names = names} s x) (of_hide {names = other} r y) =
+    let a = one_flat scope distinct _ _ _ x y in let d = one_set_of names other gs s r in cc
+one_flat scope distinct t c e (of_enable x u) (of_enable y v) =
+    let a = one_flat scope distinct _ _ _ x y in let b = one_flat scope distinct _ _ _ u v in cc
+one_flat scope distinct t c e (of_disable x u) (of_disable y v) =
+    let a = one_flat scope distinct _ _ _ x y in let b = one_flat scope distinct _ _ _ u v in cc
+one_flat scope distinct t c e (of_call {p = p} {k = i} {d = d} x) (of_call {k = j} {d = f} y) =
+    let a = (one_meant scope distinct p.name i j d f x y).0 in cc
+
+same_parts : (n m : Name) (f g : List Name) (x y : Functionality) (b c : Flat) → n ≡ m → f ≡ g → x ≡ y → b ≡ c →
+    ◌≡◌ {A = FlatProcess} (record { name = n; formals = f; functionality = x; body = b }) (record { name = m; formals = g; functionality = y; body = c })
+same_parts n m f g x y b c e h k l = rw (e, h, k, l) refl
+
+one_process : (v : Visible) → DistinctScope v.scope → (p q : FlatProcess) → IsProcess v p → IsProcess v q → p ≡ q
+one_process v distinct p q h k =
+    let n : p.name ≡ q.name = h.name ∙ sym k.name in
+    let f : p.formals ≡ q.formals = h.formals ∙ sym k.formals in
+    let g : p.functionality ≡ q.functionality = h.functionality ∙ sym k.functionality in
+    let b : p.body ≡ q.body = one_flat v.scope distinct (body_of v.definition) p.body q.body h.body k.body in
+    same_parts p.name q.name p.formals q.formals p.functionality q.functionality p.body q.body n f g b
+
+one_processes : (vs : List Visible) → ((v : Visible) → In v vs → DistinctScope v.scope) → (ps qs : List FlatProcess) →
+    Pairwise IsProcess vs ps → Pairwise IsProcess vs qs → ps ≡ qs
+one_processes [] distinct [] [] no_pair no_pair = refl
+one_processes (v ∷ vs) distinct (p ∷ ps) (q ∷ qs) (one_pair h hs) (one_pair k ks) =
+    let a = one_process v (distinct v (inl refl)) p q h k in
+    let b = one_processes vs (λ w i. distinct w (inr i)) ps qs hs ks in
+    cc
+one_processes [] distinct (p ∷ ps) qs h k = elim h [ ]
+one_processes [] distinct [] (q ∷ qs) h k = elim k [ ]
+one_processes (v ∷ vs) distinct [] qs h k = elim h [ ]
+one_processes (v ∷ vs) distinct (p ∷ ps) [] h k = elim k [ ]
+
+-- the processes of a specification's flat systems are the same
+pub same_processes : (whole : Def) (s r : System) → IsDistinct whole → IsFlat whole s → IsFlat whole r → s.processes ≡ r.processes
+same_processes whole s r distinct h k =
+    one_processes (processes_of whole) (λ v i. visible_distinct whole distinct v (inr i)) s.processes r.processes h.processes k.processes
+
+-- an unguarded call goes to a process whose number a name means
+called_meant : (scope : Scope) (t : Tree) (c : Flat) (q : ℕ) → Resolves scope t c → CallsUnguarded c q → (n : Name) × (d : Def) × Means scope n q d
+called_meant scope t c q (of_call {p = p} {d = d} m) itself = (p.name, d, m)
+called_meant scope t c q (of_choice x y) (left_choice h) = called_meant scope _ _ q x h
+called_meant scope t c q (of_choice x y) (right_choice h) = called_meant scope _ _ q y h
+called_meant scope t c q (of_par x s y) (left_par h) = called_meant scope _ _ q x h
+called_meant scope t c q (of_par x s y) (right_par h) = called_meant scope _ _ q y h
+called_meant scope t c q (of_par_all x y) (left_par h) = called_meant scope _ _ q x h
+called_meant scope t c q (of_par_all x y) (right_par h) = called_meant scope _ _ q y h
+called_meant scope t c q (of_hide s x) (under_hide h) = called_meant scope _ _ q x h
+called_meant scope t c q (of_enable x y) (left_enable h) = called_meant scope _ _ q x h
+called_meant scope t c q (of_disable x y) (left_disable h) = called_meant scope _ _ q x h
+called_meant scope t c q (of_disable x y) (right_disable h) = called_meant scope _ _ q y h
+called_meant scope t c q of_stop h = elim h [ ]
+called_meant scope t c q of_exit h = elim h [ ]
+called_meant scope t c q (of_prefix x) h = elim h [ ]
+
+paired_at : (vs : List Visible) (ps : List FlatProcess) → Pairwise IsProcess vs ps → (i : ℕ) (p : FlatProcess) → slice_get ps i ≡ Some p →
+    (v : Visible) × In v vs × IsProcess v p
+paired_at [] [] no_pair i p e = cc
+paired_at (v ∷ vs) (q ∷ ps) (one_pair h hs) zero p e = let f : q ≡ p = cc in (v, inl refl, subst (IsProcess v) f h)
+paired_at (v ∷ vs) (q ∷ ps) (one_pair h hs) (suc i) p e = let r = paired_at vs ps hs i p e in (r.0, inr r.1, r.2)
+paired_at [] (q ∷ ps) h i p e = elim h [ ]
+paired_at (v ∷ vs) [] h i p e = elim h [ ]
+
+paired_length : (vs : List Visible) (ps : List FlatProcess) → Pairwise IsProcess vs ps → length vs ≡ length ps
+paired_length [] [] no_pair = refl
+paired_length (v ∷ vs) (p ∷ ps) (one_pair h hs) = let r = paired_length vs ps hs in omega arith
+paired_length [] (p ∷ ps) h = elim h [ ]
+paired_length (v ∷ vs) [] h = elim h [ ]
+
+-- every unguarded call of a flat system goes to one of its processes
+pub calls_within : (whole : Def) (s : System) → IsFlat whole s → (p q : ℕ) → Calls s.processes p q → q < length s.processes
+calls_within whole s flat p q h =
+    let at = paired_at (processes_of whole) s.processes flat.processes p h.process h.stands in
+    let m = called_meant at.0.scope (body_of at.0.definition) h.process.body q at.2.body h.calls in
+    let b = meant_below whole at.0 (inr at.1) m.0 q m.1 m.2 in
+    let l = paired_length (processes_of whole) s.processes flat.processes in
+    omega arith

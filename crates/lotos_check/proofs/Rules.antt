@@ -1,0 +1,149 @@
+-- From what the passes find to the static rules and to the flat system.
+use Rattle.std.proofs.Common.{◌≡◌, ℕ, List, [], ◌∷◌, length, map, refl, sym, ap, ◌∙◌, subst, inl, inr, Option, Some, None}
+use Rattle.std.specs.Prelude.{MatchOption}
+use Rattle.lotos_text.specs.Tree.{Tree, Def, formals_of, declared_of, body_of, inner_of}
+use Rattle.lotos_text.specs.declared.tree.Placed.{Placed}
+use Rattle.lotos_text.specs.declared.tree.Functionality.{Functionality}
+use Rattle.lotos_text.specs.declared.tree.Functionality.TheVariants.{Exit, NoExit}
+use Rattle.lotos_check.specs.Names.{Name, In, texts}
+use Rattle.lotos_check.specs.Scope.{Scope, Visible, DistinctScope, Stands, within, processes_of, everywhere, definitions_in, row_in}
+use Rattle.lotos_check.specs.Functionalities.{Func, of_stop, of_exit, of_prefix, of_hide, of_choice, of_disable, of_par, of_enable, of_call}
+use Rattle.lotos_check.specs.Flat.{Pairwise, no_pair, one_pair, IsProcess, IsFlat, Resolves}
+use Rattle.lotos_check.specs.View.{flat_of, process_of}
+use Rattle.lotos_check.specs.Causes.{IsDistinct, WellTyped, IsE21, IsE22, IsE23, IsE25, IsE26}
+use Rattle.lotos_check.specs.Resolved.{IsBody, Adds, LeftsExit, NeverExits}
+use Rattle.lotos_check.specs.Typing.{IsTyped}
+use Rattle.lotos_check.specs.Checking.{AreMade, none_made, one_made, IsFlattened, made}
+use Rattle.lotos_check.specs.declared.body.Resolved.{Resolved}
+use Rattle.lotos_check.specs.declared.code.Code.{Code}
+use Rattle.lotos_check.specs.declared.code.Process.{Process}
+use Rattle.lotos_check.proofs.OneMeaning.{one_meant}
+use Rattle.lotos_check.proofs.Visibles.{everywhere_in_order, visible_distinct, listed_row}
+
+-- a behaviour has one functionality where names have one meaning
+pub one_functionality : (scope : Scope) → DistinctScope scope → (t : Tree) (f g : Functionality) → Func scope t f → Func scope t g → f ≡ g
+one_functionality scope distinct t f g of_stop of_stop = refl
+one_functionality scope distinct t f g of_exit of_exit = refl
+one_functionality scope distinct t f g (of_prefix x) (of_prefix y) = one_functionality scope distinct _ f g x y
+one_functionality scope distinct t f g (of_hide x) (of_hide y) = one_functionality scope distinct _ f g x y
+one_functionality scope distinct t f g (of_choice x u) (of_choice y v) =
+    let a = one_functionality scope distinct _ _ _ x y in let b = one_functionality scope distinct _ _ _ u v in cc
+one_functionality scope distinct t f g (of_disable x u) (of_disable y v) =
+    let a = one_functionality scope distinct _ _ _ x y in let b = one_functionality scope distinct _ _ _ u v in cc
+one_functionality scope distinct t f g (of_par x u) (of_par y v) =
+    let a = one_functionality scope distinct _ _ _ x y in let b = one_functionality scope distinct _ _ _ u v in cc
+one_functionality scope distinct t f g (of_enable x) (of_enable y) = one_functionality scope distinct _ f g x y
+one_functionality scope distinct t f g (of_call {p = p} {k = i} {d = d} x) (of_call {k = j} {d = e} y) =
+    ap declared_of (one_meant scope distinct p.name i j d e x y).1
+
+-- what stands in the first of two lists has its pair
+pub paired : {X Y : Type 0} {P : X → Y → Type 0} {xs : List X} {ys : List Y} → Pairwise P xs ys → (x : X) → In x xs → (y : Y) × P x y
+paired no_pair x i = absurd i
+paired {P = P} (one_pair {y = y} p more) x (inl e) = (y, subst (λ t. P t y) e p)
+paired (one_pair p more) x (inr i) = paired more x i
+
+-- two pairings of the same lists are one of both
+pub paired_twice : {X Y Z : Type 0} {P : X → Y → Type 0} {Q : Z → Y → Type 0} (view : X → Z) (xs : List X) (ys : List Y) →
+    Pairwise P xs ys → Pairwise Q (map view xs) ys → Pairwise (λ x y. P x y × Q (view x) y) xs ys
+paired_twice view [] [] no_pair q = no_pair
+paired_twice view [] (y ∷ ys) p q = elim p [ ]
+paired_twice view (x ∷ xs) [] p q = elim p [ ]
+paired_twice view (x ∷ xs) (y ∷ ys) (one_pair a p) (one_pair b q) = one_pair (a, b) (paired_twice view xs ys p q)
+
+-- what the walk found, by the definitions where they stand
+pub walked : (whole : Def) (found : List Resolved) → Adds (everywhere whole) [] found → Pairwise IsBody (everywhere whole) found
+walked whole found adds = subst (λ t. Pairwise IsBody (everywhere whole) t) (sym adds.joined) adds.found
+
+module _ (whole : Def) (found : List Resolved) (distinct : IsDistinct whole) (bodies : Pairwise IsBody (everywhere whole) found)
+    (typed : Pairwise IsTyped (definitions_in whole) found) where
+  one_found : (scope : Scope) (d : Def) → Stands whole scope d →
+      (r : Resolved) × (IsBody (record { scope = scope; definition = d }) r × IsTyped d r)
+  one_found scope d stands =
+      let both = paired_twice (λ v. v.definition) (everywhere whole) found bodies
+      (subst (λ t. Pairwise IsTyped t found) (everywhere_in_order whole) typed) in
+      paired both (record { scope = scope; definition = d }) stands
+
+  no_unknown_gate : (p : Placed) → IsE21 whole p → ⊥
+  no_unknown_gate p h =
+      let r = one_found h.scope h.occurs.definition h.occurs.stands in
+      h.unknown (r.1.0.gates h.known h.part p h.occurs.inside h.uses)
+
+  no_unseen_process : (p : Placed) → IsE22 whole p → ⊥
+  no_unseen_process p h =
+      let r = one_found h.scope h.occurs.definition h.occurs.stands in
+      let c = r.1.0.calls h.known p h.actuals h.occurs.inside in
+      h.unknown c.0 c.1 c.2
+
+  no_unfit_call : (p : Placed) (formal actual : ℕ) → IsE23 whole p formal actual → ⊥
+  no_unfit_call p formal actual h =
+      let r = one_found h.scope h.occurs.definition h.occurs.stands in
+      let c = r.1.0.calls h.known p h.actuals h.occurs.inside in
+      let scoped = visible_distinct whole distinct (record { scope = h.scope; definition = h.occurs.definition }) h.occurs.stands in
+      let same = one_meant h.scope scoped p.name h.process c.0 h.definition c.1 h.means c.2 in
+      h.differ (h.declared ∙ ap (λ d. length (formals_of d)) same.1 ∙ c.3 ∙ sym h.given)
+
+  no_other_functionality : (p : Placed) (f : Functionality) → IsE25 whole p f → ⊥
+  no_other_functionality p f h =
+      let r = one_found h.scope h.definition h.stands in
+      let scoped = visible_distinct whole distinct (record { scope = h.scope; definition = h.definition }) h.stands in
+      h.differ (one_functionality h.scope scoped (body_of h.definition) h.other r.0.functionality h.has r.1.0.has ∙ r.1.1.same ∙ sym h.says)
+
+  all_exit : (scope : Scope) (known : List Name) (body : Tree) (at : Option ℕ) → at ≡ None →
+      MatchOption at (LeftsExit scope known body) (NeverExits scope known body) → LeftsExit scope known body
+  all_exit scope known body None e h = h
+  all_exit scope known body (Some at) e h = cc
+
+  no_stuck_enabling : (at : ℕ) → IsE26 whole at → ⊥
+  no_stuck_enabling at h =
+      let d = h.occurs.definition in
+      let r = one_found h.scope d h.occurs.stands in
+      let scoped = visible_distinct whole distinct (record { scope = h.scope; definition = d }) h.occurs.stands in
+      let exits = all_exit h.scope (texts (formals_of d)) (body_of d) r.0.never r.1.1.exits r.1.0.lefts h.known h.left h.right at h.occurs.inside in
+      let e : Exit ≡ NoExit = one_functionality h.scope scoped h.left Exit NoExit exits h.never in
+      cc
+
+  -- what the passes find without a fault is well typed
+  pub well_typed : WellTyped whole
+  well_typed = record {
+    distinct = distinct;
+    known_gates = no_unknown_gate;
+    known_processes = no_unseen_process;
+    same_numbers = no_unfit_call;
+    as_declared = no_other_functionality;
+    left_exits = no_stuck_enabling;
+  }
+
+flat_processes : (vs : List Visible) (found : List Resolved) (processes : List Process) → Pairwise IsBody vs found →
+    AreMade (map (λ v. v.definition) vs) found processes → Pairwise IsProcess vs (map process_of processes)
+flat_processes [] [] [] no_pair none_made = no_pair
+flat_processes (v ∷ vs) (r ∷ found) (p ∷ processes) (one_pair b bodies) (one_made m all) =
+    one_pair
+    (record {
+      name = m.name;
+      formals = m.formals;
+      functionality = m.functionality;
+      body = subst (λ t. Resolves v.scope (body_of v.definition) t) (sym m.body) b.code;
+    })
+    (flat_processes vs found processes bodies all)
+flat_processes [] (r ∷ found) processes b a = elim b [ ]
+flat_processes (v ∷ vs) [] processes b a = elim b [ ]
+flat_processes [] [] (p ∷ processes) b a = elim a [ ]
+flat_processes (v ∷ vs) (r ∷ found) [] b a = elim a [ ]
+
+flat_all : (v : Visible) (vs : List Visible) (ds : List Def) (found : List Resolved) (start : Code) (processes : List Process) →
+    ds ≡ map (λ v. v.definition) vs → Pairwise IsBody (v ∷ vs) found → IsFlattened (v.definition ∷ ds) found start processes →
+    Resolves v.scope (body_of v.definition) (flat_of start) × Pairwise IsProcess vs (map process_of processes)
+flat_all v vs ds (r ∷ found) start processes e (one_pair b bodies) (made s all) = (
+  subst (λ t. Resolves v.scope (body_of v.definition) t) (sym s) b.code,
+  flat_processes vs found processes bodies (subst (λ t. AreMade t found processes) e all),
+)
+flat_all v vs ds [] start processes e b m = elim b [ ]
+
+-- the code of all definitions is the flat system
+pub flat_system : (whole : Def) (found : List Resolved) (formals : List Name) (start : Code) (processes : List Process) →
+    Pairwise IsBody (everywhere whole) found → IsFlattened (whole ∷ row_in (inner_of whole)) found start processes → formals ≡ texts (formals_of whole) →
+    IsFlat whole (record { formals = formals; start = flat_of start; processes = map process_of processes })
+flat_system whole found formals start processes bodies flattened named =
+    let both = flat_all (record { scope = within whole 0 []; definition = whole }) (processes_of whole) (row_in (inner_of whole)) found start processes
+    (listed_row (within whole 0 []) 0 (inner_of whole)) bodies flattened in
+    record { formals = named; start = both.0; processes = both.1 }

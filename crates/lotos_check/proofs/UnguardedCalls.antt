@@ -1,0 +1,128 @@
+-- The unguarded calls of a behaviour, from those of its parts.
+use Rattle.std.proofs.Common.{◌≡◌, ◌↔◌, ◌⊎◌, ℕ, List, [], ◌∷◌, ◌++◌, Option, refl, inl, inr}
+use Rattle.lotos_check.specs.Names.{Name, In}
+use Rattle.lotos_check.specs.Flat.{Flat, choice, par, hide, enable, disable, call}
+use Rattle.lotos_check.specs.Guard.{CallsUnguarded, itself, left_choice, right_choice, left_par, right_par, under_hide, left_enable, left_disable, right_disable}
+
+-- the second list has the processes of the first and those that the behaviour calls unguarded
+abbrev pub Adds : List ℕ → List ℕ → Flat → Type 0
+Adds old new code = (q : ℕ) → In q new ↔ In q old ⊎ CallsUnguarded code q
+
+from_choice : {l r : Flat} {q : ℕ} → CallsUnguarded (choice l r) q → CallsUnguarded l q ⊎ CallsUnguarded r q
+from_choice (left_choice c) = inl c
+from_choice (right_choice c) = inr c
+
+from_par : {l r : Flat} {s : Option (List Name)} {q : ℕ} → CallsUnguarded (par l s r) q →
+    CallsUnguarded l q ⊎ CallsUnguarded r q
+from_par (left_par c) = inl c
+from_par (right_par c) = inr c
+
+from_disable : {l r : Flat} {q : ℕ} → CallsUnguarded (disable l r) q → CallsUnguarded l q ⊎ CallsUnguarded r q
+from_disable (left_disable c) = inl c
+from_disable (right_disable c) = inr c
+
+from_hide : {gs : List Name} {b : Flat} {q : ℕ} → CallsUnguarded (hide gs b) q → CallsUnguarded b q
+from_hide (under_hide c) = c
+
+from_enable : {l r : Flat} {q : ℕ} → CallsUnguarded (enable l r) q → CallsUnguarded l q
+from_enable (left_enable c) = c
+
+from_call : {k q : ℕ} {gs : List Name} → CallsUnguarded (call k gs) q → k ≡ q
+from_call itself = refl
+
+-- a behaviour adds what both of its operands add, where it calls what one of them calls
+module _ (old mid new : List ℕ) (left right whole : Flat) (into_left : Adds old mid left) (into_right : Adds mid new right)
+    (down : (q : ℕ) → CallsUnguarded whole q → CallsUnguarded left q ⊎ CallsUnguarded right q)
+    (up_left : (q : ℕ) → CallsUnguarded left q → CallsUnguarded whole q)
+    (up_right : (q : ℕ) → CallsUnguarded right q → CallsUnguarded whole q) where
+  out_mid : (q : ℕ) → In q old ⊎ CallsUnguarded left q → In q old ⊎ CallsUnguarded whole q
+  out_mid q (inl i) = inl i
+  out_mid q (inr c) = inr (up_left q c)
+
+  out : (q : ℕ) → In q mid ⊎ CallsUnguarded right q → In q old ⊎ CallsUnguarded whole q
+  out q (inl i) = out_mid q ((into_left q).0 i)
+  out q (inr c) = inr (up_right q c)
+
+  back_part : (q : ℕ) → CallsUnguarded left q ⊎ CallsUnguarded right q → In q new
+  back_part q (inl c) = (into_right q).1 (inl ((into_left q).1 (inr c)))
+  back_part q (inr c) = (into_right q).1 (inr c)
+
+  back : (q : ℕ) → In q old ⊎ CallsUnguarded whole q → In q new
+  back q (inl i) = (into_right q).1 (inl ((into_left q).1 (inl i)))
+  back q (inr c) = back_part q (down q c)
+
+  adds_both : Adds old new whole
+  adds_both q = (λ i. out q ((into_right q).0 i), back q)
+
+-- a behaviour adds what its one part adds, where it calls what that calls
+module _ (old new : List ℕ) (part whole : Flat) (into : Adds old new part)
+    (down : (q : ℕ) → CallsUnguarded whole q → CallsUnguarded part q)
+    (up : (q : ℕ) → CallsUnguarded part q → CallsUnguarded whole q) where
+  out_one : (q : ℕ) → In q old ⊎ CallsUnguarded part q → In q old ⊎ CallsUnguarded whole q
+  out_one q (inl i) = inl i
+  out_one q (inr c) = inr (up q c)
+
+  back_one : (q : ℕ) → In q old ⊎ CallsUnguarded whole q → In q new
+  back_one q (inl i) = (into q).1 (inl i)
+  back_one q (inr c) = (into q).1 (inr (down q c))
+
+  adds_one : Adds old new whole
+  adds_one q = (λ i. out_one q ((into q).0 i), back_one q)
+
+-- a choice adds what its operands add
+pub adds_choice : (old mid new : List ℕ) (l r : Flat) → Adds old mid l → Adds mid new r → Adds old new (choice l r)
+adds_choice old mid new l r a b =
+    adds_both old mid new l r (choice l r) a b (λ q c. from_choice c) (λ q c. left_choice c) (λ q c. right_choice c)
+
+-- a disabling adds what its operands add
+pub adds_disable : (old mid new : List ℕ) (l r : Flat) → Adds old mid l → Adds mid new r → Adds old new (disable l r)
+adds_disable old mid new l r a b =
+    adds_both old mid new l r (disable l r) a b (λ q c. from_disable c) (λ q c. left_disable c) (λ q c. right_disable c)
+
+-- a parallel expression adds what its operands add
+pub adds_par : (old mid new : List ℕ) (l r : Flat) (s : Option (List Name)) → Adds old mid l → Adds mid new r →
+    Adds old new (par l s r)
+adds_par old mid new l r s a b =
+    adds_both old mid new l r (par l s r) a b (λ q c. from_par c) (λ q c. left_par c) (λ q c. right_par c)
+
+-- a hide form adds what its body adds
+pub adds_hide : (old new : List ℕ) (gs : List Name) (b : Flat) → Adds old new b → Adds old new (hide gs b)
+adds_hide old new gs b a = adds_one old new b (hide gs b) a (λ q c. from_hide c) (λ q c. under_hide c)
+
+-- an enabling adds what its left operand adds
+pub adds_enable : (old new : List ℕ) (l r : Flat) → Adds old new l → Adds old new (enable l r)
+adds_enable old new l r a = adds_one old new l (enable l r) a (λ q c. from_enable c) (λ q c. left_enable c)
+
+end_later : {x k q : ℕ} (xs : List ℕ) → In q xs ⊎ (k ≡ q) → In q (x ∷ xs) ⊎ (k ≡ q)
+end_later xs (inl i) = inl (inr i)
+end_later xs (inr e) = inr e
+
+-- what stands in a list with one more at its end stood in it, or is that one
+pub in_end : (xs : List ℕ) (k q : ℕ) → In q (xs ++ k ∷ []) → In q xs ⊎ (k ≡ q)
+in_end [] k q (inl e) = inr e
+in_end [] k q (inr i) = elim i [ ]
+in_end (x ∷ xs) k q (inl e) = inl (inl e)
+in_end (x ∷ xs) k q (inr i) = end_later xs (in_end xs k q i)
+
+-- what stands in a list stands in it with one more at its end
+pub in_before_end : (xs : List ℕ) (k q : ℕ) → In q xs → In q (xs ++ k ∷ [])
+in_before_end [] k q i = elim i [ ]
+in_before_end (x ∷ xs) k q (inl e) = inl e
+in_before_end (x ∷ xs) k q (inr i) = inr (in_before_end xs k q i)
+
+-- the one at the end stands in the list
+pub in_at_end : (xs : List ℕ) (k : ℕ) → In k (xs ++ k ∷ [])
+in_at_end [] k = inl refl
+in_at_end (x ∷ xs) k = inr (in_at_end xs k)
+
+call_out : (old : List ℕ) (k q : ℕ) (gs : List Name) → In q old ⊎ (k ≡ q) → In q old ⊎ CallsUnguarded (call k gs) q
+call_out old k q gs (inl i) = inl i
+call_out old k q gs (inr e) = inr (rw (← e) itself)
+
+call_back : (old : List ℕ) (k q : ℕ) (gs : List Name) → In q old ⊎ CallsUnguarded (call k gs) q → In q (old ++ k ∷ [])
+call_back old k q gs (inl i) = in_before_end old k q i
+call_back old k q gs (inr c) = rw (← from_call c) (in_at_end old k)
+
+-- an instantiation adds the process that it names
+pub adds_call : (old : List ℕ) (k : ℕ) (gs : List Name) → Adds old (old ++ k ∷ []) (call k gs)
+adds_call old k gs q = (λ i. call_out old k q gs (in_end old k q i), call_back old k q gs)

@@ -1,0 +1,141 @@
+-- What is found of many bodies, one by one.
+use Rattle.std.specs.Prelude.{◌≡◌, ℕ, suc, ◌+◌, ◌<◌, length, get_or, drop, List, [], ◌∷◌, ◌++◌, IfErr, IsErrAnd, Result, Ok, Err}
+use Rattle.std.specs.HashMap.{HashMap}
+use Rattle.std.proofs.Common.{refl, sym, subst, append_assoc, append-nil, ap, ◌∙◌, drop-cons, add-one, inl, inr}
+use Rattle.lotos_text.specs.Tree.{Def, def, Defs, more_defs, formals_of, body_of, inner_of}
+use Rattle.lotos_text.specs.View.{definition_of, definitions_of}
+use Rattle.lotos_text.specs.declared.tree.Definition.{Definition, out-Definition}
+use Rattle.lotos_text.specs.declared.tree.Placed.{Placed}
+use Rattle.lotos_check.specs.Names.{Name, In, texts}
+use Rattle.lotos_check.specs.Scope.{Scope, Visible, count, within, listed, listed_with}
+use Rattle.lotos_check.specs.Table.{Knows, Shows, Tabulates}
+use Rattle.lotos_check.specs.Flat.{Pairwise, no_pair, one_pair}
+use Rattle.lotos_check.specs.Resolved.{IsResolved, IsMisnamed, Adds, IsMisnamedIn}
+use Rattle.lotos_check.specs.declared.body.Resolved.{Resolved}
+use Rattle.lotos_check.specs.declared.table.Meaning.{Meaning}
+use Rattle.lotos_check.specs.declared.fault.CheckFault.{CheckFault}
+use Rattle.lotos_check.specs.declared.fault.CheckFault.TheVariants.{E99}
+use Rattle.std.specs.declared.alloc.AllocError.{AllocError}
+use Rattle.lotos_check.proofs.DefinitionParts.{formals_shown, inner_shown}
+
+pairs_append : {X Y : Type 0} {P : X → Y → Type 0} (xs us : List X) (ys vs : List Y) → Pairwise P xs ys → Pairwise P us vs →
+    Pairwise P (xs ++ us) (ys ++ vs)
+pairs_append [] us [] vs no_pair q = q
+pairs_append [] us (y ∷ ys) vs h q = elim h [ ]
+pairs_append (x ∷ xs) us [] vs h q = elim h [ ]
+pairs_append (x ∷ xs) us (y ∷ ys) vs (one_pair p r) q = one_pair p (pairs_append xs us ys vs r q)
+
+-- what is found of these and then of those is found of both
+pub adds_append : (these those : List Visible) (old between new : List Resolved) → Adds these old between →
+    Adds those between new →
+    Adds (these ++ those) old new
+adds_append these those old between new h k = record {
+  more = h.more ++ k.more;
+  joined = rw (k.joined, h.joined) (append_assoc old h.more k.more);
+  found = pairs_append these those h.more k.more h.found k.found;
+}
+
+-- of no definitions nothing is found
+pub adds_none : (old : List Resolved) → Adds [] old old
+adds_none old = record { more = []; joined = sym (append-nil old); found = no_pair }
+
+-- definitions are listed as the first with its inner ones, and then the others
+pub listed_more : (scope : Scope) (first : ℕ) (d : Def) (ds : Defs) →
+    listed scope first (more_defs d ds) ≡ listed_with scope (first + 1) d ++ listed scope (first + 1 + count (inner_of d)) ds
+listed_more scope first (def name formals declared body inner) ds = refl
+
+-- the number of definitions, by the first
+pub count_more : (d : Def) (ds : Defs) → count (more_defs d ds) ≡ 1 + count (inner_of d) + count ds
+count_more (def name formals declared body inner) ds = refl
+
+-- what is found of a definition, and then of its inner ones
+pub adds_first : (scope : Scope) (first : ℕ) (d : Def) (old between new : List Resolved) (found : Resolved) →
+    between ≡ old ++ found ∷ [] → IsResolved (within d first scope) (texts (formals_of d)) (body_of d) found →
+    Adds (listed (within d first scope) first (inner_of d)) between new → Adds (listed_with scope first d) old new
+adds_first scope first d old between new found pushed body h = record {
+  more = found ∷ h.more;
+  joined = rw (h.joined, pushed) (append_assoc old (found ∷ []) h.more);
+  found = one_pair body h.found;
+}
+
+in_left : {X : Type 0} (x : X) (these those : List X) → In x these → In x (these ++ those)
+in_left x [] those h = absurd h
+in_left x (y ∷ these) those (inl e) = inl e
+in_left x (y ∷ these) those (inr h) = inr (in_left x these those h)
+
+in_right : {X : Type 0} (x : X) (these those : List X) → In x those → In x (these ++ those)
+in_right x [] those h = h
+in_right x (y ∷ these) those h = inr (in_right x these those h)
+
+-- a fault in one of these
+pub misnamed_left : (these those : List Visible) (fault : CheckFault) → IsMisnamedIn these fault →
+    IsMisnamedIn (these ++ those) fault
+misnamed_left these those fault h = record {
+  visible = h.visible;
+  stands = in_left h.visible these those h.stands;
+  misnamed = h.misnamed;
+}
+
+-- a fault in one of those
+pub misnamed_right : (these those : List Visible) (fault : CheckFault) → IsMisnamedIn those fault →
+    IsMisnamedIn (these ++ those) fault
+misnamed_right these those fault h = record {
+  visible = h.visible;
+  stands = in_right h.visible these those h.stands;
+  misnamed = h.misnamed;
+}
+
+-- a fault in the definition's own body
+pub misnamed_here : (scope : Scope) (first : ℕ) (d : Def) (fault : CheckFault) →
+    IsMisnamed (within d first scope) (texts (formals_of d)) (body_of d) fault → IsMisnamedIn (listed_with scope first d) fault
+misnamed_here scope first d fault h = record {
+  visible = record { scope = within d first scope; definition = d };
+  stands = inl refl;
+  misnamed = h;
+}
+
+-- a fault in one of its inner definitions
+pub misnamed_inside : (scope : Scope) (first : ℕ) (d : Def) (fault : CheckFault) →
+    IsMisnamedIn (listed (within d first scope) first (inner_of d)) fault → IsMisnamedIn (listed_with scope first d) fault
+misnamed_inside scope first d fault h = record { visible = h.visible; stands = inr h.stands; misnamed = h.misnamed }
+
+-- a fault that a result carries on
+pub carried_on : {X E : Type 0} (result : Result X E) (P : E → Type 0) (fault : E) → IsErrAnd result (λ x. x ≡ fault) →
+    P fault →
+    IfErr result P
+carried_on (Ok x) P fault e h = absurd e
+carried_on (Err x) P fault e h = subst P (sym e) h
+
+-- memory was wanting
+pub no_memory : (scope : Scope) (first : ℕ) (d : Def) (error : AllocError) → IsMisnamedIn (listed_with scope first d) (E99 error)
+no_memory scope first d error = misnamed_here scope first d (E99 error) tt
+
+-- the items from an index on are the item there and those behind it
+pub rest_at : (items : List Definition) (index : ℕ) (item : Definition) → index < length items →
+    item ≡ get_or items index item →
+    drop index items ≡ item ∷ drop (index + 1) items
+rest_at items index item below is =
+    rw (drop-cons items index item below, add-one) (ap (λ x. x ∷ drop (suc index) items) (sym is))
+
+-- what a stack shows on which the table of the definition's own `where` was pushed
+pub shows_inside : {K S : Type 0} (now : K → Name) (of : Definition) (list : List Definition) (first : ℕ)
+    (own : HashMap K Meaning S) (outer all : List (HashMap K Meaning S)) →
+    list ≡ (out-Definition of).inner.items → Tabulates now (definitions_of list) first own → all ≡ outer ++ own ∷ [] →
+    (scope : Scope) → Shows now outer scope → Shows now all (within (definition_of of) first scope)
+shows_inside now of list first own outer all same tabulates pushed scope shows =
+    let inner : definitions_of list ≡ inner_of (definition_of of) = ap definitions_of same ∙ inner_shown of in
+    (outer, own, pushed, subst (λ ds. Tabulates now ds first own) inner tabulates, shows)
+
+module _ {K : Type 0} (now : K → Name) where
+  knows_none : (keys : List K) → keys ≡ [] → Knows now keys []
+  knows_none keys e = rw e (λ n. (λ h. h, λ h. h))
+
+  -- the formal gates are known where they were added to none
+  pub knows_formals : (of : Definition) (list : List Placed) (before after : List K) →
+      list ≡ (out-Definition of).formals.items → before ≡ [] →
+      ((names : List Name) → Knows now before names → Knows now after (texts list ++ names)) →
+      Knows now after (texts (formals_of (definition_of of)))
+  knows_formals of list before after same empty added =
+      let formals : list ≡ formals_of (definition_of of) = same ∙ formals_shown of in
+      let all = added [] (knows_none before empty) in
+      subst (λ gates. Knows now after (texts gates)) formals (subst (λ names. Knows now after names) (append-nil (texts list)) all)

@@ -1,0 +1,94 @@
+-- Why a specification is refused: each cause with the placed name, or the offset, at which it stands.
+use Rattle.std.specs.Prelude.{◌≡◌, ◌≢◌, ℕ, List, length}
+use Rattle.lotos_text.specs.Tree.{Tree, call, enable, Def, name_of, formals_of, declared_of, body_of, inner_of}
+use Rattle.lotos_text.specs.declared.tree.Placed.{Placed}
+use Rattle.lotos_text.specs.declared.tree.Functionality.{Functionality}
+use Rattle.lotos_text.specs.declared.tree.Functionality.TheVariants.{NoExit}
+use Rattle.lotos_check.specs.Names.{Name, In, texts, IsSecond}
+use Rattle.lotos_check.specs.Scope.{Scope, Stands, Means, declared_names}
+use Rattle.lotos_check.specs.Parts.{Part, Uses}
+use Rattle.lotos_check.specs.Functionalities.{Func}
+
+-- in the body of a definition stands this part, in which these processes are visible and these gates may be used
+pub record Occurs (whole : Def) (scope : Scope) (known : List Name) (part : Tree) : Type 0 where
+  pub definition : Def
+  pub stands : Stands whole scope definition
+  pub inside : Part (texts (formals_of definition)) (body_of definition) known part
+
+-- a formal gate stands twice in one list
+pub record IsE20 (whole : Def) (gate : Placed) : Type 0 where
+  pub scope : Scope
+  pub definition : Def
+  pub stands : Stands whole scope definition
+  pub second : IsSecond gate (formals_of definition)
+
+-- a gate is not declared where it is used
+pub record IsE21 (whole : Def) (gate : Placed) : Type 0 where
+  pub scope : Scope
+  pub known : List Name
+  pub part : Tree
+  pub occurs : Occurs whole scope known part
+  pub uses : Uses part gate
+  pub unknown : In gate.name known → ⊥
+
+-- no process of that name is visible
+pub record IsE22 (whole : Def) (name : Placed) : Type 0 where
+  pub scope : Scope
+  pub known : List Name
+  pub actuals : List Placed
+  pub occurs : Occurs whole scope known (call name actuals)
+  pub unknown : (k : ℕ) (d : Def) → Means scope name.name k d → ⊥
+
+-- a call has another number of gates than the definition
+pub record IsE23 (whole : Def) (name : Placed) (formal actual : ℕ) : Type 0 where
+  pub scope : Scope
+  pub known : List Name
+  pub actuals : List Placed
+  pub process : ℕ
+  pub definition : Def
+  pub occurs : Occurs whole scope known (call name actuals)
+  pub means : Means scope name.name process definition
+  pub declared : formal ≡ length (formals_of definition)
+  pub given : actual ≡ length actuals
+  pub differ : formal ≢ actual
+
+-- one `where` declares a process name twice
+pub record IsE24 (whole : Def) (name : Placed) : Type 0 where
+  pub scope : Scope
+  pub definition : Def
+  pub stands : Stands whole scope definition
+  pub second : IsSecond name (declared_names (inner_of definition))
+
+-- the declared functionality differs from the body's
+pub record IsE25 (whole : Def) (name : Placed) (declared : Functionality) : Type 0 where
+  pub scope : Scope
+  pub definition : Def
+  pub other : Functionality
+  pub stands : Stands whole scope definition
+  pub named : name ≡ name_of definition
+  pub says : declared ≡ declared_of definition
+  pub has : Func scope (body_of definition) other
+  pub differ : other ≢ declared
+
+-- the left operand of `>>` has noexit
+pub record IsE26 (whole : Def) (at : ℕ) : Type 0 where
+  pub scope : Scope
+  pub known : List Name
+  pub left : Tree
+  pub right : Tree
+  pub occurs : Occurs whole scope known (enable left at right)
+  pub never : Func scope left NoExit
+
+-- formal gates and process names are distinct, each in its list
+pub record IsDistinct (whole : Def) : Type 0 where
+  pub gates : (p : Placed) → IsE20 whole p → ⊥
+  pub processes : (p : Placed) → IsE24 whole p → ⊥
+
+-- the static rules, guardedness apart: none of the causes stands
+pub record WellTyped (whole : Def) : Type 0 where
+  pub distinct : IsDistinct whole
+  pub known_gates : (p : Placed) → IsE21 whole p → ⊥
+  pub known_processes : (p : Placed) → IsE22 whole p → ⊥
+  pub same_numbers : (p : Placed) (formal actual : ℕ) → IsE23 whole p formal actual → ⊥
+  pub as_declared : (p : Placed) (f : Functionality) → IsE25 whole p f → ⊥
+  pub left_exits : (at : ℕ) → IsE26 whole at → ⊥

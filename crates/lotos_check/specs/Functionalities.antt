@@ -1,0 +1,30 @@
+-- Whether a behaviour may terminate.
+use Rattle.std.specs.Prelude.{ℕ, List}
+use Rattle.lotos_text.specs.Tree.{Tree, Sync, stop, exit, prefix, choice, par, hide, enable, disable, call, Def, declared_of}
+use Rattle.lotos_text.specs.declared.tree.Placed.{Placed}
+use Rattle.lotos_text.specs.declared.tree.Action.{Action}
+use Rattle.lotos_text.specs.declared.tree.Functionality.{Functionality}
+use Rattle.lotos_text.specs.declared.tree.Functionality.TheVariants.{Exit, NoExit}
+use Rattle.lotos_check.specs.Scope.{Scope, Means}
+
+-- exit if either operand is
+abbrev pub either : Functionality → Functionality → Functionality
+either Exit g = Exit
+either NoExit g = g
+
+-- exit only if both operands are
+abbrev pub both : Functionality → Functionality → Functionality
+both Exit g = g
+both NoExit g = NoExit
+
+-- where these processes are visible, the behaviour has the functionality
+pub data Func (scope : Scope) : Tree → Functionality → Type 0 where
+  of_stop : Func scope stop NoExit
+  of_exit : Func scope exit Exit
+  of_prefix : {a : Action} {b : Tree} {f : Functionality} → Func scope b f → Func scope (prefix a b) f
+  of_hide : {gs : List Placed} {b : Tree} {f : Functionality} → Func scope b f → Func scope (hide gs b) f
+  of_choice : {l r : Tree} {f g : Functionality} → Func scope l f → Func scope r g → Func scope (choice l r) (either f g)
+  of_disable : {l r : Tree} {f g : Functionality} → Func scope l f → Func scope r g → Func scope (disable l r) (either f g)
+  of_par : {l r : Tree} {s : Sync} {f g : Functionality} → Func scope l f → Func scope r g → Func scope (par l s r) (both f g)
+  of_enable : {l r : Tree} {at : ℕ} {g : Functionality} → Func scope r g → Func scope (enable l at r) g
+  of_call : {p : Placed} {gs : List Placed} {k : ℕ} {d : Def} → Means scope p.name k d → Func scope (call p gs) (declared_of d)

@@ -1,0 +1,62 @@
+-- Guarded recursion.
+use Rattle.std.specs.Prelude.{◌≡◌, ℕ, ◌<◌, List, [], ◌∷◌, Option, Some, length, slice_get}
+use Rattle.lotos_text.specs.Tree.{Def, name_of}
+use Rattle.lotos_text.specs.declared.tree.Placed.{Placed}
+use Rattle.lotos_check.specs.Names.{Name, In}
+use Rattle.lotos_check.specs.Scope.{Visible, processes_of}
+use Rattle.lotos_check.specs.Flat.{Flat, choice, par, hide, enable, disable, call, FlatProcess, System, IsFlat}
+
+-- the behaviour calls the process under no prefix and not in the right operand of `>>`
+pub data CallsUnguarded : Flat → ℕ → Type 0 where
+  itself : {k : ℕ} {gs : List Name} → CallsUnguarded (call k gs) k
+  left_choice : {l r : Flat} {k : ℕ} → CallsUnguarded l k → CallsUnguarded (choice l r) k
+  right_choice : {l r : Flat} {k : ℕ} → CallsUnguarded r k → CallsUnguarded (choice l r) k
+  left_par : {l r : Flat} {s : Option (List Name)} {k : ℕ} → CallsUnguarded l k → CallsUnguarded (par l s r) k
+  right_par : {l r : Flat} {s : Option (List Name)} {k : ℕ} → CallsUnguarded r k → CallsUnguarded (par l s r) k
+  under_hide : {gs : List Name} {b : Flat} {k : ℕ} → CallsUnguarded b k → CallsUnguarded (hide gs b) k
+  left_enable : {l r : Flat} {k : ℕ} → CallsUnguarded l k → CallsUnguarded (enable l r) k
+  left_disable : {l r : Flat} {k : ℕ} → CallsUnguarded l k → CallsUnguarded (disable l r) k
+  right_disable : {l r : Flat} {k : ℕ} → CallsUnguarded r k → CallsUnguarded (disable l r) k
+
+-- the body of the process p has an unguarded call of the process q
+pub record Calls (processes : List FlatProcess) (p q : ℕ) : Type 0 where
+  pub process : FlatProcess
+  pub stands : slice_get processes p ≡ Some process
+  pub calls : CallsUnguarded process.body q
+
+-- a numbering of the processes that falls at every unguarded call
+abbrev pub IsRanking : List FlatProcess → (ℕ → ℕ) → Type 0
+IsRanking processes rank = (p q : ℕ) → Calls processes p q → rank q < rank p
+
+-- there is such a numbering
+pub record IsGuarded (system : System) : Type 0 where
+  pub rank : ℕ → ℕ
+  pub falls : IsRanking system.processes rank
+
+-- each process of the set has an unguarded call into the set
+abbrev pub IsTrap : List FlatProcess → List ℕ → Type 0
+IsTrap processes set = (p : ℕ) → In p set → (q : ℕ) × Calls processes p q × In q set
+
+-- each number is smaller than the next
+pub data Rises : List ℕ → Type 0 where
+  none : Rises []
+  one : {x : ℕ} → Rises (x ∷ [])
+  more : {x y : ℕ} {ys : List ℕ} → x < y → Rises (y ∷ ys) → Rises (x ∷ y ∷ ys)
+
+-- the largest set of that kind: every other lies inside it
+pub record IsLargestTrap (processes : List FlatProcess) (set : List ℕ) : Type 0 where
+  pub trap : IsTrap processes set
+  pub largest : (other : List ℕ) → IsTrap processes other → (p : ℕ) → In p other → In p set
+  pub rises : Rises set
+
+-- recursion is not guarded: the largest set is not empty, and this is the name of its first process
+pub record IsE27 (whole : Def) (name : Placed) (set : List ℕ) : Type 0 where
+  pub system : System
+  pub flat : IsFlat whole system
+  pub trap : IsLargestTrap system.processes set
+  pub first : ℕ
+  pub others : List ℕ
+  pub begins : set ≡ first ∷ others
+  pub visible : Visible
+  pub stands : slice_get (processes_of whole) first ≡ Some visible
+  pub named : name ≡ name_of visible.definition

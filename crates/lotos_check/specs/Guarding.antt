@@ -1,0 +1,68 @@
+-- What the numbering of processes answers.
+use Rattle.std.specs.Prelude.{◌≡◌, ◌↔◌, ℕ, ◌+◌, ◌<◌, List, [], ◌∷◌, Option, Some, None, length, slice_get}
+use Rattle.lotos_check.specs.Names.{In}
+use Rattle.lotos_check.specs.Flat.{FlatProcess}
+use Rattle.lotos_check.specs.Guard.{CallsUnguarded, IsLargestTrap, Rises}
+use Rattle.lotos_check.specs.Checking.{AreRanks}
+use Rattle.lotos_check.specs.declared.guard.Ranking.{Ranking}
+use Rattle.lotos_check.specs.declared.guard.Ranking.TheVariants.{Guarded, Trapped}
+
+-- the set is not empty, and is the largest of its kind
+pub record Traps (processes : List FlatProcess) (set : List ℕ) : Type 0 where
+  pub first : ℕ
+  pub others : List ℕ
+  pub begins : set ≡ first ∷ others
+  pub trap : IsLargestTrap processes set
+
+abbrev pub IsRanked : List FlatProcess → Ranking → Type 0
+IsRanked processes (Guarded ranks) = AreRanks processes ranks.items
+IsRanked processes (Trapped set) = Traps processes set.items
+
+-- the list has the processes that the process calls unguarded
+abbrev pub AreCalls : List ℕ → FlatProcess → Type 0
+AreCalls calls process = (q : ℕ) → In q calls ↔ CallsUnguarded process.body q
+
+-- the process calls that one, by the lists of calls
+abbrev pub Lists : List (List ℕ) → ℕ → ℕ → Type 0
+Lists edges p q = (calls : List ℕ) × (slice_get edges p ≡ Some calls) × In q calls
+
+-- every call goes to a process that there is
+abbrev pub InRange : List (List ℕ) → Type 0
+InRange edges = (p q : ℕ) → Lists edges p q → q < length edges
+
+-- how many processes have no number so far
+abbrev pub waiting : List (Option ℕ) → ℕ
+waiting [] = 0
+waiting (None ∷ ranks) = waiting ranks + 1
+waiting (Some r ∷ ranks) = waiting ranks
+
+-- what the numbers given so far keep, where this is the next one
+pub record Ordered (edges : List (List ℕ)) (ranks : List (Option ℕ)) (next : ℕ) : Type 0 where
+  pub sized : length ranks ≡ length edges
+  pub counted : next + waiting ranks ≡ length edges
+  pub below : (p r : ℕ) → slice_get ranks p ≡ Some (Some r) → r < next
+  pub falls : (p q r : ℕ) → Lists edges p q → slice_get ranks p ≡ Some (Some r) →
+      (s : ℕ) × (slice_get ranks q ≡ Some (Some s)) × (s < r)
+
+-- a process without a number calls one without a number
+abbrev pub Stuck : List (List ℕ) → List (Option ℕ) → ℕ → Type 0
+Stuck edges ranks p = slice_get ranks p ≡ Some None → (q : ℕ) × Lists edges p q × (slice_get ranks q ≡ Some None)
+
+-- the numbers keep their order, and none can be added
+pub record IsNumbered (edges : List (List ℕ)) (ranks : List (Option ℕ)) : Type 0 where
+  pub next : ℕ
+  pub ordered : Ordered edges ranks next
+  pub stuck : (p : ℕ) → Stuck edges ranks p
+
+-- one of the processes has no number
+abbrev pub WaitsFor : List ℕ → List (Option ℕ) → Type 0
+WaitsFor calls ranks = (q : ℕ) × In q calls × (slice_get ranks q ≡ Some None)
+
+-- each of the processes has a number
+abbrev pub AreNumbered : List ℕ → List (Option ℕ) → Type 0
+AreNumbered calls ranks = (q : ℕ) → In q calls → (s : ℕ) × (slice_get ranks q ≡ Some (Some s))
+
+-- the processes without a number, ascending
+pub record AreWaiting (set : List ℕ) (ranks : List (Option ℕ)) : Type 0 where
+  pub rises : Rises set
+  pub same : (p : ℕ) → In p set ↔ (slice_get ranks p ≡ Some None)

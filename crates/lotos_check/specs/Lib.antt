@@ -1,0 +1,13 @@
+pub mod Names
+pub mod Scope
+pub mod Parts
+pub mod Functionalities
+pub mod Causes
+pub mod Flat
+pub mod Guard
+pub mod View
+pub mod Checking
+pub mod Resolved
+pub mod Table
+pub mod Guarding
+pub mod Typing

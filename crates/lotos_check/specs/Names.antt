@@ -1,0 +1,44 @@
+-- Names in lists.
+use Rattle.std.specs.Prelude.{◌≡◌, ◌⊎◌, ℕ, ◌<◌, ◌↔◌, List, [], ◌∷◌, ◌++◌, map}
+use Rattle.lotos_text.specs.declared.tree.Placed.{Placed}
+
+-- a name, as the bytes of its text
+abbrev pub Name : Type 0
+Name = List ℕ
+
+-- x stands in the list
+abbrev pub In : {X : Type 0} → X → List X → Type 0
+In x [] = ⊥
+In x (y ∷ ys) = (y ≡ x) ⊎ In x ys
+
+-- the names, without their places
+abbrev pub texts : List Placed → List Name
+texts = map (λ p. p.name)
+
+-- the placed name stands in the list, behind one of the same text
+pub record IsSecond (placed : Placed) (names : List Placed) : Type 0 where
+  pub before : List Placed
+  pub after : List Placed
+  pub stands : names ≡ before ++ placed ∷ after
+  pub again : In placed.name (texts before)
+
+-- no name stands twice
+abbrev pub AreDistinct : List Placed → Type 0
+AreDistinct names = (p : Placed) → IsSecond p names → ⊥
+
+-- the text is smaller by its bytes; a beginning is smaller than what it begins
+pub data Below : Name → Name → Type 0 where
+  ends : {y : ℕ} {ys : Name} → Below [] (y ∷ ys)
+  smaller : {x y : ℕ} {xs ys : Name} → x < y → Below (x ∷ xs) (y ∷ ys)
+  same : {x : ℕ} {xs ys : Name} → Below xs ys → Below (x ∷ xs) (x ∷ ys)
+
+-- each is smaller than the next
+pub data Ascends : List Name → Type 0 where
+  none : Ascends []
+  one : {x : Name} → Ascends (x ∷ [])
+  more : {x y : Name} {ys : List Name} → Below x y → Ascends (y ∷ ys) → Ascends (x ∷ y ∷ ys)
+
+-- the names of the list, in order of bytes without repeats
+pub record IsSetOf (names : List Name) (list : List Placed) : Type 0 where
+  pub ascends : Ascends names
+  pub same : (n : Name) → In n names ↔ In n (texts list)

@@ -1,0 +1,48 @@
+//! Checked specifications.
+ghost use Rattle.std.specs.Prelude.{◌≡◌, ◌<◌, Some, length, map, slice_get};
+ghost use Rattle.lotos_check.specs.View.{flat_of, process_of, ranks_of, system_of};
+
+use crate::code::{Code, Process};
+use lotos_text::Name;
+
+/// A specification that meets the static rules, with its processes numbered from 0 in the order of their definitions, each
+/// followed at once by its inner ones.
+#[derive(Debug, Drop)]
+pub struct Checked {
+    pub(crate) gates: Vec<Name>,
+    pub(crate) start: Code,
+    pub(crate) processes: Vec<Process>,
+    pub(crate) ranks: Vec<usize>,
+}
+
+impl Checked {
+    /// The formal gates of the specification, in their order.
+    pub fn gates(&self) -> &[Name]
+        ensures { result.now ≡ (system_of self.now).formals }
+    {
+        self.gates.as_slice()
+    }
+
+    /// The processes; the number of each is its place.
+    pub fn processes(&self) -> &[Process]
+        ensures { map process_of result.now ≡ (system_of self.now).processes }
+    {
+        self.processes.as_slice()
+    }
+
+    /// The behaviour of the specification.
+    pub fn start(&self) -> &Code
+        ensures { flat_of result.now ≡ (system_of self.now).start }
+    {
+        &self.start
+    }
+
+    /// A number for a process of this system, by its own number: every unguarded call in its body goes to a process of
+    /// smaller rank.
+    pub fn rank(&self, process: usize) -> usize
+        requires { process < length (ranks_of self.now) }
+        ensures { slice_get (ranks_of self.now) process ≡ Some result }
+    {
+        self.ranks[process]
+    }
+}

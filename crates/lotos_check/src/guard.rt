@@ -1,0 +1,176 @@
+//! Guarded recursion: the unguarded calls of each process, and a numbering that falls at each of them.
+ghost use Rattle.std.specs.Prelude.{◌≡◌, ◌↔◌, ◌⊎◌, ◌<◌, ◌≤◌, ℕ, Some, None, IfOk, MatchBool, OnOk, length, map, slice_get};
+ghost use Rattle.lotos_check.specs.Names.{In};
+ghost use Rattle.lotos_check.specs.Flat.{Pairwise};
+ghost use Rattle.lotos_check.specs.Guard.{Calls, CallsUnguarded};
+ghost use Rattle.lotos_check.specs.Guarding.{AreCalls, AreNumbered, AreWaiting, InRange, IsNumbered, IsRanked, Ordered, Stuck, WaitsFor};
+ghost use Rattle.lotos_check.specs.View.{flat_of, process_of};
+
+use crate::code::{Code, Process};
+use std::alloc::{AllocError, Global};
+
+#[cfg(test)]
+mod tests;
+
+/// Whether recursion is guarded.
+#[derive(Debug, Drop)]
+pub(crate) enum Ranking {
+    /// A number for each process, and they fall at every unguarded call.
+    Guarded(Vec<usize>),
+    /// The largest set of processes each of which has an unguarded call into the set, ascending. It is not empty.
+    Trapped(Vec<usize>),
+}
+
+/// A numbering of the processes that falls at every unguarded call, or the processes that cannot be numbered.
+///
+/// Processes are numbered in rounds: each that calls only numbered ones is numbered next, until a round numbers none.
+pub(crate) fn ranked(alloc: Global, processes: &[Process]) -> Result<Ranking, AllocError>
+    requires { (p q : ℕ) → Calls (map process_of processes.now) p q → q < length processes.now }
+    ensures { IfOk result (IsRanked (map process_of processes.now)) }
+{
+    let edges = edges_of(alloc, processes)?;
+    let mut ranks: Vec<Option<usize>> = vec![in alloc; None; processes.len()]?;
+    number(edges.as_slice(), ranks.as_mut_slice());
+    let waiting = waiting_of(alloc, ranks.as_slice())?;
+    if waiting.is_empty() {
+        let numbers = numbers_of(alloc, ranks.as_slice())?;
+        Ok(Ranking::Guarded(numbers))
+    } else {
+        Ok(Ranking::Trapped(waiting))
+    }
+}
+
+/// For each process, the processes that it calls unguarded.
+fn edges_of(alloc: Global, processes: &[Process]) -> Result<Vec<Vec<usize>>, AllocError>
+    ensures { IfOk result (λ v. Pairwise AreCalls (map (λ calls. calls.items) v.items) (map process_of processes.now)) }
+{
+    let mut edges = Vec::new(alloc);
+    for process in processes {
+        let mut calls = Vec::new(alloc);
+        add_unguarded(&process.body, &mut calls)?;
+        edges.push(calls)?;
+    }
+    Ok(edges)
+}
+
+/// Adds the processes that the behaviour calls unguarded: under no prefix, and not in the right operand of `>>`.
+fn add_unguarded(code: &Code, into: &mut Vec<usize>) -> Result<(), AllocError>
+    ensures { OnOk result ((q : ℕ) → In q into.new.items ↔ In q into.old.items ⊎ CallsUnguarded (flat_of code.now) q) }
+{
+    match code {
+        Code::Stop | Code::Exit | Code::Prefix { .. } => Ok(()),
+        Code::Choice { left, right } => {
+            add_unguarded(left, into)?;
+            add_unguarded(right, into)
+        }
+        Code::Par { left, right, .. } => {
+            add_unguarded(left, into)?;
+            add_unguarded(right, into)
+        }
+        Code::Disable { left, right } => {
+            add_unguarded(left, into)?;
+            add_unguarded(right, into)
+        }
+        Code::Hide { body, .. } => add_unguarded(body, into),
+        Code::Enable { left, .. } => add_unguarded(left, into),
+        Code::Call { process, .. } => {
+            into.push(*process)?;
+            Ok(())
+        }
+    }
+}
+
+/// Numbers processes in rounds, until a round numbers none.
+fn number(edges: &[Vec<usize>], ranks: &mut [Option<usize>])
+    requires in_range { InRange (map (λ v. v.items) edges.now) }
+    requires begin { Ordered (map (λ v. v.items) edges.now) ranks.old 0 }
+    ensures { IsNumbered (map (λ v. v.items) edges.now) ranks.new }
+{
+    let mut next = 0;
+    loop {
+        let more = round(edges, ranks, next);
+        if more == next {
+            return;
+        }
+        next = more;
+    }
+}
+
+/// Numbers each process that waits and calls only numbered ones, in the order of the processes.
+fn round(edges: &[Vec<usize>], ranks: &mut [Option<usize>], next: usize) -> usize
+    requires in_range { InRange (map (λ v. v.items) edges.now) }
+    requires ordered { Ordered (map (λ v. v.items) edges.now) ranks.old next }
+    ensures ordered { Ordered (map (λ v. v.items) edges.now) ranks.new result }
+    ensures up { next ≤ result }
+    ensures stuck { result ≡ next → (p : ℕ) → Stuck (map (λ v. v.items) edges.now) ranks.new p }
+{
+    let mut now = next;
+    for process in 0..edges.len() {
+        now = try_number(edges, ranks, now, process);
+    }
+    now
+}
+
+/// Numbers one process, if it waits and calls only numbered ones.
+fn try_number(
+    edges: &[Vec<usize>],
+    ranks: &mut [Option<usize>],
+    next: usize,
+    process: usize,
+) -> usize
+    requires in_range { InRange (map (λ v. v.items) edges.now) }
+    requires ordered { Ordered (map (λ v. v.items) edges.now) ranks.old next }
+    requires within { process < length edges.now }
+    ensures ordered { Ordered (map (λ v. v.items) edges.now) ranks.new result }
+    ensures up { next ≤ result }
+    ensures same { result ≡ next → ranks.new ≡ ranks.old }
+    ensures stuck { result ≡ next → Stuck (map (λ v. v.items) edges.now) ranks.new process }
+{
+    if ranks[process].is_some() || waits(edges[process].as_slice(), ranks) {
+        return next;
+    }
+    ranks[process] = Some(next);
+    next + 1
+}
+
+/// Whether one of the processes has no number.
+fn waits(calls: &[usize], ranks: &[Option<usize>]) -> bool
+    requires { (q : ℕ) → In q calls.now → q < length ranks.now }
+    ensures { MatchBool result (WaitsFor calls.now ranks.now) (AreNumbered calls.now ranks.now) }
+{
+    for process in calls {
+        if ranks[*process].is_none() {
+            return true;
+        }
+    }
+    false
+}
+
+/// The processes without a number, ascending.
+fn waiting_of(alloc: Global, ranks: &[Option<usize>]) -> Result<Vec<usize>, AllocError>
+    ensures { IfOk result (λ v. AreWaiting v.items ranks.now) }
+{
+    let mut waiting = Vec::new(alloc);
+    let mut process = 0;
+    for rank in ranks {
+        if rank.is_none() {
+            waiting.push(process)?;
+        }
+        process += 1;
+    }
+    Ok(waiting)
+}
+
+/// The numbers of the processes, where each has one.
+fn numbers_of(alloc: Global, ranks: &[Option<usize>]) -> Result<Vec<usize>, AllocError>
+    requires { (p : ℕ) → slice_get ranks.now p ≡ Some None → ⊥ }
+    ensures { IfOk result (λ v. map Some v.items ≡ ranks.now) }
+{
+    let mut numbers = Vec::new(alloc);
+    for rank in ranks {
+        if let Some(number) = rank {
+            numbers.push(*number)?;
+        }
+    }
+    Ok(numbers)
+}

@@ -1,0 +1,35 @@
+//! Laws over the definitions. Each is the contract of a function that does nothing.
+ghost use Rattle.std.specs.Prelude.{◌≡◌, ◌<◌, ℕ, List, length};
+ghost use Rattle.lotos_text.specs.Tree.{Def};
+ghost use Rattle.lotos_check.specs.Names.{In, Name};
+ghost use Rattle.lotos_check.specs.Scope.{DistinctScope, Means, Scope};
+ghost use Rattle.lotos_check.specs.Causes.{IsDistinct};
+ghost use Rattle.lotos_check.specs.Checking.{IsFaulty, IsRefused};
+ghost use Rattle.lotos_check.specs.Flat.{FlatProcess, IsFlat, System};
+ghost use Rattle.lotos_check.specs.Guard.{Calls, IsRanking, IsTrap};
+ghost use Rattle.lotos_check.specs.declared.fault.CheckFault.{CheckFault};
+
+/// A name has one meaning where no `where` declares a name twice.
+pub fn one_meaning()
+    ensures { (scope : Scope) → DistinctScope scope → (n : Name) (i j : ℕ) (d e : Def) → Means scope n i d → Means scope n j e → (i ≡ j) × (d ≡ e) }
+{}
+
+/// No numbering falls at every unguarded call where each process of a set that is not empty has one into the set.
+pub fn guarded_or_trapped()
+    ensures { (processes : List FlatProcess) (set : List ℕ) (rank : ℕ → ℕ) (p : ℕ) → IsTrap processes set → In p set → IsRanking processes rank → ⊥ }
+{}
+
+/// The processes of the flat system of a specification are one list, where its names are distinct.
+pub fn one_system()
+    ensures { (whole : Def) (s r : System) → IsDistinct whole → IsFlat whole s → IsFlat whole r → s.processes ≡ r.processes }
+{}
+
+/// In the flat system of a specification every unguarded call goes to a process that there is.
+pub fn calls_in_range()
+    ensures { (whole : Def) (s : System) → IsFlat whole s → (p q : ℕ) → Calls s.processes p q → q < length s.processes }
+{}
+
+/// A specification with the fact of a fault is not accepted.
+pub fn faulty_is_refused()
+    ensures { (whole : Def) (fault : CheckFault) → IsFaulty whole fault → IsRefused whole fault }
+{}
