@@ -5,8 +5,10 @@ pub mod Functionalities
 pub mod Causes
 pub mod Flat
 pub mod Guard
+pub mod Bodies
 pub mod View
 pub mod Checking
+pub mod Places
 pub mod Resolved
 pub mod Table
 pub mod Guarding

@@ -1,6 +1,7 @@
 //! What the passes over a specification find together.
 ghost use Rattle.std.specs.Prelude.{◌≡◌, ◌<◌, ◌∷◌, [], ℕ, List, Some, IfErr, IfOk, length, map, slice_get, suc};
 ghost use Rattle.lotos_text.specs.Tree.{Def, formals_of, inner_of, name_of};
+ghost use Rattle.lotos_text.specs.Inside.{IsInside};
 ghost use Rattle.lotos_text.specs.View.{definition_of};
 ghost use Rattle.lotos_text.specs.declared.tree.Placed.{Placed as AnyPlaced};
 ghost use Rattle.lotos_check.specs.Names.{Name as AnyName, texts};
@@ -9,6 +10,7 @@ ghost use Rattle.lotos_check.specs.Causes.{IsDistinct, WellTyped};
 ghost use Rattle.lotos_check.specs.Flat.{IsFlat, Pairwise, System};
 ghost use Rattle.lotos_check.specs.Guard.{IsE27, IsLargestTrap};
 ghost use Rattle.lotos_check.specs.Checking.{AreRanks, IsAccepted, IsFaulty, IsFlattened, IsRefused, IsRepeat};
+ghost use Rattle.lotos_check.specs.Places.{StandsInside};
 ghost use Rattle.lotos_check.specs.Resolved.{Adds, IsMisnamedIn};
 ghost use Rattle.lotos_check.specs.Typing.{IsTyped, IsUntyped};
 ghost use Rattle.lotos_check.specs.View.{flat_of, process_of, ranks_of, system_of};
@@ -36,6 +38,7 @@ use std::alloc::{AllocError, Global};
 pub fn check(alloc: Global, tree: Specification) -> Result<Checked, CheckFault>
     ensures faulty { IfErr result (IsFaulty (definition_of tree.whole)) }
     ensures refused { IfErr result (IsRefused (definition_of tree.whole)) }
+    ensures inside { IfErr result (λ fault. (n : ℕ) → IsInside n (definition_of tree.whole) → StandsInside n fault) }
     ensures accepted { IfOk result (λ c. IsAccepted (definition_of tree.whole) (system_of c)) }
     ensures ranks { IfOk result (λ c. AreRanks (system_of c).processes (ranks_of c)) }
 {

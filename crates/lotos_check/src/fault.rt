@@ -1,43 +1,73 @@
 //! Why a specification breaks a static rule.
 ghost use Rattle.std.specs.Prelude.{◌≡◌, IfOk, alloc_error};
+ghost use Rattle.lotos_check.specs.Places.{offset_of};
 ghost use Rattle.lotos_check.specs.declared.fault.CheckFault.TheVariants.{E99};
 
 use lotos_text::{Functionality, Placed};
 use std::alloc::{AllocError, AllocFailed, Global};
+use std::fmt;
+use thiserror::Error;
 
 /// Why a specification breaks a static rule. Each fault carries the name, or the offset in bytes from the start of the text,
 /// at which it stands.
-#[derive(Debug, Drop)]
+#[derive(Debug, Drop, Error)]
 pub enum CheckFault {
     /// The formal gate stands twice in one list, here for the second time.
+    #[error("E20 gate {} is declared twice", .0.name.text())]
     E20(Placed),
     /// The gate is not declared where it is used.
+    #[error("E21 gate {} is not declared", .0.name.text())]
     E21(Placed),
     /// No process of that name is visible.
+    #[error("E22 process {} is not declared", .0.name.text())]
     E22(Placed),
     /// The call has another number of gates than the definition.
+    #[error("E23 gates of {}: {formal} formal, {actual} actual", .call.name.text())]
     E23 {
         call: Placed,
         formal: usize,
         actual: usize,
     },
     /// One `where` declares the process twice, here for the second time.
+    #[error("E24 process {} is declared twice", .0.name.text())]
     E24(Placed),
     /// The declared functionality is not that of the body.
+    #[error("E25 {} {}", .name.name.text(), Declared(*.declared))]
     E25 {
         name: Placed,
         declared: Functionality,
     },
     /// The left operand of the `>>` at the offset never terminates.
+    #[error("E26 left side of >> never exits")]
     E26(usize),
     /// Recursion is not guarded. The set is the largest of processes each of which has an unguarded call into the set, by
     /// number and ascending; the name is that of the first.
+    #[error("E27 the unguarded calls of {} do not end", .name.name.text())]
     E27 {
         name: Placed,
         set: Vec<usize>,
     },
     /// A growth of the heap was refused.
+    #[error("E99 out of memory")]
     E99(AllocError),
+}
+
+impl CheckFault {
+    /// The offset at which the fault stands, in bytes from the start of the text; none for want of memory.
+    pub fn at(&self) -> Option<usize>
+        ensures { result ≡ offset_of self.now }
+    {
+        match self {
+            CheckFault::E20(placed)
+            | CheckFault::E21(placed)
+            | CheckFault::E22(placed)
+            | CheckFault::E24(placed) => Some(placed.at),
+            CheckFault::E23 { call, .. } => Some(call.at),
+            CheckFault::E25 { name, .. } | CheckFault::E27 { name, .. } => Some(name.at),
+            CheckFault::E26(at) => Some(*at),
+            CheckFault::E99(_) => None,
+        }
+    }
 }
 
 impl From<AllocError> for CheckFault {
@@ -53,6 +83,19 @@ impl<T: Drop> From<AllocFailed<T>> for CheckFault {
 
     fn from(_error: AllocFailed<T>) -> CheckFault {
         CheckFault::E99(AllocError)
+    }
+}
+
+/// A declared functionality, and the other one, which the body has.
+#[derive(Clone, Copy, Debug)]
+struct Declared(Functionality);
+
+impl fmt::Display for Declared {
+    fn fmt<W: fmt::Write>(&self, f: &mut fmt::Formatter<W>) -> fmt::Result {
+        f.write_str(match self.0 {
+            Functionality::Exit => "is declared exit and is noexit",
+            Functionality::NoExit => "is declared noexit and is exit",
+        })
     }
 }
 

@@ -1,11 +1,12 @@
 //! Laws over the definitions. Each is the contract of a function that does nothing.
-ghost use Rattle.std.specs.Prelude.{◌≡◌, ◌<◌, ℕ, List, length};
+ghost use Rattle.std.specs.Prelude.{◌≡◌, ◌<◌, ℕ, List, Some, length, slice_get};
 ghost use Rattle.lotos_text.specs.Tree.{Def};
 ghost use Rattle.lotos_check.specs.Names.{In, Name};
 ghost use Rattle.lotos_check.specs.Scope.{DistinctScope, Means, Scope};
 ghost use Rattle.lotos_check.specs.Causes.{IsDistinct};
-ghost use Rattle.lotos_check.specs.Checking.{IsFaulty, IsRefused};
-ghost use Rattle.lotos_check.specs.Flat.{FlatProcess, IsFlat, System};
+ghost use Rattle.lotos_check.specs.Bodies.{HasCall, IsBodyOf, NoneTwice};
+ghost use Rattle.lotos_check.specs.Checking.{AreRanks, IsAccepted, IsFaulty, IsRefused};
+ghost use Rattle.lotos_check.specs.Flat.{Flat, FlatProcess, IsFlat, System};
 ghost use Rattle.lotos_check.specs.Guard.{Calls, IsRanking, IsTrap};
 ghost use Rattle.lotos_check.specs.declared.fault.CheckFault.{CheckFault};
 
@@ -27,6 +28,22 @@ pub fn one_system()
 /// In the flat system of a specification every unguarded call goes to a process that there is.
 pub fn calls_in_range()
     ensures { (whole : Def) (s : System) → IsFlat whole s → (p q : ℕ) → Calls s.processes p q → q < length s.processes }
+{}
+
+/// Every call in an accepted specification goes to a process that there is, with as many gates as that has formal ones.
+pub fn calls_fit()
+    ensures { (whole : Def) (s : System) → IsAccepted whole s → (b : Flat) → IsBodyOf s b → (k : ℕ) (gates : List Name) → HasCall b k gates → (process : FlatProcess) × (slice_get s.processes k ≡ Some process) × (length gates ≡ length process.formals) }
+{}
+
+/// The formal gates of an accepted specification are distinct, and those of each of its processes.
+pub fn distinct_formals()
+    ensures specification { (whole : Def) (s : System) → IsAccepted whole s → NoneTwice s.formals }
+    ensures processes { (whole : Def) (s : System) → IsAccepted whole s → (p : ℕ) (process : FlatProcess) → slice_get s.processes p ≡ Some process → NoneTwice process.formals }
+{}
+
+/// The ranks of a flat system's processes fall at every unguarded call, and both of its processes have one.
+pub fn ranks_fall()
+    ensures { (whole : Def) (s : System) (ranks : List ℕ) → IsFlat whole s → AreRanks s.processes ranks → (p q : ℕ) → Calls s.processes p q → (r t : ℕ) × (slice_get ranks p ≡ Some r) × (slice_get ranks q ≡ Some t) × (t < r) }
 {}
 
 /// A specification with the fact of a fault is not accepted.
