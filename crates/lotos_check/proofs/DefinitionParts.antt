@@ -1,7 +1,7 @@
 -- The parts of a definition of the code are those of the plain one.
 use Rattle.std.specs.Prelude.{◌≡◌}
 use Rattle.std.proofs.Common.{sym, ap}
-use Rattle.lotos_text.specs.Tree.{Def, def, formals_of, declared_of, body_of, inner_of}
+use Rattle.lotos_text.specs.Tree.{Def, def, name_of, formals_of, declared_of, body_of, inner_of}
 use Rattle.lotos_text.specs.View.{tree_of, row_of, definition_of, definitions_of}
 use Rattle.lotos_text.specs.declared.tree.Definition.{Definition, out-Definition, fold_out-Definition}
 
@@ -9,6 +9,10 @@ shown : (of : Definition) →
     definition_of of ≡ (let d = out-Definition of in
     def d.name d.formals.items d.functionality (tree_of d.body) (definitions_of d.inner.items))
 shown of = fold_out-Definition Def (λ d. def d.name d.formals.items d.functionality (tree_of d.body) (row_of d.inner.items)) of
+
+-- the name
+pub name_shown : (of : Definition) → (out-Definition of).name ≡ name_of (definition_of of)
+name_shown of = sym (ap name_of (shown of))
 
 -- the formal gates
 pub formals_shown : (of : Definition) → (out-Definition of).formals.items ≡ formals_of (definition_of of)

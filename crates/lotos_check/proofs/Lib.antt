@@ -28,3 +28,5 @@ pub mod Visibles
 pub mod Rules
 pub mod OneSystem
 pub mod Faults
+pub mod FaultPlaces
+pub mod Joined

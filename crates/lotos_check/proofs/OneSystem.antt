@@ -142,11 +142,12 @@ paired_at (v ∷ vs) (q ∷ ps) (one_pair h hs) (suc i) p e = let r = paired_at 
 paired_at [] (q ∷ ps) h i p e = elim h [ ]
 paired_at (v ∷ vs) [] h i p e = elim h [ ]
 
-paired_length : (vs : List Visible) (ps : List FlatProcess) → Pairwise IsProcess vs ps → length vs ≡ length ps
+-- two lists item by item have one length
+pub paired_length : {X Y : Type 0} {P : X → Y → Type 0} (xs : List X) (ys : List Y) → Pairwise P xs ys → length xs ≡ length ys
 paired_length [] [] no_pair = refl
-paired_length (v ∷ vs) (p ∷ ps) (one_pair h hs) = let r = paired_length vs ps hs in omega arith
-paired_length [] (p ∷ ps) h = elim h [ ]
-paired_length (v ∷ vs) [] h = elim h [ ]
+paired_length (x ∷ xs) (y ∷ ys) (one_pair h hs) = let r = paired_length xs ys hs in omega arith
+paired_length [] (y ∷ ys) h = elim h [ ]
+paired_length (x ∷ xs) [] h = elim h [ ]
 
 -- every unguarded call of a flat system goes to one of its processes
 pub calls_within : (whole : Def) (s : System) → IsFlat whole s → (p q : ℕ) → Calls s.processes p q → q < length s.processes

@@ -1,0 +1,96 @@
+-- What the passes over one specification give each other: the definitions of its text, what was found of their bodies, its
+-- flat system and the processes' numbers.
+use Rattle.std.proofs.Common.{◌≡◌, ℕ, suc, ◌+◌, ◌<◌, List, [], ◌∷◌, Some, length, map, get_or, arith, refl, sym, ap, subst, inl, add-one}
+use Rattle.std.specs.Prelude.{slice_get}
+use Rattle.std.proofs.lemmas.List.{length-map}
+use Rattle.std.proofs.lemmas.Option.{slice_get_within, slice_get-get_or, slice_get-map, slice_get_read}
+use Rattle.lotos_text.specs.Tree.{Def, name_of, formals_of, inner_of}
+use Rattle.lotos_text.specs.declared.tree.Placed.{Placed}
+use Rattle.lotos_check.specs.Names.{Name, In, texts}
+use Rattle.lotos_check.specs.Scope.{count, everywhere, definitions_in, processes_of}
+use Rattle.lotos_check.specs.Flat.{System, IsFlat}
+use Rattle.lotos_check.specs.Guard.{Calls, IsGuarded, IsE27}
+use Rattle.lotos_check.specs.Guarding.{Traps}
+use Rattle.lotos_check.specs.Resolved.{Adds}
+use Rattle.lotos_check.specs.Checking.{AreRanks, IsFlattened}
+use Rattle.lotos_check.specs.View.{flat_of, process_of}
+use Rattle.lotos_check.specs.declared.body.Resolved.{Resolved}
+use Rattle.lotos_check.specs.declared.code.Code.{Code}
+use Rattle.lotos_check.specs.declared.code.Process.{Process}
+use Rattle.lotos_check.proofs.Faults.{trap_faulty}
+use Rattle.lotos_check.proofs.Listings.{in_order}
+use Rattle.lotos_check.proofs.Visibles.{definitions_count, everywhere_in_order}
+use Rattle.lotos_check.proofs.Rules.{walked, flat_system}
+use Rattle.lotos_check.proofs.OneSystem.{calls_within, paired_length}
+
+-- the list has all definitions of the specification
+module _ {W : Type 0} (view : W → Def) (definitions : List W) (whole : Def) (listed : map view definitions ≡ definitions_in whole) where
+  -- it is longer than the number of processes
+  pub inner_below : (limit : ℕ) → length definitions < limit → 0 + count (inner_of whole) < limit
+  inner_below limit h =
+      let all = definitions_count whole in
+      let seen = length-map definitions view in
+      let same = ap length listed in
+      omega arith
+
+  -- something was found of each
+  pub found_length : (found : List Resolved) → Adds (everywhere whole) [] found → length definitions ≡ length found
+  found_length found adds =
+      let bodies = paired_length (everywhere whole) found (walked whole found adds) in
+      let order = ap length (everywhere_in_order whole) in
+      let all = length-map (everywhere whole) (λ v. v.definition) in
+      let seen = length-map definitions view in
+      let same = ap length listed in
+      omega arith
+
+  -- the first process of a trap has its definition there, one place behind its number
+  pub trap_below : (system : System) (set : List ℕ) (k : ℕ) → IsFlat whole system → Traps system.processes set → k ≡ get_or set 0 k →
+      k + 1 < length definitions
+  trap_below system set k flat trap e =
+      let first : k ≡ trap.first = rw trap.begins at e in
+      let call = trap.trap.trap k (subst (In k) (sym trap.begins) (inl (sym first))) in
+      let within = slice_get_within system.processes k call.1.process call.1.stands in
+      let processes = paired_length (processes_of whole) system.processes flat.processes in
+      let order = ap length (everywhere_in_order whole) in
+      let all = length-map (everywhere whole) (λ v. v.definition) in
+      let seen = length-map definitions view in
+      let same = ap length listed in
+      omega arith
+
+  -- a trap breaks the rule of guarded recursion, by the name that is read there
+  pub trap_joined : (system : System) (set : List ℕ) (k : ℕ) (w : W) (name : Placed) → IsFlat whole system → Traps system.processes set →
+      k ≡ get_or set 0 k → w ≡ get_or definitions (k + 1) w → name ≡ name_of (view w) → IsE27 whole name set
+  trap_joined system set k w name flat trap e read named =
+      let first : k ≡ trap.first = rw trap.begins at e in
+      let below = trap_below system set k flat trap e in
+      let at = slice_get_read definitions (length definitions) (k + 1) w refl below read in
+      let seen : slice_get (map view definitions) (k + 1) ≡ Some (view w) = rw (slice_get-map view definitions (k + 1), at) refl in
+      let stands = rw (listed, add-one, first) at seen in
+      trap_faulty whole system set trap.first trap.others name (view w) flat trap.trap trap.begins stands named
+
+-- what was found, and the code made of it, is the flat system
+pub flat_joined : (whole : Def) (found : List Resolved) (formals : List Name) (start : Code) (processes : List Process) →
+    Adds (everywhere whole) [] found → IsFlattened (definitions_in whole) found start processes → formals ≡ texts (formals_of whole) →
+    IsFlat whole (record { formals = formals; start = flat_of start; processes = map process_of processes })
+flat_joined whole found formals start processes adds flattened named =
+    flat_system whole found formals start processes (walked whole found adds) (rw in_order at flattened) named
+
+-- every unguarded call of the code goes to one of its processes
+pub calls_below : (whole : Def) (formals : List Name) (start : Code) (processes : List Process) →
+    IsFlat whole (record { formals = formals; start = flat_of start; processes = map process_of processes }) →
+    (p q : ℕ) → Calls (map process_of processes) p q → q < length processes
+calls_below whole formals start processes flat p q calls =
+    let below = calls_within whole (record { formals = formals; start = flat_of start; processes = map process_of processes }) flat p q calls in
+    let seen = length-map processes process_of in
+    omega arith
+
+-- a flat system whose processes have numbers that fall is guarded
+pub guarded_by : (whole : Def) (system : System) (ranks : List ℕ) → IsFlat whole system → AreRanks system.processes ranks → IsGuarded system
+guarded_by whole system ranks flat given = record {
+  rank = λ p. get_or ranks p 0;
+  falls = λ p q calls.
+      let sized = given.all in
+      let from : p < length ranks = (let h = slice_get_within system.processes p calls.process calls.stands in omega arith) in
+      let to : q < length ranks = (let h = calls_within whole system flat p q calls in omega arith) in
+      given.falls p q (get_or ranks p 0) (get_or ranks q 0) calls (slice_get-get_or ranks p 0 from) (slice_get-get_or ranks q 0 to);
+}
