@@ -1,13 +1,14 @@
 -- Where the faults of a specification stand: inside every text inside which its tree stands.
-use Rattle.std.proofs.Common.{◌≡◌, ℕ, ◌+◌, ◌≤◌, ◌++◌, List, [], ◌∷◌, Some, zero, suc, refl, sym, ap, ◌∙◌, subst, inl, inr}
+use Rattle.std.proofs.Common.{◌≡◌, ℕ, ◌+◌, ◌≤◌, List, [], ◌∷◌, Some, zero, suc, refl, sym, subst, inl, inr}
 use Rattle.std.specs.Prelude.{slice_get}
-use Rattle.lotos_text.specs.Tree.{Tree, gates, prefix, choice, par, hide, enable, disable, call, Def, def, Defs, no_defs, more_defs, name_of, formals_of, body_of, inner_of}
+use Rattle.lotos_text.specs.Tree.{Tree, enable, call, Def, def, Defs, no_defs, more_defs, name_of, formals_of, body_of, inner_of}
 use Rattle.lotos_text.specs.Inside.{AreNamesInside, IsTreeInside, IsInside, AreInside}
 use Rattle.lotos_text.specs.declared.tree.Placed.{Placed}
 use Rattle.lotos_text.specs.declared.tree.Action.TheVariants.{Internal, Gate}
 use Rattle.lotos_check.specs.Names.{Name, In, IsSecond}
 use Rattle.lotos_check.specs.Scope.{Scope, Visible, declared_names, count, listed, within, processes_of, everywhere}
-use Rattle.lotos_check.specs.Parts.{Part, whole, in_prefix, in_choice_left, in_choice_right, in_par_left, in_par_right, in_hide, in_enable_left, in_enable_right, in_disable_left, in_disable_right, Uses, acts, synchronizes, passes}
+use Rattle.lotos_check.specs.Parts.{Part, whole, in_prefix, in_choice_left, in_choice_right, in_par_left, in_par_right, in_hide}
+use Rattle.lotos_check.specs.Parts.{in_enable_left, in_enable_right, in_disable_left, in_disable_right, Uses, acts, synchronizes, passes}
 use Rattle.lotos_check.specs.Causes.{Occurs}
 use Rattle.lotos_check.specs.Checking.{IsFaulty}
 use Rattle.lotos_check.specs.Places.{StandsInside}
@@ -67,7 +68,8 @@ declared_inside n (more_defs d ds) h p (inl e) = subst (λ t. t.at ≤ n) e (nam
 declared_inside n (more_defs d ds) h p (inr i) = declared_inside n ds h.1 p i
 
 -- of definitions inside the text all that are listed are inside it
-listed_inside : (n : ℕ) (scope : Scope) (k : ℕ) (ds : Defs) → AreInside n ds → (v : Visible) → In v (listed scope k ds) → IsInside n v.definition
+listed_inside : (n : ℕ) (scope : Scope) (k : ℕ) (ds : Defs) → AreInside n ds → (v : Visible) → In v (listed scope k ds) →
+    IsInside n v.definition
 listed_inside n scope k no_defs h v i = absurd i
 listed_inside n scope k (more_defs (def name formals declared body inner) ds) h v (inl e) = subst (λ t. IsInside n t.definition) e h.0
 listed_inside n scope k (more_defs (def name formals declared body inner) ds) h v (inr i) =
@@ -89,6 +91,7 @@ module _ (spec : Def) (n : ℕ) (inside : IsInside n spec) where
       let body = body_inside n h.definition (stands_inside (record { scope = scope; definition = h.definition }) h.stands) in
       part_inside n _ (body_of h.definition) known part h.inside body
 
+-- what a place of a list has stands in it
 in_at : (vs : List Visible) (i : ℕ) (v : Visible) → slice_get vs i ≡ Some v → In v vs
 in_at [] i v e = cc
 in_at (x ∷ vs) zero v e = inl (cc)

@@ -1,6 +1,6 @@
 -- What the passes over one specification give each other: the definitions of its text, what was found of their bodies, its
 -- flat system and the processes' numbers.
-use Rattle.std.proofs.Common.{◌≡◌, ℕ, suc, ◌+◌, ◌<◌, List, [], ◌∷◌, Some, length, map, get_or, arith, refl, sym, ap, subst, inl, add-one}
+use Rattle.std.proofs.Common.{◌≡◌, ℕ, ◌+◌, ◌<◌, List, [], Some, length, map, get_or, arith, refl, sym, ap, subst, inl, add-one}
 use Rattle.std.specs.Prelude.{slice_get}
 use Rattle.std.proofs.lemmas.List.{length-map}
 use Rattle.std.proofs.lemmas.Option.{slice_get_within, slice_get-get_or, slice_get-map, slice_get_read}

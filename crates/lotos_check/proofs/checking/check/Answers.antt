@@ -1,12 +1,9 @@
-use Rattle.std.proofs.Common.{rules, ◌≡◌, ◌<◌, [], ℕ, IfErr, IfOk, length, map, ◌+◌, ◌∙◌, arith, sym, ap}
-use Rattle.lotos_text.specs.Tree.{name_of}
+use Rattle.std.proofs.Common.{rules, ◌≡◌, ◌<◌, [], ℕ, length, map, ◌∙◌, arith, ap}
 use Rattle.lotos_text.specs.Inside.{IsInside}
 use Rattle.lotos_text.specs.View.{definition_of}
 use Rattle.lotos_check.specs.Names.{texts}
 use Rattle.lotos_check.specs.Scope.{definitions_in, everywhere}
 use Rattle.lotos_check.specs.Flat.{IsFlat}
-use Rattle.lotos_check.specs.Guard.{IsE27}
-use Rattle.lotos_check.specs.Guarding.{Traps}
 use Rattle.lotos_check.specs.Checking.{IsFaulty, IsRefused}
 use Rattle.lotos_check.specs.Places.{StandsInside}
 use Rattle.lotos_check.specs.Resolved.{Adds}
@@ -148,8 +145,8 @@ returns c =
     let name = c.in_ok-copied-in-Trapped.field-0 in
     let named = c.in_ok-copied-in-Trapped.ensures ∙ name_shown one.now in
     let trap = rw (c.in-Trapped.is, c.as_slice-5.ensures.value) at c.in_ok-ranks.ensures in
-    let faulty = trap_joined (λ d. definition_of d.now) c.add_all.new.into.items whole (listed at.In_ok-add_all) _ set.items c.index.result.now one name
-    (flat at.After-as_slice-5) trap c.index.ensures c.index-in-Trapped.ensures named in
+    let faulty = trap_joined (λ d. definition_of d.now) c.add_all.new.into.items whole (listed at.In_ok-add_all) _ set.items
+    c.index.result.now one name (flat at.After-as_slice-5) trap c.index.ensures c.index-in-Trapped.ensures named in
     record {
       faulty = faulty;
       refused = faulty_refused whole (E27 name set) faulty;
