@@ -33,6 +33,7 @@ pub fn run<R: Source, W: Sink, E: Write>(
 {
     match request(alloc, words) {
         Ok(Request::Search(search)) => finish(&list(alloc, &search, reader, out), err),
+        Ok(Request::Check) => 2,
         Err(CommandFault::Help(text)) => show_help(text.as_str(), out, err),
         Err(CommandFault::Wrong(text)) => {
             tell_text(err, text.as_str());
