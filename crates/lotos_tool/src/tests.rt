@@ -1,5 +1,6 @@
 //! Runs over readers and writers in memory.
 
+mod checks;
 mod devices;
 mod forms;
 mod reading;
