@@ -2,6 +2,7 @@
 
 mod devices;
 mod forms;
+mod help;
 mod reading;
 mod rows;
 mod running;
