@@ -3,6 +3,7 @@
 mod checks;
 mod devices;
 mod forms;
+mod help;
 mod reading;
 mod rows;
 mod running;

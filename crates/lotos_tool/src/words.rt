@@ -154,7 +154,8 @@ fn fault_in(alloc: Global, error: &Error) -> CommandFault
 
 const ABOUT: &str = "Checks a basic LOTOS specification, and lists its observable action sequences";
 
-const LONG_ABOUT: &str = "Checks a basic LOTOS specification, and lists its observable action sequences
+const LONG_ABOUT: &str =
+    "Checks a basic LOTOS specification, and lists its observable action sequences
 
 The specification is read from standard input, and what is asked of it is written to
 standard output. `lotosseq check --help` tells of the static rules, and
