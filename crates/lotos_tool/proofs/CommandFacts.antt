@@ -1,10 +1,10 @@
 -- The command line is one whose matches clap states, and what it makes of some words.
 use Rattle.std.proofs.Common.{◌≡◌, refl, true, codes, List, [], ◌∷◌}
 use Rattle.clap.specs.Words.{Text, fault_of, is_simple, is_simple_and_free, takes}
-use Rattle.clap.specs.declared.error.kind.ErrorKind.TheVariants.{ValueValidation}
+use Rattle.clap.specs.declared.error.kind.ErrorKind.TheVariants.{UnknownArgument, ValueValidation}
 use Rattle.clap.proofs.OnLiterals.{clap_on_literals}
 use Rattle.lotos_tool.specs.Command.{lotosseq}
-use Rattle.lotos_tool.specs.Request.{RequestOf, search}
+use Rattle.lotos_tool.specs.Request.{RequestOf, check, search}
 
 pub simple_and_free : is_simple_and_free lotosseq ≡ true
 simple_and_free = refl
@@ -29,6 +29,14 @@ hyphen_row = codes "lotosseq" ∷ codes "search" ∷ codes "--depth=007" ∷ cod
 hyphen_asks : RequestOf hyphen_row (search (record { depth = 7; words = codes "-x" ∷ [] }))
 unfolding clap_on_literals
 hyphen_asks = record { faultless = refl; reads = refl }
+
+check_row_asks : RequestOf (codes "lotosseq" ∷ codes "check" ∷ []) check
+unfolding clap_on_literals
+check_row_asks = record { faultless = refl; reads = refl }
+
+check_takes_no_word : fault_of lotosseq (codes "lotosseq" ∷ codes "check" ∷ codes "A" ∷ []) ≡ UnknownArgument ∷ []
+unfolding clap_on_literals
+check_takes_no_word = refl
 
 too_deep : fault_of lotosseq (codes "lotosseq" ∷ codes "search" ∷ codes "--depth" ∷ codes "256" ∷ []) ≡ ValueValidation ∷ []
 unfolding clap_on_literals

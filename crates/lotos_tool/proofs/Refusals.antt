@@ -1,95 +1,77 @@
 -- Texts that are not accepted.
-use Rattle.std.proofs.Common.{◌≡◌, ℕ, ◌≤◌, List, [], ◌∷◌, ◌++◌, Option, Result, Ok, Err, IfErr, false, subst, arith}
-use Rattle.std.specs.List.{AllByRecursion}
-use Rattle.lotos_text.specs.Tree.{Tree, Def, def}
-use Rattle.lotos_text.specs.Inside.{IsInside, IsTreeInside}
+use Rattle.std.proofs.Common.{◌≡◌, ℕ, List, Option, Result, Ok, Err, IfErr, false, subst, arith}
+use Rattle.std.specs.Prelude.{Some}
+use Rattle.lotos_text.specs.Place.{IsPlace}
 use Rattle.lotos_text.specs.Refused.{SpellsNothing}
-use Rattle.lotos_text.specs.Spelled.{Spelled}
 use Rattle.lotos_text.specs.declared.fault.TextFault.{TextFault}
-use Rattle.lotos_text.specs.declared.fault.TextFault.TheVariants.{E01, E02, E03, E04, E05, E06, E07, E99}
-use Rattle.lotos_text.specs.declared.tree.Placed.{Placed}
-use Rattle.lotos_text.specs.declared.tree.Action.TheVariants.{Internal, Gate}
+use Rattle.lotos_text.specs.declared.fault.TextFault.TheVariants as text_fault
+use Rattle.lotos_check.specs.Checking as check
+use Rattle.lotos_check.specs.Checking.{IsAccepted}
+use Rattle.lotos_check.specs.Flat.{System}
+use Rattle.lotos_check.specs.Places.{offset_of}
+use Rattle.lotos_check.specs.declared.fault.CheckFault.{CheckFault}
+use Rattle.lotos_check.specs.declared.fault.CheckFault.TheVariants.{E20, E21, E22, E23, E24, E25, E26, E27, E99}
 use Rattle.lotos_tool.specs.Accepted.{Accepted}
 use Rattle.lotos_tool.specs.Answers.{IsTextRefusal}
-use Rattle.lotos_tool.specs.Misuses.{IsBroken}
 use Rattle.lotos_tool.specs.Reading.{ReadsWhole}
-use Rattle.lotos_tool.specs.Rules.{Uses, at_head, in_body, on_left, on_right, WellTyped}
-use Rattle.lotos_tool.specs.Sequential.{IsSearched}
-use Rattle.lotos_tool.specs.Searching.{IsTextFault, IsUnaccepted, IsUnread, is_memory_fault}
-use Rattle.lotos_tool.specs.declared.interim_rules.StaticFault.{StaticFault}
-use Rattle.lotos_tool.specs.declared.interim_rules.StaticFault.TheVariants.{E20, E21, E25}
+use Rattle.lotos_tool.specs.Searching.{IsBroken, IsCheckFault, IsTextFault, IsUnaccepted, IsUnread, is_memory_fault}
 use Rattle.lotos_tool.specs.declared.refusal.Refusal.TheVariants as refusal
-use Rattle.lotos_tool.specs.declared.searching.Unaccepted.{Unaccepted}
-use Rattle.lotos_tool.specs.declared.searching.Unaccepted.TheVariants as unaccepted
+use Rattle.lotos_tool.specs.declared.accepting.Unaccepted.{Unaccepted}
+use Rattle.lotos_tool.specs.declared.accepting.Unaccepted.TheVariants as unaccepted
 
 -- a text that spells nothing is not accepted
-pub nothing_accepted : (text : List ℕ) (fault : TextFault) → SpellsNothing text fault → is_memory_fault fault ≡ false → (whole : Def) → Accepted text whole → ⊥
-nothing_accepted text (E99 e) h m whole a = absurd cc
-nothing_accepted text (E01 at) h m whole a = h whole a.spelled
-nothing_accepted text (E02 at) h m whole a = h whole a.spelled
-nothing_accepted text E03 h m whole a = h whole a.spelled
-nothing_accepted text (E04 at) h m whole a = h whole a.spelled
-nothing_accepted text (E05 at) h m whole a = h whole a.spelled
-nothing_accepted text (E06 at) h m whole a = h whole a.spelled
-nothing_accepted text (E07 at) h m whole a = h whole a.spelled
+pub nothing_accepted : (text : List ℕ) (fault : TextFault) → SpellsNothing text fault → is_memory_fault fault ≡ false → (system : System) → Accepted text system → ⊥
+nothing_accepted text (text_fault.E99 e) h m system a = absurd cc
+nothing_accepted text (text_fault.E01 at) h m system a = h a.whole a.spelled
+nothing_accepted text (text_fault.E02 at) h m system a = h a.whole a.spelled
+nothing_accepted text text_fault.E03 h m system a = h a.whole a.spelled
+nothing_accepted text (text_fault.E04 at) h m system a = h a.whole a.spelled
+nothing_accepted text (text_fault.E05 at) h m system a = h a.whole a.spelled
+nothing_accepted text (text_fault.E06 at) h m system a = h a.whole a.spelled
+nothing_accepted text (text_fault.E07 at) h m system a = h a.whole a.spelled
 
--- a text that breaks a rule is not accepted
-pub broken_unaccepted : (text : List ℕ) (whole : Def) (fault : StaticFault) (at : ℕ) → ((other : Def) → Spelled text other → other ≡ whole) → IsBroken whole fault at →
-    (other : Def) → Accepted text other → ⊥
-broken_unaccepted text whole fault at only broken other a = breaks fault broken (subst WellTyped (only other a.spelled) a.typed)
+-- a text that breaks a static rule is not accepted
+pub broken_unaccepted : (text : List ℕ) (fault : CheckFault) (at : ℕ) → IsBroken text fault → offset_of fault ≡ Some at → (system : System) → Accepted text system → ⊥
+broken_unaccepted text fault at broken stands system a =
+    refused fault broken.refused stands (subst (λ w. IsAccepted w system) (broken.only a.whole a.spelled) a.accepted)
   where
-    breaks : (fault : StaticFault) → IsBroken whole fault at → WellTyped whole → ⊥
-    breaks (E20 gate) (g, h, e, f) typed = typed.distinct_gates g h
-    breaks (E21 gate) (g, h, e, f) typed = typed.known_gates g h
-    breaks (E25 name declared) (h, e, f) typed = typed.as_declared declared h
+    refused : (fault : CheckFault) → check.IsRefused broken.whole fault → offset_of fault ≡ Some at → IsAccepted broken.whole system → ⊥
+    refused (E99 e) h s accepted = absurd cc
+    refused (E20 gate) h s accepted = h system accepted
+    refused (E21 gate) h s accepted = h system accepted
+    refused (E22 name) h s accepted = h system accepted
+    refused (E23 name formal actual) h s accepted = h system accepted
+    refused (E24 name) h s accepted = h system accepted
+    refused (E25 name declared) h s accepted = h system accepted
+    refused (E26 at) h s accepted = h system accepted
+    refused (E27 name set) h s accepted = h system accepted
 
--- a text whose specification is not searched is not accepted
-pub unsearched_unaccepted : (text : List ℕ) (whole : Def) → ((other : Def) → Spelled text other → other ≡ whole) → (IsSearched whole → ⊥) →
-    (other : Def) → Accepted text other → ⊥
-unsearched_unaccepted text whole only unsearched other a = unsearched (subst IsSearched (only other a.spelled) a.searched)
-
--- ---- offsets
-
-second_inside : (n : ℕ) (names before after : List Placed) (g : Placed) → names ≡ before ++ g ∷ after → AllByRecursion (λ p. p.at ≤ n) names → g.at ≤ n
-second_inside n names before after g e h = go before (subst (AllByRecursion (λ p. p.at ≤ n)) e h)
-  where
-    go : (before : List Placed) → AllByRecursion (λ p. p.at ≤ n) (before ++ g ∷ after) → g.at ≤ n
-    go [] h = h.0
-    go (p ∷ before) h = go before h.1
-
-used_inside : (n : ℕ) (t : Tree) (g : Placed) → Uses t g → IsTreeInside n t → g.at ≤ n
-used_inside n _ g at_head h = h.0
-used_inside n _ g (in_body {a = Internal} u) h = used_inside n _ g u h
-used_inside n _ g (in_body {a = Gate p} u) h = used_inside n _ g u h.1
-used_inside n _ g (on_left u) h = used_inside n _ g u h.0
-used_inside n _ g (on_right u) h = used_inside n _ g u h.1
-
--- a broken rule shows inside the text
-pub broken_inside : (n : ℕ) (whole : Def) (fault : StaticFault) (at : ℕ) → IsInside n whole → IsBroken whole fault at → at ≤ n
-broken_inside n (def name formals declared body inner) (E20 gate) at h (g, s, e, f) = let k = second_inside n formals s.before s.after g s.stands h.1 in omega arith
-broken_inside n (def name formals declared body inner) (E21 gate) at h (g, s, e, f) = let k = used_inside n body g s.used h.2 in omega arith
-broken_inside n (def name formals declared body inner) (E25 x d) at h (s, e, f) = let k = h.0 in omega arith
+-- the fact of a fault at this place
+pub broken_at : (text : List ℕ) (fault : CheckFault) (at line column : ℕ) → IsBroken text fault → offset_of fault ≡ Some at →
+    IsPlace text at line column → IsCheckFault text fault line column
+broken_at text fault at line column broken stands placed = record {
+  whole = broken.whole;
+  at = at;
+  spells = broken.spells;
+  cause = broken.cause;
+  stands = stands;
+  placed = placed;
+  never = broken_unaccepted text fault at broken stands;
+}
 
 -- ---- from a text to the bytes that a reader had left
 
 pub unread : (left left' : Option (List ℕ)) (text : List ℕ) (u : Unaccepted) → ReadsWhole left left' text → IsUnaccepted text u → IsUnread left left' u
 unread left left' text unaccepted.Memory r h = (text, (let w = r.within in omega arith), r.bytes)
-unread left left' text (unaccepted.Refused refusal.E30) r h = record {
-  text = text;
-  whole = h.whole;
-  read = r;
-  spells = h.spells;
-  unsearched = h.unsearched;
-  never = h.never;
-}
-unread left left' text (unaccepted.Refused (refusal.Static fault line column)) r h = record {
+unread left left' text (unaccepted.Refused refusal.E30) r h = absurd h
+unread left left' text (unaccepted.Refused (refusal.Check fault line column)) r h = record {
   text = text;
   whole = h.whole;
   at = h.at;
   read = r;
   spells = h.spells;
-  searched = h.searched;
   cause = h.cause;
+  stands = h.stands;
   placed = h.placed;
   never = h.never;
 }
@@ -98,14 +80,14 @@ unread left left' text (unaccepted.Refused refusal.E47) r h = absurd h
 unread left left' text (unaccepted.Refused (refusal.Text fault place)) r h = go fault h
   where
     go : (fault : TextFault) → IsTextFault text fault place → IsTextRefusal left left' fault place
-    go (E01 at) h = record { text = text; read = r; cause = h.cause; placed = h.placed; never = h.never }
-    go (E02 at) h = record { text = text; read = r; cause = h.cause; placed = h.placed; never = h.never }
-    go E03 h = absurd (let w = r.within in let l = h.cause in omega arith)
-    go (E04 at) h = record { text = text; read = r; cause = h.cause; placed = h.placed; never = h.never }
-    go (E05 at) h = record { text = text; read = r; cause = h.cause; placed = h.placed; never = h.never }
-    go (E06 at) h = record { text = text; read = r; cause = h.cause; placed = h.placed; never = h.never }
-    go (E07 at) h = record { text = text; read = r; cause = h.cause; placed = h.placed; never = h.never }
-    go (E99 e) h = absurd (let m = h.no_memory in cc)
+    go (text_fault.E01 at) h = record { text = text; read = r; cause = h.cause; placed = h.placed; never = h.never }
+    go (text_fault.E02 at) h = record { text = text; read = r; cause = h.cause; placed = h.placed; never = h.never }
+    go text_fault.E03 h = absurd (let w = r.within in let l = h.cause in omega arith)
+    go (text_fault.E04 at) h = record { text = text; read = r; cause = h.cause; placed = h.placed; never = h.never }
+    go (text_fault.E05 at) h = record { text = text; read = r; cause = h.cause; placed = h.placed; never = h.never }
+    go (text_fault.E06 at) h = record { text = text; read = r; cause = h.cause; placed = h.placed; never = h.never }
+    go (text_fault.E07 at) h = record { text = text; read = r; cause = h.cause; placed = h.placed; never = h.never }
+    go (text_fault.E99 e) h = absurd (let m = h.no_memory in cc)
 
 pub unread_answer : {T : Type 0} (left left' : Option (List ℕ)) (text slice : List ℕ) (r : Result T Unaccepted) → slice ≡ text → ReadsWhole left left' text →
     IfErr r (IsUnaccepted slice) → IfErr r (IsUnread left left')

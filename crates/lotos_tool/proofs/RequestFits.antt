@@ -1,5 +1,5 @@
--- Words in which clap finds no fault name a search whose entries can be read.
-use Rattle.std.proofs.Common.{◌≡◌, ◌∙◌, ◌≤◌, ◌||◌, ◌==◌, ℕ, Bool, cond, true, false, not, refl, sym, ap, subst, arith, List, [], ◌∷◌, length, Option, Some, None, codes, drop, find, is_some}
+-- Words in which clap finds no fault name `check`, or a search whose entries can be read.
+use Rattle.std.proofs.Common.{◌≡◌, ◌∙◌, ◌≤◌, ◌||◌, ◌==◌, ℕ, Bool, cond, true, false, not, refl, sym, ap, subst, arith, List, [], ◌∷◌, length, Option, Some, None, codes, drop, find, is_some, inl, inr}
 use Rattle.std.specs.Prelude.{IsSomeAnd, slice_get, pos, unwrap_or}
 use Rattle.std.specs.Option.{option_map, option_map_or, option_and_then}
 use Rattle.std.specs.Str.{bytes_eq}
@@ -137,8 +137,11 @@ others (x ∷ xs) = xs
 abbrev search_shape : Shape
 search_shape = first whole.subs
 
+abbrev check_shape : Shape
+check_shape = first (others whole.subs)
+
 abbrev help_shape : Shape
-help_shape = first (others whole.subs)
+help_shape = first (others (others whole.subs))
 
 top_is_ordinary : Each (IsOrdinary whole.top.rules) whole.top.rules
 top_is_ordinary = (record { own = refl; no_count = refl }, tt)
@@ -160,28 +163,31 @@ search_fits rows all e =
     (λ t read. subst (IsNumberIn 0 255) (sym read.is) (signed_is_within 0 255 read.value read.accepted))
     (given_reads search_shape.rules rows all (codes "depth") _ refl (omega arith) (depth_is_given rows e))
 
--- the subcommand that a word names, by whether it is `search` and whether it is `help`
-abbrev named : Bool → Bool → Option Shape
-named is_search is_help = cond (is_search || false) (Some search_shape) (cond (is_help || false) (Some help_shape) None)
+-- the subcommand that a word names, by whether it is `search`, whether it is `check` and whether it is `help`
+abbrev named : Bool → Bool → Bool → Option Shape
+named is_search is_check is_help =
+    cond (is_search || false) (Some search_shape)
+    (cond (is_check || false) (Some check_shape) (cond (is_help || false) (Some help_shape) None))
 
 stop_fits : (rows : List Row) (stop : Option (Text × List Text)) → StopsWell whole.top (names_of whole) top_is_ordinary stop
     → entered_fault whole stop ≡ [] → check_fault whole.top rows (is_some (entered whole stop)) ≡ [] → FitsRequest (entered whole stop)
 stop_fits rows None well below check = absurd (not_empty _ _ check)
 stop_fits rows (Some p) well below check =
-    go (bytes_eq (codes "search") p.0) (bytes_eq (codes "help") p.0) refl below check
+    go (bytes_eq (codes "search") p.0) (bytes_eq (codes "check") p.0) (bytes_eq (codes "help") p.0) refl below check
   where
-    go : (is_search is_help : Bool) → bytes_eq (codes "help") p.0 ≡ is_help
-        → option_map_or (λ s. level_fault s [] nothing_held p.1 false []) (named is_search is_help) [] ≡ []
-        → check_fault whole.top rows (is_some (option_map (λ s. rows_at s p.1) (named is_search is_help))) ≡ []
-        → FitsRequest (option_map (λ s. rows_at s p.1) (named is_search is_help))
-    go true is_help e under check =
+    go : (is_search is_check is_help : Bool) → bytes_eq (codes "help") p.0 ≡ is_help
+        → option_map_or (λ s. level_fault s [] nothing_held p.1 false []) (named is_search is_check is_help) [] ≡ []
+        → check_fault whole.top rows (is_some (option_map (λ s. rows_at s p.1) (named is_search is_check is_help))) ≡ []
+        → FitsRequest (option_map (λ s. rows_at s p.1) (named is_search is_check is_help))
+    go true is_check is_help e under check =
         let left = level_leaves search_shape [] search_is_ordinary p.1 false [] under in
-        (refl, search_fits _ left.ready left.checked)
-    go false true e under check =
+        inl (refl, search_fits _ left.ready left.checked)
+    go false true is_help e under check = inr refl
+    go false false true e under check =
         let name : codes "help" ≡ p.0 = (bytes_eq-Decides (codes "help") p.0).0 e in
         let bad : true ≡ false = subst (AsksNoHelp whole.top (names_of whole) top_is_ordinary) (sym name) well in
         cc
-    go false false e under check = absurd (not_empty _ _ check)
+    go false false false e under check = absurd (not_empty _ _ check)
 
 pub request_fits : (words : List Text) → fault_of lotosseq words ≡ [] → FitsRequest (subcommand_of lotosseq words)
 request_fits words e =

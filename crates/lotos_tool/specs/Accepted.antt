@@ -2,12 +2,11 @@
 use Rattle.std.specs.Prelude.{ℕ, List}
 use Rattle.lotos_text.specs.Tree.{Def}
 use Rattle.lotos_text.specs.Spelled.{Spelled}
-use Rattle.lotos_tool.specs.Rules.{WellTyped}
-use Rattle.lotos_tool.specs.Sequential.{IsSearched}
+use Rattle.lotos_check.specs.Flat.{System}
+use Rattle.lotos_check.specs.Checking.{IsAccepted}
 
--- the text spells the specification, which breaks no static rule
-pub record Accepted (text : List ℕ) (whole : Def) : Type 0 where
+-- the text spells a specification that meets the static rules, and this is its flat system
+pub record Accepted (text : List ℕ) (system : System) : Type 0 where
+  pub whole : Def
   pub spelled : Spelled text whole
-  pub typed : WellTyped whole
-  -- until the search over all forms is there
-  pub searched : IsSearched whole
+  pub accepted : IsAccepted whole system

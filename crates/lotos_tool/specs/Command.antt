@@ -28,7 +28,13 @@ words_rule = record (new_rule (codes "words")) {
 abbrev pub search_app : App
 search_app = with_rule (with_rule (new_app (codes "search")) depth_rule) words_rule
 
--- `lotosseq`, which wants its one subcommand
+-- `check`
+abbrev pub check_app : App
+check_app = new_app (codes "check")
+
+-- `lotosseq`, which wants one of its subcommands
 abbrev pub lotosseq : App
 lotosseq =
-    with_subcommand (on_top (λ s. record s { subcommand_required = true }) (new_app (codes "lotosseq"))) search_app.top
+    with_subcommand
+    (with_subcommand (on_top (λ s. record s { subcommand_required = true }) (new_app (codes "lotosseq"))) search_app.top)
+    check_app.top

@@ -3,11 +3,9 @@ pub mod Patterns
 pub mod Derivations
 pub mod Listing
 pub mod Steps
-pub mod Rules
 pub mod Sequential
 pub mod Accepted
 pub mod LabelWords
-pub mod Misuses
 pub mod Lines
 pub mod Device
 pub mod Reading
@@ -16,7 +14,6 @@ pub mod Answers
 pub mod Wrapped
 pub mod WriteFaults
 pub mod Searching
-pub mod Gates
 pub mod Command
 pub mod Request
 pub mod Fitting

@@ -20,12 +20,14 @@ pub record SearchView : Type 0 where
 
 -- a request, with texts for strings
 pub data RequestView : Type 0 where
+  check : RequestView
   search : SearchView → RequestView
 
 abbrev pub search_view : SearchRequest → SearchView
 search_view request = record { depth = request.depth; words = map string_bytes request.words.items }
 
 abbrev pub request_view : Request → RequestView
+request_view asked.Check = check
 request_view (asked.Search request) = search (search_view request)
 
 -- the number that a decimal numeral spells, which a plus sign may open
@@ -40,7 +42,9 @@ search_from rows =
 
 -- the request that a subcommand of this name with these entries spells
 abbrev pub request_named : Text → List Row → Option RequestView
-request_named name rows = if bytes_eq name (codes "search") then option_map search (search_from rows) else None
+request_named name rows =
+    if bytes_eq name (codes "search") then option_map search (search_from rows)
+    else (if bytes_eq name (codes "check") then Some check else None)
 
 -- the request that the subcommand with its entries spells, if one was given
 abbrev pub request_from : Option (Text × List Row) → Option RequestView

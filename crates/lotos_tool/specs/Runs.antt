@@ -2,9 +2,10 @@
 use Rattle.std.specs.Prelude.{◌≡◌, ℕ, ◌⊎◌, ◌==◌, List, ◌++◌, Option, true, if◌then◌else◌}
 use Rattle.std.specs.Io.KnownBytes.{Appends, Keeps}
 use Rattle.clap.specs.Words.{Text, takes}
-use Rattle.lotos_tool.specs.Answers.{Answers}
+use Rattle.lotos_tool.specs.Answers.{Answers, CheckAnswers}
 use Rattle.lotos_tool.specs.Command.{lotosseq}
 use Rattle.lotos_tool.specs.Request.{RequestOf, request_view}
+use Rattle.lotos_tool.specs.Writing.{AppendsBeginning}
 use Rattle.lotos_tool.specs.declared.answer.Ended.{Ended}
 use Rattle.lotos_tool.specs.declared.answer.Ended.TheVariants.{Complete, Refused, Stopped}
 use Rattle.lotos_tool.specs.declared.answer.Why.TheVariants as why
@@ -27,19 +28,26 @@ pub record Searched (words : List Text) (left left' got got' : Option (List ℕ)
   pub answered : Answers request left left' got got' ended
   pub status_is : status ≡ status_of ended
 
--- the output got a beginning of the text, or all of it
-pub record AppendsBeginning (got got' : Option (List ℕ)) (text : List ℕ) : Type 0 where
-  pub part : List ℕ
-  pub rest : List ℕ
-  pub whole : text ≡ part ++ rest
-  pub written : Appends got got' part
+-- the status of a check: as that of a search, but 0 wherever it is complete
+abbrev pub check_status_of : Ended → ℕ
+check_status_of (Complete lines) = 0
+check_status_of (Refused cause) = 2
+check_status_of (Stopped last why.Memory) = 5
+check_status_of (Stopped last why.Write) = 6
+
+-- the words ask for a check, its answer is true, and the status is that of the answer
+pub record Inspected (words : List Text) (left left' got got' : Option (List ℕ)) (status : ℕ) : Type 0 where
+  pub asked : RequestOf words (request_view asked.Check)
+  pub ended : Ended
+  pub answered : CheckAnswers left left' got got' ended
+  pub status_is : status ≡ check_status_of ended
 
 -- the text was written and the status is 0, or the output failed and the status is 6
 pub data Shown (got got' : Option (List ℕ)) (text : List ℕ) (status : ℕ) : Type 0 where
   written : status ≡ 0 → Appends got got' text → Shown got got' text status
   broken_off : status ≡ 6 → AppendsBeginning got got' text → Shown got got' text status
 
--- what the output got where nothing is searched, by the status
+-- what the output got where nothing is searched and nothing checked, by the status
 pub data Told (got got' : Option (List ℕ)) (status : ℕ) : Type 0 where
   -- the help that the words ask for
   helped : (text : List ℕ) → Shown got got' text status → Told got got' status
@@ -48,8 +56,8 @@ pub data Told (got got' : Option (List ℕ)) (status : ℕ) : Type 0 where
   -- nothing, memory being wanting
   wanting : status ≡ 5 → Keeps got got' → Told got got' status
 
--- nothing is searched, nothing is read, and words without a fault are left only for want of memory
-pub record NotSearched (words : List Text) (left left' got got' : Option (List ℕ)) (status : ℕ) : Type 0 where
+-- nothing is searched or checked, nothing is read, and words without a fault are left only for want of memory
+pub record NotAsked (words : List Text) (left left' got got' : Option (List ℕ)) (status : ℕ) : Type 0 where
   pub kept : Keeps left left'
   pub told : Told got got' status
   pub taken : takes lotosseq words ≡ true → status ≡ 5
@@ -57,4 +65,4 @@ pub record NotSearched (words : List Text) (left left' got got' : Option (List �
 -- what the run of the words did and the status that it ended with
 abbrev pub Ran : List Text → Option (List ℕ) → Option (List ℕ) → Option (List ℕ) → Option (List ℕ) → ℕ → Type 0
 Ran words left left' got got' status =
-    Searched words left left' got got' status ⊎ NotSearched words left left' got got' status
+    Searched words left left' got got' status ⊎ Inspected words left left' got got' status ⊎ NotAsked words left left' got got' status

@@ -1,19 +1,19 @@
-//! How a search ended.
+//! How a search or a check ended.
 
 use crate::refusal::Refusal;
 
-/// How a search ended.
+/// How a search or a check ended.
 #[derive(Debug, Drop)]
 pub enum Ended {
-    /// The whole listing was written: so many lines, or the greatest `u64` where there are more.
+    /// All was written: so many lines, or the greatest `u64` where there are more.
     Complete { lines: u64 },
     /// Nothing was written, and this is why.
     Refused(Refusal),
-    /// The search stopped. `last` is the last sequence whose line was written whole.
+    /// It stopped. `last` is the last sequence whose line was written whole; a check has none.
     Stopped { last: Option<String>, why: Why },
 }
 
-/// Why a search stopped.
+/// Why a search or a check stopped.
 #[derive(Clone, Copy, Debug, PartialEq, Eq)]
 pub enum Why {
     /// A growth of the heap was refused.

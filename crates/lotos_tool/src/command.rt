@@ -5,6 +5,8 @@ use std::alloc::AllocError;
 /// What the words of the command ask for.
 #[derive(Debug, Drop)]
 pub enum Request {
+    /// Check a specification and list its processes.
+    Check,
     /// List the sequences that match a pattern.
     Search(SearchRequest),
 }

@@ -1,17 +1,19 @@
 //! The command `lotosseq` as a library: from the words of the command and the bytes of a specification to the lines of a
 //! listing.
 //!
-//! [`request`] reads the words, [`list`] reads a text and writes the listing, and [`run`] does both and answers the status.
-//! Readers and writers are a [`Source`] and a [`Sink`]; [`FromRead`] and [`FromWrite`] make them of std's.
+//! [`request`] reads the words, [`list`] reads a text and writes the listing, [`check_text`] reads a text and writes its
+//! processes, and [`run`] does what the words ask for and answers the status. Readers and writers are a [`Source`] and a
+//! [`Sink`]; [`FromRead`] and [`FromWrite`] make them of std's.
 //!
-//! The modules whose names begin with `interim` stand in for crates to come: the static rules, patterns and the search.
+//! The modules whose names begin with `interim` stand in for crates to come: patterns and the search.
 #![tactic(auto)]
 
+mod accepting;
 mod answer;
+mod checking;
 mod command;
 mod device;
 mod interim_pattern;
-mod interim_rules;
 mod interim_search;
 mod lines;
 mod message;
@@ -25,10 +27,10 @@ mod words;
 mod writing;
 
 pub use answer::{Ended, Why};
+pub use checking::check_text;
 pub use command::{CommandFault, Request, SearchRequest};
 pub use device::{DeviceFailed, FromRead, FromWrite, Sink, Source};
 pub use interim_pattern::LabelFault;
-pub use interim_rules::StaticFault;
 pub use refusal::Refusal;
 pub use running::run;
 pub use searching::list;

@@ -3,11 +3,10 @@
 use crate::answer::Why;
 use crate::refusal::Refusal;
 use itoa::Buffer;
-use lotos_text::Functionality;
 use std::fmt;
 use std::io::Write;
 
-/// Says why a search is refused.
+/// Says why a search or a check is refused.
 pub(crate) fn tell_refusal<E: Write>(err: &mut E, refusal: &Refusal) {
     let _ = writeln!(err, "lotosseq: {refusal}");
 }
@@ -20,7 +19,7 @@ pub(crate) fn tell_stop<E: Write>(err: &mut E, last: &Option<String>, why: Why) 
     };
 }
 
-/// Says why a command that is no search failed.
+/// Says why a command that lists no sequences failed.
 pub(crate) fn tell_failure<E: Write>(err: &mut E, why: Why) {
     let _ = writeln!(err, "lotosseq: {why}");
 }
@@ -60,18 +59,5 @@ impl fmt::Display for At {
             Some((line, column)) => write!(f, "{}:{}: ", Number(line), Number(column)),
             None => Ok(()),
         }
-    }
-}
-
-/// A declared functionality, and the other one, which the body has.
-#[derive(Clone, Copy, Debug)]
-pub(crate) struct Declared(pub Functionality);
-
-impl fmt::Display for Declared {
-    fn fmt<W: fmt::Write>(&self, f: &mut fmt::Formatter<W>) -> fmt::Result {
-        f.write_str(match self.0 {
-            Functionality::Exit => "is declared exit and is noexit",
-            Functionality::NoExit => "is declared noexit and is exit",
-        })
     }
 }

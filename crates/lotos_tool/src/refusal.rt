@@ -1,12 +1,12 @@
-//! Why a search is refused.
+//! Why a search or a check is refused.
 
 use crate::interim_pattern::LabelFault;
-use crate::interim_rules::StaticFault;
 use crate::message::At;
+use lotos_check::CheckFault;
 use lotos_text::TextFault;
 use thiserror::Error;
 
-/// Why nothing is searched. Lines and columns are counted from 1, columns in bytes.
+/// Why nothing is searched or listed. Lines and columns are counted from 1, columns in bytes.
 #[derive(Debug, Drop, Error)]
 pub enum Refusal {
     /// The text spells no specification. The place is that of the fault's offset; E03 has none. No fault here is E99.
@@ -15,14 +15,14 @@ pub enum Refusal {
         fault: TextFault,
         place: Option<(usize, usize)>,
     },
-    /// The text spells a specification with a form that is not searched yet: anything but `stop`, `exit`, action prefix and
-    /// choice in its behaviour, or a definition in its `where`.
+    /// The behaviour of the specification, which meets the static rules, has a form that is not searched yet: a parallel
+    /// expression, hiding, enabling, disabling, or a call.
     #[error("E30 form is not searched yet")]
     E30,
-    /// The specification breaks a static rule.
+    /// The specification breaks a static rule. The place is that of the fault's offset. No fault here is E99.
     #[error("{}{}", At(Some((*.line, *.column))), .fault)]
-    Static {
-        fault: StaticFault,
+    Check {
+        fault: CheckFault,
         line: usize,
         column: usize,
     },

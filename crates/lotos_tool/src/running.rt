@@ -3,9 +3,11 @@ ghost use Rattle.std.specs.Prelude.{◌≡◌, ◌==◌, false, OnOk, OnErr, is_
 ghost use Rattle.std.specs.Io.KnownBytes.{Appends};
 ghost use Rattle.lotos_tool.specs.Answers.{is_output_fault};
 ghost use Rattle.lotos_tool.specs.Request.{texts_of};
-ghost use Rattle.lotos_tool.specs.Runs.{AppendsBeginning, Ran, Shown, status_of};
+ghost use Rattle.lotos_tool.specs.Runs.{Ran, Shown, check_status_of, status_of};
+ghost use Rattle.lotos_tool.specs.Writing.{AppendsBeginning};
 
 use crate::answer::{Ended, Why};
+use crate::checking::check_text;
 use crate::command::{CommandFault, Request};
 use crate::device::{DeviceFailed, Sink, Source};
 use crate::message::{tell_failure, tell_refusal, tell_stop, tell_text};
@@ -32,7 +34,8 @@ pub fn run<R: Source, W: Sink, E: Write>(
     ensures output { W.has_failed out.new ≡ (result == 6) }
 {
     match request(alloc, words) {
-        Ok(Request::Search(search)) => finish(&list(alloc, &search, reader, out), err),
+        Ok(Request::Check) => end_check(&check_text(alloc, reader, out), err),
+        Ok(Request::Search(search)) => end_search(&list(alloc, &search, reader, out), err),
         Err(CommandFault::Help(text)) => show_help(text.as_str(), out, err),
         Err(CommandFault::Wrong(text)) => {
             tell_text(err, text.as_str());
@@ -46,7 +49,7 @@ pub fn run<R: Source, W: Sink, E: Write>(
 }
 
 /// Tells of a search that is not complete, and answers its status.
-fn finish<E: Write>(ended: &Ended, err: &mut E) -> u8
+fn end_search<E: Write>(ended: &Ended, err: &mut E) -> u8
     ensures status { result ≡ status_of ended.now }
     ensures output { is_output_fault ended.now ≡ (result == 6) }
 {
@@ -59,6 +62,27 @@ fn finish<E: Write>(ended: &Ended, err: &mut E) -> u8
         }
         Ended::Stopped { last, why } => {
             tell_stop(err, last, *why);
+            match why {
+                Why::Memory => 5,
+                Why::Write => 6,
+            }
+        }
+    }
+}
+
+/// Tells of a check that is not complete, and answers its status.
+fn end_check<E: Write>(ended: &Ended, err: &mut E) -> u8
+    ensures status { result ≡ check_status_of ended.now }
+    ensures output { is_output_fault ended.now ≡ (result == 6) }
+{
+    match ended {
+        Ended::Complete { lines: _ } => 0,
+        Ended::Refused(refusal) => {
+            tell_refusal(err, refusal);
+            2
+        }
+        Ended::Stopped { last: _, why } => {
+            tell_failure(err, *why);
             match why {
                 Why::Memory => 5,
                 Why::Write => 6,

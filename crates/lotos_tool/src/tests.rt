@@ -1,7 +1,9 @@
 //! Runs over readers and writers in memory.
 
+mod checks;
 mod devices;
 mod forms;
+mod help;
 mod reading;
 mod rows;
 mod running;

@@ -2,7 +2,7 @@
 ghost use Rattle.std.specs.Prelude.{◌≡◌, IfErr, IfOk, Some, true, false, map, [], codes, option_map, string_bytes, unwrap_or};
 ghost use Rattle.clap.specs.Words.{all_of, app_of, found_of, kind_of, one_of, rows_of, rule_of, subcommand_rows_of, takes};
 ghost use Rattle.clap.specs.declared.builder.command.Command.TheViews.{out-Command as fields_of};
-ghost use Rattle.lotos_tool.specs.Command.{depth_rule, lotosseq, search_app, words_rule};
+ghost use Rattle.lotos_tool.specs.Command.{check_app, depth_rule, lotosseq, search_app, words_rule};
 ghost use Rattle.lotos_tool.specs.Fitting.{FitsRequest, FitsSearch};
 ghost use Rattle.lotos_tool.specs.Request.{RequestOf, number, request_from, request_view, search_from, search_view, texts_of};
 
@@ -35,7 +35,8 @@ fn command<'a>(alloc: Global) -> Result<Command<'a>, AllocError>
         .long_about(LONG_ABOUT)
         .after_help(STATUSES)
         .subcommand_required(true)
-        .subcommand(search_command(alloc)?)
+        .subcommand(search_command(alloc)?)?
+        .subcommand(check_command(alloc))
 }
 
 fn search_command<'a>(alloc: Global) -> Result<Command<'a>, AllocError>
@@ -45,9 +46,19 @@ fn search_command<'a>(alloc: Global) -> Result<Command<'a>, AllocError>
     Command::new(alloc, "search")
         .about(SEARCH_ABOUT)
         .long_about(SEARCH_LONG_ABOUT)
-        .after_help(STATUSES)
+        .after_help(SEARCH_STATUSES)
         .arg(depth_arg(alloc))?
         .arg(words_arg(alloc))
+}
+
+fn check_command<'a>(alloc: Global) -> Command<'a>
+    ensures app { app_of result ≡ check_app }
+    ensures local { (fields_of result).has_globals ≡ false }
+{
+    Command::new(alloc, "check")
+        .about(CHECK_ABOUT)
+        .long_about(CHECK_LONG_ABOUT)
+        .after_help(CHECK_STATUSES)
 }
 
 fn depth_arg<'a>(alloc: Global) -> Arg<'a>
@@ -82,8 +93,12 @@ fn request_in(alloc: Global, found: &ArgMatches<'_>) -> Result<Request, AllocErr
     requires { FitsRequest (subcommand_rows_of found.now) }
     ensures { IfOk result (λ r. request_from (subcommand_rows_of found.now) ≡ Some (request_view r)) }
 {
-    let (_name, given) = found.subcommand().unwrap();
-    Ok(Request::Search(search_in(alloc, given)?))
+    let (name, given) = found.subcommand().unwrap();
+    if name == "search" {
+        Ok(Request::Search(search_in(alloc, given)?))
+    } else {
+        Ok(Request::Check)
+    }
 }
 
 fn search_in(alloc: Global, found: &ArgMatches<'_>) -> Result<SearchRequest, AllocError>
@@ -137,13 +152,43 @@ fn fault_in(alloc: Global, error: &Error) -> CommandFault
 
 // ---- the texts of help
 
-const ABOUT: &str = "Lists the observable action sequences of a basic LOTOS specification";
+const ABOUT: &str = "Checks a basic LOTOS specification, and lists its observable action sequences";
 
-const LONG_ABOUT: &str = "Lists the observable action sequences of a basic LOTOS specification
+const LONG_ABOUT: &str =
+    "Checks a basic LOTOS specification, and lists its observable action sequences
 
 The specification is read from standard input, and what is asked of it is written to
-standard output. `lotosseq search --help` tells of the listing, of the bound on the
-steps and of the words of a pattern.";
+standard output. `lotosseq check --help` tells of the static rules, and
+`lotosseq search --help` of the listing, of the bound on the steps and of the words of
+a pattern.";
+
+const STATUSES: &str = "Statuses:
+  0  the specification is accepted, or the listing is complete and has lines
+  1  the listing is complete and has none
+  2  the command, the pattern or the specification is refused, or cannot be read
+  5  memory was wanting
+  6  the output cannot be written";
+
+const CHECK_ABOUT: &str = "Checks the static rules and lists the processes";
+
+const CHECK_LONG_ABOUT: &str = "Checks the static rules and lists the processes
+
+Reads a specification in basic LOTOS from standard input. Where it breaks no static
+rule, a line is written for each process, in the order of their definitions: its name,
+the number of its gates, and `exit` or `noexit`. Else the first fault is named on
+standard error, with its line and column.
+
+For example, with the specification
+  specification S [a] : noexit behaviour P[a]
+  where process P [x] : noexit := x; P[x] endproc endspec
+the command `lotosseq check` lists
+  P 1 noexit";
+
+const CHECK_STATUSES: &str = "Statuses:
+  0  the specification is accepted
+  2  the command or the specification is refused, or cannot be read
+  5  memory was wanting
+  6  the output cannot be written";
 
 const SEARCH_ABOUT: &str = "Lists the sequences that match a pattern";
 
@@ -178,7 +223,7 @@ lower case. The pattern matches the sequence of just these labels in this order.
 no word it matches the empty sequence alone. `i` is no word of a pattern, as the
 internal action cannot be observed. A pattern has at most 256 words.";
 
-const STATUSES: &str = "Statuses:
+const SEARCH_STATUSES: &str = "Statuses:
   0  the listing is complete and has lines
   1  the listing is complete and has none
   2  the command, the pattern or the specification is refused, or cannot be read

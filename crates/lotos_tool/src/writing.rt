@@ -1,12 +1,14 @@
-//! Writes lines.
+//! Writes lines, and ends the writing.
 ghost use Rattle.std.specs.Prelude.{◌≡◌, false, IfOk, IfErr, OnOk, OnErr, IsErrOf, map, string_bytes};
 ghost use Rattle.std.specs.Io.KnownBytes.{Appends, Keeps};
 ghost use Rattle.lotos_tool.specs.Device.{Flags};
 ghost use Rattle.lotos_tool.specs.Lines.{line_of, spelled};
+ghost use Rattle.lotos_tool.specs.Answers.{is_output_fault};
+ghost use Rattle.lotos_tool.specs.Searching.{IsFinished};
 ghost use Rattle.lotos_tool.specs.Writing.{AppendsPart};
 ghost use Rattle.lotos_tool.specs.WriteFaults.{is_write_fault};
 
-use crate::answer::Why;
+use crate::answer::{Ended, Why};
 use crate::device::{DeviceFailed, Sink};
 use crate::lines::{line, spell};
 use std::alloc::Global;
@@ -47,5 +49,20 @@ pub fn write_sequence<W: Sink>(
     match write_bytes(writer, line.as_slice()) {
         Ok(()) => Ok(text),
         Err(DeviceFailed) => Err(Why::Write),
+    }
+}
+
+/// Ends the writing with one flush.
+pub fn finish<W: Sink>(writer: &mut W, last: Option<String>, lines: u64) -> Ended
+    requires { W.has_failed writer.old ≡ false }
+    ensures finished { IsFinished (W.got writer.old) (W.got writer.new) last lines result }
+    ensures failed { W.has_failed writer.new ≡ is_output_fault result }
+{
+    match writer.flush() {
+        Ok(()) => Ended::Complete { lines },
+        Err(DeviceFailed) => Ended::Stopped {
+            last,
+            why: Why::Write,
+        },
     }
 }

@@ -37,15 +37,11 @@ const UNSEARCHED: &[(&str, &[u8])] = &[
     ),
     (
         "a call without gates",
-        b"specification S [a] : noexit behaviour P endspec",
+        b"specification S [a] : noexit behaviour P where process P : noexit := stop endproc endspec",
     ),
     (
         "a call with gates",
-        b"specification S [a] : noexit behaviour P [a] endspec",
-    ),
-    (
-        "a definition beside a sequential body",
-        b"specification S [a] : noexit behaviour a; stop where process P : noexit := stop endproc endspec",
+        b"specification S [a] : noexit behaviour P [a] where process P [x] : noexit := x; stop endproc endspec",
     ),
     (
         "a form behind a prefix",
@@ -63,18 +59,6 @@ const UNSEARCHED: &[(&str, &[u8])] = &[
         "a form deep inside choices",
         b"specification S [a] : noexit behaviour a; stop [] a; (a; stop [] i; (stop [] hide a in a; stop)) endspec",
     ),
-    (
-        "beside a gate that is not declared",
-        b"specification S [a] : noexit behaviour b; stop ||| stop endspec",
-    ),
-    (
-        "beside a gate that is declared twice",
-        b"specification S [a,a] : noexit behaviour a; stop ||| stop endspec",
-    ),
-    (
-        "beside another functionality",
-        b"specification S [a] : exit behaviour a; stop ||| stop endspec",
-    ),
 ];
 
 #[test]
@@ -91,7 +75,23 @@ fn forms_that_are_not_searched_yet(rt: HostRuntime) {
     }
 }
 
+#[test]
+fn processes_that_are_not_called_are_searched_around(rt: HostRuntime) {
+    let text = b"specification S [a] : noexit behaviour a; stop where process P : noexit := stop ||| P1 endproc process P1 : noexit := stop endproc endspec";
+    expect(&rt, rt.alloc(), "processes", text, b"A\n", b"");
+}
+
 const FAULTS: &[(&str, &[u8], &[u8])] = &[
+    (
+        "a gate that is not declared beside a form that is not searched",
+        b"specification S [a] : noexit behaviour b; stop ||| stop endspec",
+        b"lotosseq: 1:40: E21 gate B is not declared\n",
+    ),
+    (
+        "another functionality of a form that is not searched",
+        b"specification S [a] : exit behaviour a; stop ||| stop endspec",
+        b"lotosseq: 1:15: E25 S is declared exit and is noexit\n",
+    ),
     (
         "a token too many behind a form that is not searched",
         b"specification S [a] : noexit behaviour stop ||| stop stop endspec",

@@ -305,6 +305,7 @@ fn help_goes_to_the_output(rt: HostRuntime) {
     for words in [
         ["lotosseq", "--help"].as_slice(),
         ["lotosseq", "search", "--help"].as_slice(),
+        ["lotosseq", "check", "--help"].as_slice(),
         ["lotosseq", "help"].as_slice(),
     ] {
         let reader = SliceReader::new(b"", 1);
@@ -326,7 +327,9 @@ fn command_faults(rt: HostRuntime) {
         ["lotosseq", "search", "A"].as_slice(),
         ["lotosseq", "search", "--depth", "256", "A"].as_slice(),
         ["lotosseq", "search", "--depth", "1", "--limit", "1"].as_slice(),
-        ["lotosseq", "check"].as_slice(),
+        ["lotosseq", "check", "A"].as_slice(),
+        ["lotosseq", "check", "--depth", "1"].as_slice(),
+        ["lotosseq", "check", "search", "--depth", "1"].as_slice(),
     ] {
         let reader = SliceReader::new(b"", 1);
         let out = ArrayWriter::new(4096);

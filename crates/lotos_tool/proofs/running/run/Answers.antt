@@ -1,9 +1,9 @@
 use Rattle.std.proofs.Common.{◌≡◌, ℕ, List, Option, inl, inr, refl, rules, subst}
 use Rattle.std.proofs.KnownBytes.{Keeps-refl}
 use Rattle.clap.specs.Words.{Text}
-use Rattle.lotos_tool.specs.Answers.{Answers}
+use Rattle.lotos_tool.specs.Answers.{Answers, CheckAnswers}
 use Rattle.lotos_tool.specs.Request.{RequestOf, request_view}
-use Rattle.lotos_tool.specs.Runs.{Searched, status_of}
+use Rattle.lotos_tool.specs.Runs.{Searched, Inspected, status_of, check_status_of}
 use Rattle.lotos_tool.specs.Runs.Told.{helped, wrong}
 use Rattle.lotos_tool.specs.declared.answer.Ended.{Ended}
 use Rattle.lotos_tool.specs.declared.command.Request.{Request}
@@ -19,22 +19,32 @@ module _ (words : List Text) (left left' got got' : Option (List ℕ)) (status :
       let Asks : Request → Type 0 = λ r. RequestOf words (request_view r) in
       record { request = request; asked = subst Asks is asks; ended = ended; answered = answers; status_is = status_is }
 
+  inspected : (asked : Request) (ended : Ended) → CheckAnswers left left' got got' ended → status ≡ check_status_of ended
+      → asked ≡ one.Check → RequestOf words (request_view asked) → Inspected words left left' got got' status
+  inspected asked ended answers status_is is asks =
+      let Asks : Request → Type 0 = λ r. RequestOf words (request_view r) in
+      record { asked = subst Asks is asks; ended = ended; answered = answers; status_is = status_is }
+
+pub returns-in-Ok-Check-clause-ran : goal.returns-in-Ok-Check-clause-ran
+returns-in-Ok-Check-clause-ran g c =
+    inr (inl (inspected _ _ _ _ _ _ _ c.check_text.result c.check_text.ensures.answers c.end_check.ensures.status (search rules) c.in-Ok.ensures.is))
+
 pub returns-in-Ok-Search-clause-ran : goal.returns-in-Ok-Search-clause-ran
 returns-in-Ok-Search-clause-ran g c =
-    inl (searched _ _ _ _ _ _ c.in-Ok-Search.field-0 _ c.list.result c.list.ensures.answers c.finish.ensures.status (search rules) c.in-Ok-Search.ensures.is)
+    inl (searched _ _ _ _ _ _ c.in-Ok-Search.field-0 _ c.list.result c.list.ensures.answers c.end_search.ensures.status (search rules) c.in-Ok-Search.ensures.is)
 
 pub returns-in-Err-Help-clause-ran : goal.returns-in-Err-Help-clause-ran
 returns-in-Err-Help-clause-ran g c =
-    inr (record {
+    inr (inr (record {
       kept = Keeps-refl _;
       told = helped _ c.show_help.ensures.shown;
       taken = λ t. let m = c.in-Err-Help.ensures.taken t in let e = c.in-Err-Help.field-0-is in cc;
-    })
+    }))
 
 pub returns-in-Err-Wrong-clause-ran : goal.returns-in-Err-Wrong-clause-ran
 returns-in-Err-Wrong-clause-ran g c =
-    inr (record {
+    inr (inr (record {
       kept = Keeps-refl _;
       told = wrong refl (Keeps-refl _);
       taken = λ t. let m = c.in-Err-Wrong.ensures.taken t in let e = c.in-Err-Wrong.field-0-is in cc;
-    })
+    }))

@@ -1,6 +1,6 @@
 use Rattle.std.proofs.Common.{sym, ◌∙◌}
 use Rattle.lotos_tool.proofs.Refusals.{nothing_accepted}
-use Rattle.lotos_tool.proofs.searching.text_refusal.Goals as goal
+use Rattle.lotos_tool.proofs.accepting.text_refusal.Goals as goal
 
 pub returns : goal.returns
 returns c =
