@@ -76,7 +76,7 @@ fn end_check<E: Write>(ended: &Ended, err: &mut E) -> u8
     ensures output { is_output_fault ended.now ≡ (result == 6) }
 {
     match ended {
-        Ended::Complete { lines: _ } => 0,
+        Ended::Complete { .. } => 0,
         Ended::Refused(refusal) => {
             tell_refusal(err, refusal);
             2
