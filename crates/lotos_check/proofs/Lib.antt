@@ -28,3 +28,6 @@ pub mod Visibles
 pub mod Rules
 pub mod OneSystem
 pub mod Faults
+pub mod CalledProcesses
+pub mod TwiceNamed
+pub mod RankedCalls
