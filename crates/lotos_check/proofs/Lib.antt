@@ -30,3 +30,6 @@ pub mod OneSystem
 pub mod Faults
 pub mod FaultPlaces
 pub mod Joined
+pub mod CalledProcesses
+pub mod TwiceNamed
+pub mod RankedCalls

@@ -134,7 +134,8 @@ called_meant scope t c q of_stop h = elim h [ ]
 called_meant scope t c q of_exit h = elim h [ ]
 called_meant scope t c q (of_prefix x) h = elim h [ ]
 
-paired_at : (vs : List Visible) (ps : List FlatProcess) → Pairwise IsProcess vs ps → (i : ℕ) (p : FlatProcess) → slice_get ps i ≡ Some p →
+-- an item of the second of two lists has its pair
+pub paired_at : (vs : List Visible) (ps : List FlatProcess) → Pairwise IsProcess vs ps → (i : ℕ) (p : FlatProcess) → slice_get ps i ≡ Some p →
     (v : Visible) × In v vs × IsProcess v p
 paired_at [] [] no_pair i p e = cc
 paired_at (v ∷ vs) (q ∷ ps) (one_pair h hs) zero p e = let f : q ≡ p = cc in (v, inl refl, subst (IsProcess v) f h)

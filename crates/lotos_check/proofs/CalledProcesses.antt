@@ -1,0 +1,223 @@
+-- Every call goes to the process whose number its name means, and with no cause E23 it fits.
+use Rattle.std.proofs.Common.{◌≡◌, ◌≢◌, ℕ, ◌+◌, List, [], ◌∷◌, ◌++◌, Some, length, slice_get, refl, sym, ap, ◌∙◌, subst, inl, inr, arith, zero, suc}
+use Rattle.std.proofs.lemmas.Bool.Decides.{eqb_tells}
+use Rattle.std.proofs.lemmas.List.{length-map}
+use Rattle.lotos_text.specs.Tree.{Tree, Def, def, Defs, no_defs, more_defs, call, formals_of, body_of, inner_of}
+use Rattle.lotos_text.specs.declared.tree.Placed.{Placed}
+use Rattle.lotos_check.specs.Names.{Name, In, texts}
+use Rattle.lotos_check.specs.Scope.{Scope, Where, Visible, Declares, here, later, Means, nearest, outward, count, within, listed, processes_of, everywhere}
+use Rattle.lotos_check.specs.Parts as parts
+use Rattle.lotos_check.specs.Parts.{Part, in_prefix, in_choice_left, in_choice_right, in_par_left, in_par_right, in_hide, in_enable_left, in_enable_right, in_disable_left, in_disable_right}
+use Rattle.lotos_check.specs.Flat.{Flat, FlatProcess, System, Pairwise, no_pair, one_pair, IsProcess, IsFlat, Resolves, of_stop, of_exit, of_prefix, of_choice, of_par, of_par_all, of_hide, of_enable, of_disable, of_call}
+use Rattle.lotos_check.specs.Bodies.{HasCall, itself, under_prefix, left_choice, right_choice, left_par, right_par, under_hide, left_enable, right_enable, left_disable, right_disable, IsBodyOf, of_whole, of_process}
+use Rattle.lotos_check.specs.Causes.{IsE23}
+use Rattle.lotos_check.specs.Checking.{IsAccepted}
+use Rattle.lotos_check.proofs.OneSystem.{paired_at}
+use Rattle.lotos_check.proofs.Visibles.{in_joined, listed_count}
+
+-- in the behaviour stands a call of a name that means the process, with these gates
+record IsCalled (scope : Scope) (known : List Name) (body : Tree) (k : ℕ) (gates : List Name) : Type 0 where
+  there : List Name
+  name : Placed
+  actuals : List Placed
+  definition : Def
+  inside : Part known body there (call name actuals)
+  means : Means scope name.name k definition
+  given : gates ≡ texts actuals
+
+-- the call stands in a behaviour of which this one is a part
+widened : (scope : Scope) (known more : List Name) (t u : Tree) (k : ℕ) (gates : List Name) →
+    ((there : List Name) (part : Tree) → Part known t there part → Part more u there part) →
+    IsCalled scope known t k gates → IsCalled scope more u k gates
+widened scope known more t u k gates wider h = record {
+  there = h.there;
+  name = h.name;
+  actuals = h.actuals;
+  definition = h.definition;
+  inside = wider h.there (call h.name h.actuals) h.inside;
+  means = h.means;
+  given = h.given;
+}
+
+-- a call by number comes from a call by name
+named_call : (scope : Scope) (known : List Name) (t : Tree) (c : Flat) (k : ℕ) (gates : List Name) →
+    Resolves scope t c → HasCall c k gates → IsCalled scope known t k gates
+named_call scope known t c k gates (of_call {p = p} {gs = gs} {d = d} m) itself =
+    record { there = known; name = p; actuals = gs; definition = d; inside = parts.whole; means = m; given = refl }
+named_call scope known t c k gates (of_prefix x) (under_prefix h) =
+    widened scope known known _ t k gates (λ there part i. in_prefix i) (named_call scope known _ _ k gates x h)
+named_call scope known t c k gates (of_choice x y) (left_choice h) =
+    widened scope known known _ t k gates (λ there part i. in_choice_left i) (named_call scope known _ _ k gates x h)
+named_call scope known t c k gates (of_choice x y) (right_choice h) =
+    widened scope known known _ t k gates (λ there part i. in_choice_right i) (named_call scope known _ _ k gates y h)
+named_call scope known t c k gates (of_par x s y) (left_par h) =
+    widened scope known known _ t k gates (λ there part i. in_par_left i) (named_call scope known _ _ k gates x h)
+named_call scope known t c k gates (of_par x s y) (right_par h) =
+    widened scope known known _ t k gates (λ there part i. in_par_right i) (named_call scope known _ _ k gates y h)
+named_call scope known t c k gates (of_par_all x y) (left_par h) =
+    widened scope known known _ t k gates (λ there part i. in_par_left i) (named_call scope known _ _ k gates x h)
+named_call scope known t c k gates (of_par_all x y) (right_par h) =
+    widened scope known known _ t k gates (λ there part i. in_par_right i) (named_call scope known _ _ k gates y h)
+named_call scope known t c k gates (of_hide {gs = gs} s x) (under_hide h) =
+    widened scope (texts gs ++ known) known _ t k gates (λ there part i. in_hide i) (named_call scope (texts gs ++ known) _ _ k gates x h)
+named_call scope known t c k gates (of_enable x y) (left_enable h) =
+    widened scope known known _ t k gates (λ there part i. in_enable_left i) (named_call scope known _ _ k gates x h)
+named_call scope known t c k gates (of_enable x y) (right_enable h) =
+    widened scope known known _ t k gates (λ there part i. in_enable_right i) (named_call scope known _ _ k gates y h)
+named_call scope known t c k gates (of_disable x y) (left_disable h) =
+    widened scope known known _ t k gates (λ there part i. in_disable_left i) (named_call scope known _ _ k gates x h)
+named_call scope known t c k gates (of_disable x y) (right_disable h) =
+    widened scope known known _ t k gates (λ there part i. in_disable_right i) (named_call scope known _ _ k gates y h)
+named_call scope known t c k gates of_stop h = elim h [ ]
+named_call scope known t c k gates of_exit h = elim h [ ]
+
+-- the second list stands in the first from that index on
+abbrev StandsFrom : List Visible → ℕ → List Visible → Type 0
+StandsFrom all k some = (i j : ℕ) (v : Visible) → j ≡ k + i → slice_get some i ≡ Some v → slice_get all j ≡ Some v
+
+get_front : (xs ys : List Visible) (i : ℕ) (v : Visible) → slice_get xs i ≡ Some v → slice_get (xs ++ ys) i ≡ Some v
+get_front [] ys i v e = cc
+get_front (x ∷ xs) ys zero v e = e
+get_front (x ∷ xs) ys (suc i) v e = get_front xs ys i v e
+
+get_back : (xs ys : List Visible) (i j : ℕ) (v : Visible) → j ≡ length xs + i → slice_get ys i ≡ Some v →
+    slice_get (xs ++ ys) j ≡ Some v
+get_back [] ys i j v at e = let same : i ≡ j = omega arith in subst (λ n. slice_get ys n ≡ Some v) same e
+get_back (x ∷ xs) ys i zero v at e = absurd (omega arith)
+get_back (x ∷ xs) ys i (suc j) v at e = get_back xs ys i j v (omega arith) e
+
+-- where a list stands whose first item two lists follow, there stands that item, behind it the one list, and behind that the other
+module _ (all : List Visible) (k : ℕ) (first : Visible) (xs ys : List Visible) (stands : StandsFrom all k (first ∷ xs ++ ys)) where
+  stands_first : slice_get all k ≡ Some first
+  stands_first = stands 0 k first (omega arith) refl
+
+  stands_front : StandsFrom all (k + 1) xs
+  stands_front i j v at e = stands (suc i) j v (omega arith) (get_front xs ys i v e)
+
+  stands_back : (n : ℕ) → n ≡ k + 1 + length xs → StandsFrom all n ys
+  stands_back n after i j v at e = stands (suc (length xs + i)) j v (omega arith) (get_back xs ys i (length xs + i) v refl e)
+
+-- the definition of that number in the list of all definitions
+record IsAt (all : List Visible) (q : ℕ) (d : Def) : Type 0 where
+  visible : Visible
+  stands : slice_get all q ≡ Some visible
+  same : visible.definition ≡ d
+
+-- the `where` is numbered as its definitions stand in the list
+record IsNumbered (all : List Visible) (w : Where) : Type 0 where
+  scope : Scope
+  stands : StandsFrom all w.first (listed scope w.first w.defs)
+
+declared_at : (all : List Visible) (scope : Scope) (k : ℕ) (ds : Defs) → StandsFrom all k (listed scope k ds) →
+    (n : Name) (q : ℕ) (d : Def) → Declares ds k n q d → IsAt all q d
+declared_at all scope k (more_defs (def name formals declared body inner) ds) stands n q d here =
+    let own : Scope = record { defs = inner; first = k + 1 } ∷ scope in
+    let this : Visible = record { scope = own; definition = def name formals declared body inner } in
+    let at = stands_first all k this (listed own (k + 1) inner) (listed scope (k + 1 + count inner) ds) stands in
+    record { visible = this; stands = at; same = refl }
+declared_at all scope k (more_defs (def name formals declared body inner) ds) stands n q d (later x) =
+    let own : Scope = record { defs = inner; first = k + 1 } ∷ scope in
+    let this : Visible = record { scope = own; definition = def name formals declared body inner } in
+    let deep = listed own (k + 1) inner in
+    let c = listed_count own (k + 1) inner in
+    let behind = stands_back all k this deep (listed scope (k + 1 + count inner) ds) stands (k + 1 + count inner) (omega arith) in
+    declared_at all scope (k + 1 + count inner) ds behind n q d x
+declared_at all scope k no_defs stands n q d x = elim x [ ]
+
+abbrev AllNumbered : List Visible → Scope → Type 0
+AllNumbered all scope = (w : Where) → In w scope → IsNumbered all w
+
+more_numbered : (all : List Visible) (w : Where) (scope : Scope) → IsNumbered all w → AllNumbered all scope → AllNumbered all (w ∷ scope)
+more_numbered all w scope h numbered x (inl e) = subst (IsNumbered all) e h
+more_numbered all w scope h numbered x (inr i) = numbered x i
+
+listed_numbered : (all : List Visible) (scope : Scope) (k : ℕ) (ds : Defs) → StandsFrom all k (listed scope k ds) → AllNumbered all scope →
+    (v : Visible) → In v (listed scope k ds) → AllNumbered all v.scope
+listed_numbered all scope k no_defs stands numbered v i = absurd i
+listed_numbered all scope k (more_defs (def name formals declared body inner) ds) stands numbered v i =
+    let w : Where = record { defs = inner; first = k + 1 } in
+    let own : Scope = w ∷ scope in
+    let this : Visible = record { scope = own; definition = def name formals declared body inner } in
+    let deep = listed own (k + 1) inner in
+    let rest = listed scope (k + 1 + count inner) ds in
+    let c = listed_count own (k + 1) inner in
+    let front = stands_front all k this deep rest stands in
+    let behind = stands_back all k this deep rest stands (k + 1 + count inner) (omega arith) in
+    let with_own = more_numbered all w scope (record { scope = own; stands = front }) numbered in
+    elim i [
+      | inl e ↦ subst (λ t. AllNumbered all t.scope) e with_own
+      | inr j ↦ elim (in_joined v deep rest j) [
+        | inl d ↦ listed_numbered all own (k + 1) inner front with_own v d
+        | inr r ↦ listed_numbered all scope (k + 1 + count inner) ds behind numbered v r
+      ]
+    ]
+
+visible_numbered : (whole : Def) (v : Visible) → In v (everywhere whole) → AllNumbered (processes_of whole) v.scope
+visible_numbered whole v i =
+    let all = processes_of whole in
+    let w : Where = record { defs = inner_of whole; first = 0 } in
+    let stands : StandsFrom all 0 all = λ i j v at e. let same : i ≡ j = omega arith in subst (λ n. slice_get all n ≡ Some v) same e in
+    let top = more_numbered all w [] (record { scope = within whole 0 []; stands = stands }) (λ x y. absurd y) in
+    elim i [
+      | inl e ↦ subst (λ t. AllNumbered all t.scope) e top
+      | inr j ↦ listed_numbered all (within whole 0 []) 0 (inner_of whole) stands top v j
+    ]
+
+meant_at : (all : List Visible) (scope : Scope) → AllNumbered all scope → (n : Name) (q : ℕ) (d : Def) → Means scope n q d → IsAt all q d
+meant_at all (w ∷ ws) numbered n q d (nearest x) =
+    let h = numbered w (inl refl) in declared_at all h.scope w.first w.defs h.stands n q d x
+meant_at all (w ∷ ws) numbered n q d (outward none x) = meant_at all ws (λ v i. numbered v (inr i)) n q d x
+meant_at all [] numbered n q d x = elim x [ ]
+
+process_at : (vs : List Visible) (ps : List FlatProcess) → Pairwise IsProcess vs ps → (i : ℕ) (v : Visible) → slice_get vs i ≡ Some v →
+    (p : FlatProcess) × (slice_get ps i ≡ Some p) × IsProcess v p
+process_at [] [] no_pair i v e = cc
+process_at (w ∷ vs) (p ∷ ps) (one_pair h hs) zero v e = let f : w ≡ v = cc in (p, refl, subst (λ x. IsProcess x p) f h)
+process_at (w ∷ vs) (p ∷ ps) (one_pair h hs) (suc i) v e = process_at vs ps hs i v e
+process_at [] (p ∷ ps) h i v e = elim h [ ]
+process_at (w ∷ vs) [] h i v e = elim h [ ]
+
+-- the process of the number that a name means has the formal gates of the definition that it means
+called_process : (whole : Def) (s : System) → IsFlat whole s → (v : Visible) → In v (everywhere whole) → (n : Name) (k : ℕ) (d : Def) →
+    Means v.scope n k d → (process : FlatProcess) × (slice_get s.processes k ≡ Some process) × (process.formals ≡ texts (formals_of d))
+called_process whole s flat v i n k d m =
+    let at = meant_at (processes_of whole) v.scope (visible_numbered whole v i) n k d m in
+    let p = process_at (processes_of whole) s.processes flat.processes k at.visible at.stands in
+    (p.0, p.1, p.2.formals ∙ ap (λ e. texts (formals_of e)) at.same)
+
+-- a behaviour of the flat system is the body of a definition with calls by number
+body_visible : (whole : Def) (s : System) → IsFlat whole s → (b : Flat) → IsBodyOf s b →
+    (v : Visible) × In v (everywhere whole) × Resolves v.scope (body_of v.definition) b
+body_visible whole s flat b of_whole = (record { scope = within whole 0 []; definition = whole }, inl refl, flat.start)
+body_visible whole s flat b (of_process p process e) =
+    let at = paired_at (processes_of whole) s.processes flat.processes p process e in
+    (at.0, inr at.1, at.2.body)
+
+same_unless : (x y : ℕ) → (x ≢ y → ⊥) → x ≡ y
+same_unless x y no_other = elim (eqb_tells x y) [ inl t ↦ t.1 | inr f ↦ absurd (no_other f.1) ]
+
+-- where no call has another number of gates than its definition, each call fits its process
+pub call_fits : (whole : Def) (s : System) → IsAccepted whole s → (b : Flat) → IsBodyOf s b → (k : ℕ) (gates : List Name) → HasCall b k gates →
+    (process : FlatProcess) × (slice_get s.processes k ≡ Some process) × (length gates ≡ length process.formals)
+call_fits whole s a b body k gates h =
+    let at = body_visible whole s a.flat b body in
+    let c = named_call at.0.scope (texts (formals_of at.0.definition)) (body_of at.0.definition) b k gates at.2 h in
+    let p = called_process whole s a.flat at.0 at.1 c.name.name k c.definition c.means in
+    let formal = length (formals_of c.definition) in
+    let actual = length c.actuals in
+    let unfit : formal ≢ actual → IsE23 whole c.name formal actual = λ differ. record {
+      scope = at.0.scope;
+      known = c.there;
+      actuals = c.actuals;
+      process = k;
+      definition = c.definition;
+      occurs = record { definition = at.0.definition; stands = at.1; inside = c.inside };
+      means = c.means;
+      declared = refl;
+      given = refl;
+      differ = differ;
+    } in
+    let same : formal ≡ actual = same_unless formal actual (λ differ. a.typed.same_numbers c.name formal actual (unfit differ)) in
+    let g = ap length c.given ∙ length-map c.actuals (λ p. p.name) in
+    let f = ap length p.2 ∙ length-map (formals_of c.definition) (λ p. p.name) in
+    (p.0, p.1, g ∙ sym same ∙ sym f)
