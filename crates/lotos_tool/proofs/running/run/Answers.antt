@@ -27,7 +27,7 @@ module _ (words : List Text) (left left' got got' : Option (List ℕ)) (status :
 
 pub returns-in-Ok-Check-clause-ran : goal.returns-in-Ok-Check-clause-ran
 returns-in-Ok-Check-clause-ran g c =
-    inr (inl (inspected _ _ _ _ _ _ _ c.check_text.result c.check_text.ensures.answers c.end_check.ensures.status (search rules) c.in-Ok.ensures.is))
+    inr (inl (inspected _ _ _ _ _ _ _ c.check_text.result c.check_text.ensures.answers c.end_check.ensures.status (search rules) c.in-Ok-Check.ensures.is))
 
 pub returns-in-Ok-Search-clause-ran : goal.returns-in-Ok-Search-clause-ran
 returns-in-Ok-Search-clause-ran g c =
