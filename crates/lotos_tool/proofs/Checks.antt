@@ -1,5 +1,5 @@
 -- How the writing of a check ends.
-use Rattle.std.proofs.Common.{◌≡◌, ℕ, List, [], length, map, Option, None, ◌∙◌, sym, ap, subst, append-nil}
+use Rattle.std.proofs.Common.{◌≡◌, ℕ, List, [], length, map, Option, None, ◌∙◌, sym, ap, append-nil}
 use Rattle.std.proofs.lemmas.List.{length-map}
 use Rattle.std.specs.Io.KnownBytes.{Appends}
 use Rattle.std.proofs.KnownBytes.{Appends-kept}

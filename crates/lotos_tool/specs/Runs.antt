@@ -1,5 +1,5 @@
 -- What a run of the command does, and the status that it ends with.
-use Rattle.std.specs.Prelude.{◌≡◌, ℕ, ◌⊎◌, ◌==◌, List, ◌++◌, Option, true, if◌then◌else◌}
+use Rattle.std.specs.Prelude.{◌≡◌, ℕ, ◌⊎◌, ◌==◌, List, Option, true, if◌then◌else◌}
 use Rattle.std.specs.Io.KnownBytes.{Appends, Keeps}
 use Rattle.clap.specs.Words.{Text, takes}
 use Rattle.lotos_tool.specs.Answers.{Answers, CheckAnswers}

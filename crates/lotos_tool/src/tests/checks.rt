@@ -265,7 +265,10 @@ fn the_output_fails_after_each_byte(rt: HostRuntime) {
 fn a_flush_that_fails_is_a_failed_write(rt: HostRuntime) {
     for (text, line) in [
         (TEXT, LINE),
-        (b"specification S : noexit behaviour stop endspec".as_slice(), b"".as_slice()),
+        (
+            b"specification S : noexit behaviour stop endspec".as_slice(),
+            b"".as_slice(),
+        ),
     ] {
         let reader = SliceReader::new(text, 4096);
         let mut out = ArrayWriter::new(4096);
@@ -273,7 +276,10 @@ fn a_flush_that_fails_is_a_failed_write(rt: HostRuntime) {
         let err = ArrayWriter::new(4096);
         let (status, _reader, out, err) = run_on(rt.alloc(), CHECK, reader, out, err);
         assert_eq!(rt; out.got(), line);
-        assert_eq!(rt; err.got(), b"lotosseq: output cannot be written\n".as_slice());
+        assert_eq!(rt;
+            err.got(),
+            b"lotosseq: output cannot be written\n".as_slice()
+        );
         assert_eq!(rt; status, 6);
         assert_eq!(rt; out.flushes, 1);
     }

@@ -77,7 +77,8 @@ fn forms_that_are_not_searched_yet(rt: HostRuntime) {
 
 #[test]
 fn processes_that_are_not_called_are_searched_around(rt: HostRuntime) {
-    let text = b"specification S [a] : noexit behaviour a; stop where process P : noexit := stop ||| P1 endproc process P1 : noexit := stop endproc endspec";
+    let text =
+        b"specification S [a] : noexit behaviour a; stop where process P : noexit := stop ||| P1 endproc process P1 : noexit := stop endproc endspec";
     expect(&rt, rt.alloc(), "processes", text, b"A\n", b"");
 }
 
