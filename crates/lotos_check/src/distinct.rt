@@ -45,82 +45,70 @@ fn repeated(alloc: Global, names: &[Placed]) -> Result<Option<Placed>, AllocErro
 #[cfg(test)]
 mod tests {
     use super::distinct;
-    use crate::fault::CheckFault;
     use lotos_text::parse;
     use std::test::Fail;
 
     #[test]
     fn refuses_the_first_name_that_is_declared_twice(rt: HostRuntime) -> Result<(), Fail> {
-        let rows: [(&str, &[u8], &str, &str, usize); 8] = [
+        let rows: [(&str, &[u8], &str, Option<usize>); 8] = [
             (
                 "two gates",
                 b"specification s[a, b] : noexit behaviour stop endspec",
                 "",
-                "",
-                0,
+                None,
             ),
             (
                 "a gate of the specification",
                 b"specification s[a, b, A] : noexit behaviour stop endspec",
-                "E20",
-                "A",
-                22,
+                "E20 gate A is declared twice",
+                Some(22),
             ),
             (
                 "a gate of a process",
                 b"specification s[a] : noexit behaviour stop where process p[b, b] : noexit := stop endproc endspec",
-                "E20",
-                "B",
-                62,
+                "E20 gate B is declared twice",
+                Some(62),
             ),
             (
                 "the gate of the outer list again in an inner one",
                 b"specification s[a] : noexit behaviour stop where process p[a] : noexit := stop endproc endspec",
                 "",
-                "",
-                0,
+                None,
             ),
             (
                 "a process of one where",
                 b"specification s : noexit behaviour stop where process p : noexit := stop endproc process P : noexit := stop endproc endspec",
-                "E24",
-                "P",
-                89,
+                "E24 process P is declared twice",
+                Some(89),
             ),
             (
                 "the process of the outer where again in an inner one",
                 b"specification s : noexit behaviour stop where process p : noexit := stop where process p : noexit := stop endproc endproc endspec",
                 "",
-                "",
-                0,
+                None,
             ),
             (
                 "a name before what is inside it",
                 b"specification s : noexit behaviour stop where process p : noexit := stop endproc process p[a, a] : noexit := stop endproc endspec",
-                "E24",
-                "P",
-                89,
+                "E24 process P is declared twice",
+                Some(89),
             ),
             (
                 "what is inside before the next name",
                 b"specification s : noexit behaviour stop where process p[a, a] : noexit := stop endproc process p : noexit := stop endproc endspec",
-                "E20",
-                "A",
-                59,
+                "E20 gate A is declared twice",
+                Some(59),
             ),
         ];
-        for (row, text, wanted, name, at) in &rows {
+        for (row, text, wanted, at) in &rows {
             let tree = parse(rt.alloc(), text)?;
-            let (code, found, place) = match distinct(rt.alloc(), &tree.whole) {
-                Ok(()) => ("", None, 0),
-                Err(CheckFault::E20(gate)) => ("E20", Some(gate.name), gate.at),
-                Err(CheckFault::E24(process)) => ("E24", Some(process.name), process.at),
-                Err(_) => ("another", None, 0),
-            };
-            assert_eq!(rt; code, *wanted, "the fault of {}", row);
-            assert_eq!(rt; place, *at, "the place of {}", row);
-            if let Some(found) = found {
-                assert_eq!(rt; found.text(), *name, "the name of {}", row);
+            match distinct(rt.alloc(), &tree.whole) {
+                Ok(()) => assert_eq!(rt; "", *wanted, "the fault of {}", row),
+                Err(fault) => {
+                    let told = fault.to_string(rt.alloc())?;
+                    assert_eq!(rt; told.as_str(), *wanted, "the fault of {}", row);
+                    assert_eq!(rt; fault.at(), *at, "the place of {}", row);
+                }
             }
         }
         Ok(())

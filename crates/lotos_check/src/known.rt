@@ -44,7 +44,6 @@ pub(crate) fn all_known(
 #[cfg(test)]
 mod tests {
     use super::{add, all_known};
-    use crate::fault::CheckFault;
     use indexmap::IndexSet;
     use lotos_text::parse;
     use std::test::Fail;
@@ -55,8 +54,11 @@ mod tests {
             rt.alloc(),
             b"specification s[a, b] : noexit behaviour stop where process p[b, c] : noexit := stop endproc endspec",
         )?;
+        let Some(process) = tree.whole.inner.first() else {
+            panic!(rt; "a process");
+        };
         let outer = tree.whole.formals.as_slice();
-        let inner = tree.whole.inner[0].formals.as_slice();
+        let inner = process.formals.as_slice();
         let mut known = IndexSet::new(rt.alloc());
         add(&mut known, outer)?;
         assert!(rt;
@@ -64,11 +66,16 @@ mod tests {
             "the gates that were added"
         );
         match all_known(rt.alloc(), &known, inner) {
-            Err(CheckFault::E21(gate)) => {
-                assert_eq!(rt; gate.name.text(), "C", "the gate that was not added");
-                assert_eq!(rt; gate.at, 65, "its place");
+            Err(fault) => {
+                let told = fault.to_string(rt.alloc())?;
+                assert_eq!(rt;
+                    told.as_str(),
+                    "E21 gate C is not declared",
+                    "the gate that was not added"
+                );
+                assert_eq!(rt; fault.at(), Some(65), "its place");
             }
-            _ => assert!(rt; false, "a gate that was not added"),
+            Ok(()) => assert!(rt; false, "a gate that was not added"),
         }
         add(&mut known, inner)?;
         assert_eq!(rt; known.len(), 3, "each gate once");
