@@ -2,6 +2,14 @@
 use Rattle.std.proofs.Common.{◌⊎◌, List, [], ◌∷◌, ◌++◌, inl, inr}
 use Rattle.lotos_check.specs.Names.{In}
 
+-- what holds of each member of a list, and of one that comes behind them, holds of each member of both together
+pub each_added : {X : Type 0} (P : X → Type 0) (xs : List X) (y : X) → ((x : X) → In x xs → P x) → P y → (x : X) →
+    In x (xs ++ y ∷ []) → P x
+each_added P [] y all last x (inl e) = rw (← e) last
+each_added P [] y all last x (inr i) = elim i [ ]
+each_added P (z ∷ zs) y all last x (inl e) = all x (inl e)
+each_added P (z ∷ zs) y all last x (inr i) = each_added P zs y (λ v j. all v (inr j)) last x i
+
 module _ {X : Type 0} (x : X) where
   -- a member of the first list is a member of both together
   pub in_front : (xs ys : List X) → In x xs → In x (xs ++ ys)

@@ -23,14 +23,17 @@ pub(crate) enum Ranking {
 
 /// A numbering of the processes that falls at every unguarded call, or the processes that cannot be numbered.
 ///
-/// Processes are numbered in rounds: each that calls only numbered ones is numbered next, until a round numbers none.
+/// A process is numbered when all that it calls are. They are taken in an order in which a process comes behind those
+/// that it calls, so that one pass numbers all that can be numbered. Rounds over all processes make sure of it, until a
+/// round numbers none.
 pub(crate) fn ranked(alloc: Global, processes: &[Process]) -> Result<Ranking, AllocError>
     requires { (p q : ℕ) → Calls (map process_of processes.now) p q → q < length processes.now }
     ensures { IfOk result (IsRanked (map process_of processes.now)) }
 {
     let edges = edges_of(alloc, processes)?;
+    let order = order_of(alloc, edges.as_slice())?;
     let mut ranks: Vec<Option<usize>> = vec![in alloc; None; processes.len()]?;
-    number(edges.as_slice(), ranks.as_mut_slice());
+    number(edges.as_slice(), order.as_slice(), ranks.as_mut_slice());
     let waiting = waiting_of(alloc, ranks.as_slice())?;
     if waiting.is_empty() {
         let numbers = numbers_of(alloc, ranks.as_slice())?;
@@ -80,13 +83,112 @@ fn add_unguarded(code: &Code, into: &mut Vec<usize>) -> Result<(), AllocError>
     }
 }
 
-/// Numbers processes in rounds, until a round numbers none.
-fn number(edges: &[Vec<usize>], ranks: &mut [Option<usize>])
+/// The processes that can be numbered, each behind those that it calls.
+///
+/// First come those that call none, then each one as soon as the last of its calls goes to a process in the order.
+fn order_of(alloc: Global, edges: &[Vec<usize>]) -> Result<Vec<usize>, AllocError>
+    ensures { IfOk result (λ v. (p : ℕ) → In p v.items → p < length edges.now) }
+{
+    let callers = callers_of(alloc, edges)?;
+    let mut left = calls_left(alloc, edges)?;
+    let mut order = ready_of(alloc, left.as_slice())?;
+    for place in 0..edges.len() {
+        if let Some(process) = order.get(place) {
+            if let Some(its_callers) = callers.get(*process) {
+                add_ready(its_callers.as_slice(), left.as_mut_slice(), &mut order)?;
+            }
+        }
+    }
+    Ok(order)
+}
+
+/// For each process, the processes that call it, each as often as it does.
+fn callers_of(alloc: Global, edges: &[Vec<usize>]) -> Result<Vec<Vec<usize>>, AllocError> {
+    let mut callers = empty_lists(alloc, edges.len())?;
+    for (process, calls) in edges.iter().enumerate() {
+        add_caller(process, calls.as_slice(), callers.as_mut_slice())?;
+    }
+    Ok(callers)
+}
+
+/// So many empty lists.
+fn empty_lists(alloc: Global, count: usize) -> Result<Vec<Vec<usize>>, AllocError> {
+    let mut lists = Vec::new(alloc);
+    for _ in 0..count {
+        lists.push(Vec::new(alloc))?;
+    }
+    Ok(lists)
+}
+
+/// Adds the caller to the callers of each process that it calls.
+fn add_caller(
+    caller: usize,
+    calls: &[usize],
+    callers: &mut [Vec<usize>],
+) -> Result<(), AllocError> {
+    for process in calls {
+        if let Some(list) = callers.get_mut(*process) {
+            list.push(caller)?;
+        }
+    }
+    Ok(())
+}
+
+/// For each process, how many calls it makes.
+fn calls_left(alloc: Global, edges: &[Vec<usize>]) -> Result<Vec<usize>, AllocError>
+    ensures { IfOk result (λ v. length v.items ≡ length edges.now) }
+{
+    let mut left = Vec::new(alloc);
+    for calls in edges {
+        left.push(calls.as_slice().len())?;
+    }
+    Ok(left)
+}
+
+/// The processes with no call left, ascending.
+fn ready_of(alloc: Global, left: &[usize]) -> Result<Vec<usize>, AllocError>
+    ensures { IfOk result (λ v. (p : ℕ) → In p v.items → p < length left.now) }
+{
+    let mut ready = Vec::new(alloc);
+    for (process, calls) in left.iter().enumerate() {
+        if *calls == 0 {
+            ready.push(process)?;
+        }
+    }
+    Ok(ready)
+}
+
+/// Takes one from each caller's calls left, and adds the caller to the order where that was the last.
+fn add_ready(
+    callers: &[usize],
+    left: &mut [usize],
+    order: &mut Vec<usize>,
+) -> Result<(), AllocError>
+    requires { (p : ℕ) → In p order.old.items → p < length left.old }
+    ensures { OnOk result ((p : ℕ) → In p order.new.items → p < length left.old) }
+{
+    for caller in callers {
+        if let Some(calls) = left.get_mut(*caller) {
+            *calls = calls.saturating_sub(1);
+            if *calls == 0 {
+                order.push(*caller)?;
+            }
+        }
+    }
+    Ok(())
+}
+
+/// Numbers processes along the order, then in rounds, until a round numbers none.
+///
+/// In the order a process comes behind those that it calls, so that the pass along it numbers all that can be numbered.
+/// The rounds make sure of it, and the first of them finds none left.
+fn number(edges: &[Vec<usize>], order: &[usize], ranks: &mut [Option<usize>])
     requires in_range { InRange (map (λ v. v.items) edges.now) }
     requires begin { Ordered (map (λ v. v.items) edges.now) ranks.old 0 }
+    requires within { (p : ℕ) → In p order.now → p < length edges.now }
     ensures { IsNumbered (map (λ v. v.items) edges.now) ranks.new }
 {
-    let mut next = 0;
+    let mut next = number_along(edges, order, ranks);
     loop {
         let more = round(edges, ranks, next);
         if more == next {
@@ -94,6 +196,20 @@ fn number(edges: &[Vec<usize>], ranks: &mut [Option<usize>])
         }
         next = more;
     }
+}
+
+/// Numbers each process that waits and calls only numbered ones, in this order. The answer is the next number.
+fn number_along(edges: &[Vec<usize>], order: &[usize], ranks: &mut [Option<usize>]) -> usize
+    requires in_range { InRange (map (λ v. v.items) edges.now) }
+    requires begin { Ordered (map (λ v. v.items) edges.now) ranks.old 0 }
+    requires within { (p : ℕ) → In p order.now → p < length edges.now }
+    ensures { Ordered (map (λ v. v.items) edges.now) ranks.new result }
+{
+    let mut next = 0;
+    for process in order {
+        next = try_number(edges, ranks, next, *process);
+    }
+    next
 }
 
 /// Numbers each process that waits and calls only numbered ones, in the order of the processes.

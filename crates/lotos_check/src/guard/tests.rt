@@ -3,7 +3,7 @@ ghost use Rattle.std.specs.Prelude.{◌≡◌, ◌<◌, ℕ, map, true};
 ghost use Rattle.lotos_check.specs.Names.{In};
 ghost use Rattle.lotos_check.specs.Guarding.{Lists};
 
-use super::{Ranking, add_unguarded, edges_of, ranked};
+use super::{Ranking, add_unguarded, edges_of, order_of, ranked};
 use crate::code::{Code, Process};
 use lotos_text::{Functionality, parse};
 use std::alloc::{AllocError, Global};
@@ -240,6 +240,77 @@ fn ranks_or_traps(rt: HostRuntime) -> Result<(), Fail> {
     for (words, count, calls, ranks, trapped) in &rows {
         let found = ranking(rt.alloc(), *count, calls)?;
         assert_ranking(&rt, words, found, ranks, trapped);
+    }
+    Ok(())
+}
+
+/// The number of the last process of a long chain.
+const LAST: usize = 299;
+
+#[test]
+fn ranks_or_traps_a_long_chain(rt: HostRuntime) -> Result<(), Fail> {
+    let mut calls = Vec::new(rt.alloc());
+    let mut falling = Vec::new(rt.alloc());
+    let mut all = Vec::new(rt.alloc());
+    for number in 0..LAST {
+        calls.push((number, Place::Bare, number + 1))?;
+        falling.push(LAST - number)?;
+        all.push(number)?;
+    }
+    falling.push(0)?;
+    all.push(LAST)?;
+    let chain = ranking(rt.alloc(), LAST + 1, calls.as_slice())?;
+    assert_ranking(&rt, "a chain of 300", chain, falling.as_slice(), &[]);
+    calls.push((LAST, Place::Bare, 0))?;
+    let cycle = ranking(rt.alloc(), LAST + 1, calls.as_slice())?;
+    assert_ranking(&rt, "a cycle of 300", cycle, &[], all.as_slice());
+    Ok(())
+}
+
+#[test]
+fn orders_callers_behind_their_calls(rt: HostRuntime) -> Result<(), Fail> {
+    let bare = Place::Bare;
+    let rows: [(&str, usize, &[(usize, Place, usize)], &[usize]); 6] = [
+        ("no process", 0, &[], &[]),
+        (
+            "a chain against the order",
+            3,
+            &[(0, bare, 1), (1, bare, 2)],
+            &[2, 1, 0],
+        ),
+        (
+            "a process that calls another twice",
+            2,
+            &[(0, bare, 1), (0, bare, 1)],
+            &[1, 0],
+        ),
+        (
+            "a process called by two, and one that calls both",
+            4,
+            &[(3, bare, 0), (3, bare, 2), (0, bare, 1), (2, bare, 1)],
+            &[1, 0, 2, 3],
+        ),
+        (
+            "a cycle, a process that calls into it, and one called from it",
+            4,
+            &[(0, bare, 1), (1, bare, 2), (2, bare, 1), (2, bare, 3)],
+            &[3],
+        ),
+        (
+            "a call of a process that calls itself, and one of another",
+            3,
+            &[(0, bare, 1), (0, bare, 2), (1, bare, 1)],
+            &[2],
+        ),
+    ];
+    for (words, count, calls, wanted) in &rows {
+        let mut processes = Vec::new(rt.alloc());
+        for number in 0..*count {
+            processes.push(process(rt.alloc(), number, calls)?)?;
+        }
+        let edges = edges_of(rt.alloc(), processes.as_slice())?;
+        let order = order_of(rt.alloc(), edges.as_slice())?;
+        assert_eq!(rt; order.as_slice(), *wanted, "the order of {}", words);
     }
     Ok(())
 }

@@ -8,14 +8,20 @@ use Rattle.lotos_check.proofs.guard.ranked.Goals as goal
 pub number-requires-clause-in_range : goal.number-requires-clause-in_range
 number-requires-clause-in_range c =
     let count = sym (length-map c.args.processes.now process_of) in
-    rw c.as_slice.ensures.value (in_range _ (map process_of c.args.processes.now) _ count c.in_ok-edges.ensures c.requires)
+    rw c.as_slice-2.ensures.value (in_range _ (map process_of c.args.processes.now) _ count c.in_ok-edges.ensures c.requires)
 
 pub number-requires-clause-begin : goal.number-requires-clause-begin
 number-requires-clause-begin c =
     let none : c.in_ok-ranks.ranks.items ≡ replicate (length c.args.processes.now) None = search rules in
     let count = sym (length-map c.args.processes.now process_of) in
     let begins = none_numbered _ (map process_of c.args.processes.now) _ count c.in_ok-edges.ensures in
-    rw (c.as_slice.ensures.value, c.as_mut_slice.ensures.value, none) begins
+    rw (c.as_slice-2.ensures.value, c.as_mut_slice.ensures.value, none) begins
+
+pub number-requires-clause-within : goal.number-requires-clause-within
+number-requires-clause-within c = λ p i.
+    let stands = rw c.as_slice-3.ensures.value at i in
+    let below = rw c.as_slice.ensures.value at (c.in_ok-order.ensures p stands) in
+    rw c.as_slice-2.ensures.value below
 
 pub returns-then-is_empty : goal.returns-then-is_empty
 returns-then-is_empty c =
@@ -24,7 +30,7 @@ returns-then-is_empty c =
     let sized = c.as_mut_slice.ensures.len in
     let whole = take_at ranks (drop (length ranks) c.in_ok-ranks.ranks.items) c.in_ok-ranks.ranks.len (omega arith) in
     let after : c.as_slice-then-is_empty.result.now ≡ ranks = rw whole at c.as_slice-then-is_empty.ensures.value in
-    let numbered = rw c.as_slice.ensures.value at c.number.ensures in
+    let numbered = rw c.as_slice-2.ensures.value at c.number.ensures in
     let numbers = rw after at c.in_ok-numbers.ensures in
     are_ranks _ (map process_of c.args.processes.now) ranks c.in_ok-edges.ensures numbered c.in_ok-numbers.numbers.items numbers
 
@@ -34,8 +40,8 @@ returns c =
     let kept = c.number.auto.ranks in
     let sized = c.as_mut_slice.ensures.len in
     let whole = take_at ranks (drop (length ranks) c.in_ok-ranks.ranks.items) c.in_ok-ranks.ranks.len (omega arith) in
-    let after : c.as_slice-2.result.now ≡ ranks = rw whole at c.as_slice-2.ensures.value in
-    let numbered = rw c.as_slice.ensures.value at c.number.ensures in
+    let after : c.as_slice-4.result.now ≡ ranks = rw whole at c.as_slice-4.ensures.value in
+    let numbered = rw c.as_slice-2.ensures.value at c.number.ensures in
     let waiting = rw after at c.in_ok-waiting.ensures in
     let found = c.in_ok-waiting.waiting.items in
     traps _ (map process_of c.args.processes.now) ranks c.in_ok-edges.ensures numbered found waiting (λ e.
