@@ -1,5 +1,5 @@
 -- The code of all definitions, from that of each in turn.
-use Rattle.std.proofs.Common.{◌≡◌, ℕ, ◌+◌, ◌<◌, ◌≤◌, List, [], ◌∷◌, ◌++◌, drop, length, map, refl, sym, ap, subst, ◌∙◌, append_assoc, append-nil, arith, zero, suc}
+use Rattle.std.proofs.Common.{◌≡◌, ℕ, ◌+◌, ◌<◌, List, [], ◌∷◌, ◌++◌, drop, length, refl, sym, ap, subst, ◌∙◌, append_assoc, append-nil, arith, zero, suc}
 use Rattle.std.proofs.lemmas.List.{drop_all}
 use Rattle.lotos_text.specs.Tree.{Def, name_of, formals_of, declared_of}
 use Rattle.lotos_text.specs.View.{definition_of}

@@ -1,6 +1,6 @@
 -- All definitions of a row, from those of its first and of the others.
-use Rattle.std.proofs.Common.{◌≡◌, ◌+◌, ◌++◌, ◌∷◌, [], List, refl, ap, sym, map, append_assoc, ◌∙◌}
-use Rattle.lotos_text.specs.Tree.{Def, def, Defs, no_defs, more_defs, name_of, formals_of, declared_of, inner_of}
+use Rattle.std.proofs.Common.{◌≡◌, ◌∷◌, refl}
+use Rattle.lotos_text.specs.Tree.{Def, def, inner_of}
 use Rattle.lotos_text.specs.View.{definition_of, definitions_of, tree_of, row_of}
 use Rattle.lotos_text.specs.declared.tree.Definition.{Definition, out-Definition, fold_out-Definition}
 use Rattle.lotos_check.specs.Scope.{definitions_in, row_in}

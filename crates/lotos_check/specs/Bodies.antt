@@ -1,5 +1,5 @@
 -- What stands anywhere in the behaviours of a system.
-use Rattle.std.specs.Prelude.{◌≡◌, ℕ, List, [], ◌∷◌, ◌++◌, Option, Some, slice_get}
+use Rattle.std.specs.Prelude.{◌≡◌, ℕ, List, ◌∷◌, ◌++◌, Option, Some, slice_get}
 use Rattle.lotos_check.specs.Names.{Name, In}
 use Rattle.lotos_check.specs.Flat.{Flat, prefix, choice, par, hide, enable, disable, call, FlatProcess, System}
 

@@ -6,7 +6,7 @@ use Rattle.lotos_check.specs.View.{flat_of, process_of}
 use Rattle.lotos_check.specs.declared.body.Resolved.{Resolved}
 use Rattle.lotos_check.specs.declared.code.Code.{Code}
 use Rattle.lotos_check.specs.declared.code.Process.{Process}
-use Rattle.lotos_check.specs.Causes.{IsDistinct, WellTyped, IsE20, IsE21, IsE22, IsE23, IsE24, IsE25, IsE26}
+use Rattle.lotos_check.specs.Causes.{WellTyped, IsE20, IsE21, IsE22, IsE23, IsE24, IsE25, IsE26}
 use Rattle.lotos_check.specs.Flat.{FlatProcess, System, IsFlat}
 use Rattle.lotos_check.specs.Guard.{Calls, IsGuarded, IsE27}
 use Rattle.lotos_check.specs.declared.fault.CheckFault.{CheckFault}

@@ -1,11 +1,11 @@
 -- What the tables of the code hold: the gates that are known, and the names that each `where` declares.
-use Rattle.std.specs.Prelude.{◌≡◌, ◌↔◌, ℕ, List, [], ◌∷◌, ◌++◌, map, Option, Some, None}
+use Rattle.std.specs.Prelude.{◌≡◌, ◌↔◌, ℕ, List, [], ◌∷◌, ◌++◌, map, Some, None}
 use Rattle.std.specs.HashMap.{HashMap, get_by}
 use Rattle.std.specs.Str.{bytes_eq}
 use Rattle.lotos_text.specs.Tree.{Def, Defs}
 use Rattle.lotos_text.specs.View.{definition_of}
 use Rattle.lotos_check.specs.Names.{Name, In}
-use Rattle.lotos_check.specs.Scope.{Scope, Where, Declares}
+use Rattle.lotos_check.specs.Scope.{Scope, Declares}
 use Rattle.lotos_check.specs.declared.table.Meaning.{Meaning}
 
 -- the keys are these names, whatever their order

@@ -1,5 +1,5 @@
 -- What the comparison of bodies with their definitions answers.
-use Rattle.std.specs.Prelude.{◌≡◌, ◌≢◌, ℕ, List, [], ◌∷◌, Some, None, slice_get}
+use Rattle.std.specs.Prelude.{◌≡◌, ◌≢◌, ℕ, List, Some, None, slice_get}
 use Rattle.lotos_text.specs.Tree.{Def, name_of, declared_of}
 use Rattle.lotos_check.specs.declared.body.Resolved.{Resolved}
 use Rattle.lotos_check.specs.declared.fault.CheckFault.{CheckFault}

@@ -1,9 +1,10 @@
 //! The static rules of basic LOTOS.
 //!
-//! Basic LOTOS is the part of ISO 8807:1989 without data types. Here are the passes over a tree that `lotos_text` reads: names
-//! that are declared twice; the names of each body, with its calls by number; functionalities; guarded recursion. The call that
-//! joins them is to come, so nothing uses this crate yet. The definitions that the contracts cite stand in `specs/`, and the
-//! laws over them in [`laws`].
+//! Basic LOTOS is the part of ISO 8807:1989 without data types. [`check`] takes a tree that `lotos_text` reads and answers it
+//! as [`Checked`], with its processes numbered and its calls by number, or the first [`CheckFault`]: a name that is declared
+//! twice; a name that is not declared, or a call with another number of gates; a functionality that is not the declared one;
+//! recursion that is not guarded. The definitions that the contracts cite stand in `specs/`, and the laws over them in
+//! [`laws`].
 #![tactic(auto)]
 
 mod body;

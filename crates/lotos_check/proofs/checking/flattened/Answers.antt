@@ -1,12 +1,12 @@
-use Rattle.std.proofs.Common.{map, ◌≡◌, ◌∷◌, [], ◌<◌, length, sym, ap, subst, ◌∙◌, arith, refl, List}
+use Rattle.std.proofs.Common.{map, ◌≡◌, ◌∷◌, [], ◌<◌, length, sym, ap, ◌∙◌, arith, refl, List}
 use Rattle.std.proofs.lemmas.List.{length-map}
-use Rattle.std.specs.Vec.Iter.{into_iter_items, into_iter_len}
+use Rattle.std.specs.Vec.Iter.{into_iter_items}
 use Rattle.lotos_text.specs.View.{definition_of}
 use Rattle.lotos_text.specs.declared.tree.Definition.{out-Definition}
 use Rattle.lotos_check.specs.Names.{texts}
 use Rattle.lotos_check.specs.declared.code.Process.{Process}
 use Rattle.lotos_check.proofs.Pairs.{drop_seen}
-use Rattle.lotos_check.proofs.Flattening.{Flattens, flattens_none, flattens_first_step, flattens_more_step, flattens_all, made_of}
+use Rattle.lotos_check.proofs.Flattening.{flattens_none, flattens_first_step, flattens_more_step, flattens_all, made_of}
 use Rattle.lotos_check.proofs.checking.flattened.Goals as goal
 use Rattle.lotos_check.proofs.checking.flattened.Goals.{then-index-eq0, else-index-eq0+in_ok-copy+in_ok-names+in_ok-push}
 

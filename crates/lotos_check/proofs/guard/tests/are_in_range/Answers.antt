@@ -1,4 +1,4 @@
-use Rattle.std.proofs.Common.{rules, ◌≡◌, ◌<◌, ℕ, map, true, length, arith, below_more}
+use Rattle.std.proofs.Common.{rules, ◌≡◌, ◌<◌, ℕ, map, true, arith, below_more}
 use Rattle.std.proofs.lemmas.List.{length-map}
 use Rattle.std.proofs.lemmas.Option.{slice_get_within}
 use Rattle.lotos_check.specs.Guarding.{Lists}

@@ -1,4 +1,4 @@
-use Rattle.std.proofs.Common.{rules, ◌≡◌, ◌<◌, true, length}
+use Rattle.std.proofs.Common.{rules, ◌≡◌, true}
 use Rattle.lotos_check.proofs.CallLists.{calls_list}
 use Rattle.lotos_check.proofs.guard.tests.ranking.Goals as goal
 
