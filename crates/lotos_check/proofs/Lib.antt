@@ -33,3 +33,4 @@ pub mod Joined
 pub mod CalledProcesses
 pub mod TwiceNamed
 pub mod RankedCalls
+pub mod Kept

@@ -2,7 +2,7 @@
 use Rattle.std.specs.Prelude.{◌≡◌, ℕ, ◌<◌, List, [], ◌∷◌, length, slice_get, Some}
 use Rattle.lotos_text.specs.Tree.{Def, name_of, formals_of, declared_of}
 use Rattle.lotos_check.specs.Names.{texts}
-use Rattle.lotos_check.specs.View.{flat_of, process_of}
+use Rattle.lotos_check.specs.Shown.{flat_of, process_of}
 use Rattle.lotos_check.specs.declared.body.Resolved.{Resolved}
 use Rattle.lotos_check.specs.declared.code.Code.{Code}
 use Rattle.lotos_check.specs.declared.code.Process.{Process}

@@ -6,8 +6,10 @@ pub mod Causes
 pub mod Flat
 pub mod Guard
 pub mod Bodies
-pub mod View
+pub mod Shown
 pub mod Checking
+pub mod Kept
+pub mod View
 pub mod Places
 pub mod Resolved
 pub mod Table

@@ -1,6 +1,7 @@
 //! Checked specifications.
 ghost use Rattle.std.specs.Prelude.{◌≡◌, ◌<◌, Some, length, map, slice_get};
-ghost use Rattle.lotos_check.specs.View.{flat_of, process_of, ranks_of, system_of};
+ghost use Rattle.lotos_check.specs.Shown.{flat_of, process_of};
+ghost use Rattle.lotos_check.specs.Kept.{Keeps};
 
 use crate::code::{Code, Process};
 use lotos_text::Name;
@@ -13,9 +14,12 @@ pub struct Checked {
     pub(crate) start: Code,
     pub(crate) processes: Vec<Process>,
     pub(crate) ranks: Vec<usize>,
+    ghost kept: { ∥ Keeps (record { formals = gates.items; start = flat_of start; processes = map process_of processes.items }) ranks.items ∥₁ },
 }
 
 impl Checked {
+    ghost use Rattle.lotos_check.specs.View.{ranks_of, system_of};
+
     /// The formal gates of the specification, in their order.
     pub fn gates(&self) -> &[Name]
         ensures { result.now ≡ (system_of self.now).formals }
@@ -40,7 +44,7 @@ impl Checked {
     /// A number for a process of this system, by its own number: every unguarded call in its body goes to a process of
     /// smaller rank.
     pub fn rank(&self, process: usize) -> usize
-        requires { process < length (ranks_of self.now) }
+        requires { process < length (system_of self.now).processes }
         ensures { slice_get (ranks_of self.now) process ≡ Some result }
     {
         self.ranks[process]

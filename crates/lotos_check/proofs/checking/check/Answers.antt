@@ -1,10 +1,11 @@
 use Rattle.std.proofs.Common.{rules, ◌≡◌, ◌<◌, [], ℕ, length, map, ◌∙◌, arith, ap}
+use Rattle.std.proofs.lemmas.Grind.{merely}
 use Rattle.lotos_text.specs.Inside.{IsInside}
 use Rattle.lotos_text.specs.View.{definition_of}
 use Rattle.lotos_check.specs.Names.{texts}
 use Rattle.lotos_check.specs.Scope.{definitions_in, everywhere}
 use Rattle.lotos_check.specs.Flat.{IsFlat}
-use Rattle.lotos_check.specs.Checking.{IsFaulty, IsRefused}
+use Rattle.lotos_check.specs.Checking.{IsAccepted, IsFaulty, IsRefused}
 use Rattle.lotos_check.specs.Places.{StandsInside}
 use Rattle.lotos_check.specs.Resolved.{Adds}
 use Rattle.lotos_check.specs.View.{flat_of, process_of}
@@ -15,7 +16,7 @@ use Rattle.lotos_check.proofs.Faults.{repeat_faulty, misnamed_faulty, untyped_fa
 use Rattle.lotos_check.proofs.FaultPlaces.{faulty_inside}
 use Rattle.lotos_check.proofs.Rules.{walked, well_typed}
 use Rattle.lotos_check.proofs.Joined.{inner_below, found_length, trap_below, trap_joined, flat_joined, calls_below, guarded_by}
-use Rattle.lotos_check.proofs.checking.check.Goals.{In_ok-add_all, After-as_slice-2, After-as_slice-5}
+use Rattle.lotos_check.proofs.checking.check.Goals.{In_ok-add_all, In-Guarded, After-as_slice-2, After-as_slice-5}
 use Rattle.lotos_check.proofs.checking.check.Goals as goal
 
 -- the list has all definitions of the specification
@@ -104,10 +105,15 @@ ranked-requires c =
     rw c.as_slice-5.ensures.value
     (calls_below (definition_of c.args.tree.whole) c.in_ok-gates.gates.items c.in_ok-start.start c.in_ok-start.processes.items (flat c))
 
-pub returns-in-Guarded-clause-accepted : goal.returns-in-Guarded-clause-accepted
-returns-in-Guarded-clause-accepted c =
+-- the specification is accepted, with that code
+accepted : (c : In-Guarded) → IsAccepted (definition_of c.args.tree.whole) (record {
+  formals = c.in_ok-gates.gates.items;
+  start = flat_of c.in_ok-start.start;
+  processes = map process_of c.in_ok-start.processes.items;
+})
+accepted c =
     let whole = definition_of c.args.tree.whole in
-    let at = goal.at.returns-in-Guarded-clause-accepted c in
+    let at = goal.at.In-Guarded c in
     let found = c.walk.new.into.items in
     let system = flat at.After-as_slice-5 in
     let typed = rw (c.as_slice.ensures.value, listed at.In_ok-add_all, c.as_slice-2.ensures.value) at c.in_ok-typed.ensures.typed in
@@ -117,6 +123,18 @@ returns-in-Guarded-clause-accepted c =
       flat = system;
       guarded = guarded_by whole _ c.in-Guarded.ranks.items system ranks;
     }
+
+pub invariant_of-result : goal.invariant_of-result
+invariant_of-result c = record {
+  kept = merely (record {
+    whole = definition_of c.args.tree.whole;
+    accepted = accepted (goal.at.invariant_of-result c).In-Guarded;
+    ranked = rw (c.in-Guarded.is, c.as_slice-5.ensures.value) at c.in_ok-ranks.ensures;
+  });
+}
+
+pub returns-in-Guarded-clause-accepted : goal.returns-in-Guarded-clause-accepted
+returns-in-Guarded-clause-accepted c = accepted (goal.at.returns-in-Guarded-clause-accepted c).In-Guarded
 
 pub overflow_add-index : goal.overflow_add-index
 overflow_add-index c =
