@@ -34,9 +34,10 @@ impl Checked {
         self.processes.as_slice()
     }
 
-    /// The behaviour of the specification.
+    /// The behaviour of the specification, which with the processes meets the static rules.
     pub fn start(&self) -> &Code
-        ensures { flat_of result.now ≡ (system_of self.now).start }
+        ensures start { flat_of result.now ≡ (system_of self.now).start }
+        ensures kept { ∥ Keeps (system_of self.now) (ranks_of self.now) ∥₁ }
     {
         &self.start
     }
