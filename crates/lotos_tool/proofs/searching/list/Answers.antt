@@ -8,7 +8,7 @@ returns-clause-answers g c =
     let found = c.in-Ok-read_specification.ensures.accepted in
     let pattern = rw c.as_slice.ensures.value at c.in-Ok.ensures.pattern in
     let searched = rw c.start.ensures.start at (c.if-not-is_sequential.ensures.0 refl) in
-    let shows = rw (c.as_slice-2.ensures.value, c.start-2.ensures) at c.can_show-shown.ensures in
+    let shows = rw (c.as_slice-2.ensures.value, c.start-2.ensures.start) at c.can_show-shown.ensures in
     let listed = rw c.as_slice-3.ensures.value at c.write_listing.ensures.listed in
     answers c.args.request.now _ _ _ _ (system_of c.in-Ok-read_specification.found) c.in-Ok.labels.items c.can_show-shown.result
     c.write_listing.result
