@@ -53,14 +53,6 @@ rest_of text at = take (length text - at) (drop at text)
 pub rest_is : (text : List ℕ) (at : ℕ) → rest_of text at ≡ drop at text
 rest_is text at = take_all (length text - at) (drop at text) (omega (arith, length-drop at text))
 
--- none stands before the bytes behind the opening
-pub none_at_start : (text : List ℕ) → Begins opening text → NoneBefore text 2
-none_at_start text b = record {
-  behind_opening = omega arith;
-  inside = omega (arith, ap length b.1);
-  none = λ k h l c. omega (arith, h, l);
-}
-
 -- where none stands at the offset either, none stands before the one behind it
 pub none_step : (text : List ℕ) (at : ℕ) → NoneBefore text at → at < length text → starts_with nat_eq (rest_of text at) closing ≡ false →
     NoneBefore text (at + 1)

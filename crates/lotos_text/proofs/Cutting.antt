@@ -58,13 +58,10 @@ mark_some : (sign : Sign) → 0 < length (spelled sign)
 mark_some s.Semicolon = omega arith
 mark_some _ = omega arith
 
--- a token has a byte at least, and so has a comment
+-- a token has a byte at least
 pub token_some : {text : List ℕ} {n : ℕ} {kind : TokenKind} → Front text (a_token n kind) → 0 < n
 token_some (a_word found rest e i f) = word_some found i
 token_some (a_mark sign rest e i) = mark_some sign
-
-pub comment_front_some : {text : List ℕ} {n : ℕ} → Front text (Comment n) → 0 < n
-comment_front_some (a_comment piece rest e i) = comment_some piece i
 
 -- a text with a piece at its front is not empty
 pub front_some : {text : List ℕ} {p : Piece} → Front text p → 0 < length text

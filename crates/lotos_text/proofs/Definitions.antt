@@ -5,7 +5,7 @@ use Rattle.lotos_text.specs.Tree.{Tree, Def, Defs}
 use Rattle.lotos_text.specs.Grammar.{Is, placed, GateList, Declares, enabling, Defined, a_specification, a_process, opening_word, defining_sign, closing_word, Defines, definition, Rest, nothing, definitions, Several, last, another, Specifies}
 use Rattle.lotos_text.specs.Follow.{kind_rank, rank}
 use Rattle.lotos_text.specs.Parsing.{Part, Limit, Within, NotFirst}
-use Rattle.lotos_text.specs.Parts.{Then, Expression, Declared, Heading, Header, Body, Row, Inner, no_inner, some_inner, defined, Contents, Definition, Nothing, Whole}
+use Rattle.lotos_text.specs.Parts.{Then, Expression, Declared, Heading, Header, Body, Row, Inner, no_inner, some_inner, defined, Contents, Definition}
 use Rattle.lotos_text.specs.declared.token.Token.{Token}
 use Rattle.lotos_text.specs.declared.token.TokenKind.TheVariants.{Identifier, Reserved, Sign}
 use Rattle.lotos_text.specs.declared.token.Word.TheVariants as w
@@ -16,7 +16,7 @@ use Rattle.lotos_text.proofs.Firmness.{FirmWithin, firm_always, firm_then_within
 use Rattle.lotos_text.proofs.FirstToken.{head_same, tail_same, not_first, is_first, starts_not}
 use Rattle.lotos_text.proofs.Levels.{rank_none, rank_is}
 use Rattle.lotos_text.proofs.NameLists.{unique_gates}
-use Rattle.lotos_text.proofs.OneToken.{same_functionality, firm_nothing, behind as behind_token, uncover}
+use Rattle.lotos_text.proofs.OneToken.{same_functionality, behind as behind_token, uncover}
 use Rattle.lotos_text.proofs.Unique.{unique}
 
 -- four lists before a fifth
@@ -192,11 +192,6 @@ module _ (text : List ℕ) where
   -- so is a definition
   pub firm_definition : (what : Defined) → FirmWithin (Definition text what)
   firm_definition what = firm_behind_within (opening_word what) (Contents text what) (firm_contents what)
-
-  -- so is the whole
-  pub firm_whole : FirmWithin (Whole text)
-  firm_whole = firm_then_within (λ whole end. whole) (Definition text a_specification) (λ _. Nothing)
-      (firm_definition a_specification) (firm_always Nothing firm_nothing)
 
   -- headers as parts
 

@@ -24,10 +24,6 @@ FirmWithin {A} P = (l m : Limit) (a b r more q : List Token) (x y : A) → P l a
 pub firm_always : {A : Type 0} (P : Part A) → Firm P → FirmWithin (λ _. P)
 firm_always P firm l m a b r more q x y p st o e = firm a b r more q x y p st o e
 
--- within one limit the part is the only one
-pub firm_at : {A : Type 0} (P : Limit → Part A) → FirmWithin P → (l : Limit) → Firm (P l)
-firm_at P firm l a b r more q x y p st o e = firm l l a b r more q x y p st o e
-
 -- the first part is found within one limit, and the second is lost: both are lost within the other limit
 pub lost_after : {A B C : Type 0} (together : A → B → C) (P : Limit → Part A) (Q : Part B) (l m : Limit) → FirmWithin P →
     (ts between rest : List Token) (x : A) → Found (P l) ts x between → Lost Q between rest → Lost (Then together (P m) Q) ts rest

@@ -130,9 +130,6 @@ module _ (text : List ℕ) where
 
   -- so each of these parts is the only one
 
-  pub firm_sync_list : Firm (SyncList text)
-  firm_sync_list a b r more q x y p st o e = unique_sync_list more q p o e
-
   pub firm_names : Firm (NameList text)
   firm_names a b r more q x y p st o e = unique_names more q p.names o.names e (starts_not _ r more st p.quits) o.quits
 

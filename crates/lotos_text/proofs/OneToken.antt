@@ -1,14 +1,12 @@
 -- Parts of one token, and of none: what is found and lost, and that each is the only one.
 use Rattle.std.proofs.Common.{◌≡◌, ℕ, List, [], ◌∷◌, ◌++◌, refl, sym, ◌∙◌, ap, subst}
-use Rattle.lotos_text.specs.Grammar.{Is, placed, Acts, gate, internal, Declares, exits, never_exits}
+use Rattle.lotos_text.specs.Grammar.{Is, placed, Declares, exits, never_exits}
 use Rattle.lotos_text.specs.Parsing.{Part, NotFirst, Found, Lost, Starts}
-use Rattle.lotos_text.specs.Parts.{One, Behind, Before, Name, Act, Declared, Nothing}
+use Rattle.lotos_text.specs.Parts.{One, Behind, Before, Name, Declared, Nothing}
 use Rattle.lotos_text.specs.declared.token.Token.{Token}
 use Rattle.lotos_text.specs.declared.token.TokenKind.{TokenKind}
 use Rattle.lotos_text.specs.declared.token.TokenKind.TheVariants.{Identifier, Reserved}
 use Rattle.lotos_text.specs.declared.token.Word.TheVariants as w
-use Rattle.lotos_text.specs.declared.tree.Action.{Action}
-use Rattle.lotos_text.specs.declared.tree.Action.TheVariants.{Gate}
 use Rattle.lotos_text.specs.declared.tree.Functionality.{Functionality}
 use Rattle.lotos_text.specs.declared.tree.Placed.{Placed}
 use Rattle.lotos_text.proofs.FirstToken.{head_same, tail_same, apart, not_first, starts_not, starts_behind}
@@ -79,13 +77,6 @@ lost_declared ts rest h l = record {
         (Is n (Reserved w.NoexitWord) → ⊥) → E → ⊥
     neither (exits i) h g e = h i e
     neither (never_exits i) h g e = g i
-
-pub firm_nothing : Firm Nothing
-firm_nothing a b r more q x y p st o e = record {
-  tokens = p.empty ∙ sym o.empty;
-  said = refl;
-  rest = sym (ap (λ l. l ++ more) p.empty) ∙ e ∙ ap (λ l. l ++ q) o.empty;
-}
 
 pub found_nothing : Found Nothing [] tt []
 found_nothing = record { front = []; joined = refl; whole = record { empty = refl; last = refl } }
@@ -196,24 +187,5 @@ module _ (text : List ℕ) where
       record {
         tokens = (let i = p.joined in let j = o.joined in let l = head_same h in cc);
         said = p.same ∙ ap (placed text) (head_same h) ∙ sym o.same;
-        rest = tail_same h;
-      }
-
-  -- one token is one action
-  pub same_act : {n m : Token} {a b : Action} → Acts text n a → Acts text m b → n ≡ m → a ≡ b
-  same_act (gate i) (gate j) e = ap (λ n. Gate (placed text n)) e
-  same_act (gate i) (internal j) e = absurd (apart i j e (λ e. cc))
-  same_act (internal i) (gate j) e = absurd (apart i j e (λ e. cc))
-  same_act (internal i) (internal j) e = refl
-
-  pub found_act : (ts : List Token) (n : Token) (a : Action) → Acts text n a → Found (Act text) (n ∷ ts) a ts
-  found_act ts n a i = record { front = n ∷ []; joined = refl; whole = record { token = n; joined = refl; acts = i } }
-
-  pub firm_act : Firm (Act text)
-  firm_act a b r more q x y p st o e =
-      let h = same_token a b more q p.token o.token p.joined o.joined e in
-      record {
-        tokens = (let i = p.joined in let j = o.joined in let l = head_same h in cc);
-        said = same_act p.acts o.acts (head_same h);
         rest = tail_same h;
       }

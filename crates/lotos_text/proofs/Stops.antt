@@ -39,13 +39,7 @@ pub still_found : {T E : Type 0} (P Q : T → Type 0) (r : Result T E) → ((x :
 still_found P Q (Ok x) to p = to x p
 still_found P Q (Err e) to p = tt
 
--- the answer is passed on, and the whole is lost where it stopped
-pub still_lost : {A B T : Type 0} (P : Part A) (Q : Part B) (ts us : List Token) (r : Result T Stop) →
-    ((rest : List Token) → Lost P ts rest → Lost Q us rest) → IfErr r (IsLost P ts) → IfErr r (IsLost Q us)
-still_lost P Q ts us (Ok x) to l = tt
-still_lost P Q ts us (Err e) to l = stopped P Q ts us to e l
-
--- the same of a part that takes no memory, in one that may
+-- A `?` passes on where a part that takes no memory stopped, and a whole that may take some is lost there too.
 pub missed_on : {A B T : Type 0} (P : Part A) (Q : Part B) (ts us : List Token) →
     ((rest : List Token) → Lost P ts rest → Lost Q us rest) → (r : Result T Stop) (e : Stop) → IsErrAnd r (λ y. y ≡ e) →
     IsMissed P ts e → IfErr r (IsLost Q us)

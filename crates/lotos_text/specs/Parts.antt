@@ -2,7 +2,7 @@
 use Rattle.std.specs.Prelude.{◌≡◌, ◌<◌, ℕ, Bool, List, [], ◌∷◌, ◌++◌}
 use Rattle.lotos_text.specs.Tree as t
 use Rattle.lotos_text.specs.Tree.{Tree, Def, Defs}
-use Rattle.lotos_text.specs.Grammar.{Is, Acts, Declares, GateList, Level, enabling, Names, Operates, Operator, Spells, Defined, a_specification, opening_word, defining_sign, closing_word, Several, placed}
+use Rattle.lotos_text.specs.Grammar.{Is, Declares, GateList, Level, enabling, Names, Operates, Operator, Spells, Defined, a_specification, opening_word, defining_sign, closing_word, Several, placed}
 use Rattle.lotos_text.specs.Follow.{bound, rank}
 use Rattle.lotos_text.specs.Parsing.{Part, Limit, Within, NotFirst}
 use Rattle.lotos_text.specs.declared.token.Token.{Token}
@@ -10,7 +10,6 @@ use Rattle.lotos_text.specs.declared.token.TokenKind.{TokenKind}
 use Rattle.lotos_text.specs.declared.token.TokenKind.TheVariants.{Identifier, Reserved, Sign}
 use Rattle.lotos_text.specs.declared.token.Word.TheVariants as w
 use Rattle.lotos_text.specs.declared.token.Sign.TheVariants as s
-use Rattle.lotos_text.specs.declared.tree.Action.{Action}
 use Rattle.lotos_text.specs.declared.tree.Functionality.{Functionality}
 use Rattle.lotos_text.specs.declared.tree.Placed.{Placed}
 
@@ -78,12 +77,6 @@ pub record Expression (text : List ℕ) (level : Level) (limit : Limit) (own : L
   pub spells : Spells text level ends nesting own said
   pub quits : rank behind < bound level ends
   pub within : Within limit nesting
-
--- one token that is an action
-pub record Act (text : List ℕ) (own : List Token) (said : Action) (behind : List Token) : Type 0 where
-  pub token : Token
-  pub joined : own ≡ token ∷ []
-  pub acts : Acts text token said
 
 -- one token that is a functionality
 pub record Declared (own : List Token) (said : Functionality) (behind : List Token) : Type 0 where
