@@ -1,0 +1,6 @@
+pub mod Labels
+pub mod Patterns
+pub mod Spelling
+pub mod Faults
+pub mod Places
+pub mod Elements
