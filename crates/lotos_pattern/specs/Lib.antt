@@ -4,3 +4,5 @@ pub mod Spelling
 pub mod Faults
 pub mod Places
 pub mod Elements
+pub mod Taking
+pub mod Meaning

@@ -36,3 +36,14 @@ impl From<AllocError> for PatternFault {
         PatternFault::E99(error)
     }
 }
+
+impl<T: Drop> From<AllocFailed<T>> for PatternFault {
+    ghost use Rattle.std.specs.Prelude.{◌≡◌, alloc_error};
+    ghost use Rattle.lotos_pattern.specs.declared.fault.PatternFault.TheVariants.{E99};
+
+    ghost from_gives = { λ _ fault. fault ≡ E99 alloc_error };
+
+    fn from(_error: AllocFailed<T>) -> PatternFault {
+        PatternFault::E99(AllocError)
+    }
+}

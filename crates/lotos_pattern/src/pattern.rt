@@ -1,12 +1,12 @@
 //! Patterns, and how a sequence stands to one.
-ghost use Rattle.std.specs.Prelude.{◌≡◌, ◌≢◌, ◌∷◌, ◌++◌, [], List, MatchOption, IfErr, IfOk};
+ghost use Rattle.std.specs.Prelude.{◌∷◌, ◌++◌, [], List, IfErr, IfOk, MatchBool, MatchOption, drop};
 ghost use Rattle.lotos_pattern.specs.Labels.{Label};
-ghost use Rattle.lotos_pattern.specs.Patterns.{Viable};
+ghost use Rattle.lotos_pattern.specs.Patterns.{IsJoin, Segment, Viable};
 ghost use Rattle.lotos_pattern.specs.Spelling.{PatternOf, texts_of};
 ghost use Rattle.lotos_pattern.specs.Faults.{IsCause, SpellsNone};
 ghost use Rattle.lotos_pattern.specs.Places.{Accepts, Stands};
 
-use crate::element::Element;
+use crate::element::{Element, Taking, ends_dead};
 use crate::fault::PatternFault;
 use crate::place::{End, Place};
 use crate::reading::read_elements;
@@ -49,14 +49,48 @@ impl Pattern {
     pub fn begin(&self) -> Place
         ensures begins { Stands self.now [] result }
         ensures viable { Viable self.now [] }
+    {
+        let _ = &self.elements;
+        Place::behind(0)
+    }
 
     /// The place behind one more label, given by its printed text; none where no sequence that the pattern matches goes on so.
     pub fn step(&self, place: Place, label: &str) -> Option<Place>
         ensures { (r : List Label) → Stands self.now r place →
             MatchOption result (Viable self.now (r ++ label.now ∷ []) → ⊥)
                 (λ q. Viable self.now (r ++ label.now ∷ []) × Stands self.now (r ++ label.now ∷ []) q) }
+    {
+        if label == "i" {
+            return None;
+        }
+        let done = place.done();
+        match self.elements.get(done)?.take(label) {
+            Taking::Passes => Some(Place::behind(done + 1)),
+            Taking::Stays => Some(place),
+            Taking::Fails => None,
+        }
+    }
 
     /// Whether the sequence whose place this is may end there.
     pub fn accepts(&self, place: Place) -> End
         ensures { (r : List Label) → Stands self.now r place → Accepts self.now r result }
+    {
+        if !self.may_end(place) {
+            End::No
+        } else if ends_dead(self.elements.as_slice()) {
+            End::IfDead
+        } else {
+            End::Yes
+        }
+    }
+
+    /// Whether the elements from the place on match no label at all.
+    fn may_end(&self, place: Place) -> bool
+        ensures { MatchBool result (IsJoin Segment (drop place self.now) []) (IsJoin Segment (drop place self.now) [] → ⊥) }
+    {
+        match self.elements.get(place.done()) {
+            Some(element) => element.is_end(),
+            None => true,
+        }
+    }
 }
