@@ -47,10 +47,10 @@ pub one_more : (words : List Text) (place behind : ℕ) (p : List Element) (e : 
 one_more words place behind p e spelled has next = record {
   spelled = subst (IsJoin Spelling (p ++ e ∷ [])) (sym next.stands) (joined_more p e (take place words) next.own spelled.spelled next.spelling);
   short =
-    let long : length (p ++ e ∷ []) ≡ length p + 1 = length-append p (e ∷ []) in
-    let short = spelled.short in
-    let room = has.room in
-    omega arith;
+      let long : length (p ++ e ∷ []) ≡ length p + 1 = length-append p (e ∷ []) in
+      let short = spelled.short in
+      let room = has.room in
+      omega arith;
   ends_last = ends_last_more p e spelled.ends_last has.goes_on;
 }
 
