@@ -43,8 +43,8 @@ impl Element {
                 }
             }
             Element::Any => Taking::Passes,
-            Element::Until(own) => {
-                if own.as_str() == label {
+            Element::Until(last) => {
+                if last.as_str() == label {
                     Taking::Passes
                 } else {
                     Taking::Stays

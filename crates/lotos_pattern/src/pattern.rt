@@ -50,6 +50,7 @@ impl Pattern {
         ensures begins { Stands self.now [] result }
         ensures viable { Viable self.now [] }
     {
+        // That the elements make a pattern is known where one of the fields is read.
         let _ = &self.elements;
         Place::behind(0)
     }
@@ -84,7 +85,7 @@ impl Pattern {
         }
     }
 
-    /// Whether the elements from the place on match no label at all.
+    /// Whether the elements from the place on match the sequence without labels.
     fn may_end(&self, place: Place) -> bool
         ensures { MatchBool result (IsJoin Segment (drop place self.now) []) (IsJoin Segment (drop place self.now) [] → ⊥) }
     {
