@@ -9,6 +9,7 @@ use Rattle.lotos_pattern.specs.declared.fault.PatternFault.TheVariants.{E41, E42
 use Rattle.lotos_pattern.specs.declared.reading.Meaning.{Meaning}
 use Rattle.lotos_pattern.specs.declared.reading.Meaning.TheVariants as meaning
 
+-- the word has this meaning
 abbrev pub IsMeaning : Text → Meaning → Type 0
 IsMeaning word (meaning.Label text) = Names word (string_bytes text)
 IsMeaning word meaning.Internal = IsInternal word
