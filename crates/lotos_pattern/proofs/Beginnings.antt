@@ -27,13 +27,13 @@ record NoEnding (word : Text) : Type 0 where
 internal_no_beginning : (word : Text) → IsInternal word → NoBeginning word
 internal_no_beginning word is = record {
   label = λ (l, n). n.observable is;
-  any = apart word word internal (codes "<any>") refl (λ h. absurd (omega arith)) is;
-  until = apart word word internal (codes "<until>") refl (λ h. absurd (omega arith)) is;
-  deadlock = apart word word internal (codes "<deadlock>") refl (λ h. absurd (omega arith)) is;
+  any = apart word word internal (codes "<any>") refl (λ h. cc) is;
+  until = apart word word internal (codes "<until>") refl (λ h. cc) is;
+  deadlock = apart word word internal (codes "<deadlock>") refl (λ h. cc) is;
 }
 
 -- a word in angle brackets that is not `<deadlock>` ends no element
-angle_ends_none : (word rest : Text) → length (codes "<deadlock>") ≢ length (60 ∷ rest) → length internal ≢ length (60 ∷ rest) → Reads word (60 ∷ rest) → EndsNone word
+angle_ends_none : (word rest : Text) → codes "<deadlock>" ≢ 60 ∷ rest → internal ≢ 60 ∷ rest → Reads word (60 ∷ rest) → EndsNone word
 angle_ends_none word rest no_deadlock no_internal is = record {
   label = λ (l, n). label_no_angle word word rest l refl n is;
   internal = λ h. apart word word internal (60 ∷ rest) refl no_internal h is;
@@ -41,10 +41,10 @@ angle_ends_none word rest no_deadlock no_internal is = record {
 }
 
 pub any_ends_none : (word : Text) → Reads word (codes "<any>") → EndsNone word
-any_ends_none word is = angle_ends_none word _ (λ h. absurd (omega arith)) (λ h. absurd (omega arith)) is
+any_ends_none word is = angle_ends_none word _ (λ h. cc) (λ h. cc) is
 
 pub until_ends_none : (word : Text) → IsUntil word → EndsNone word
-until_ends_none word is = angle_ends_none word _ (λ h. absurd (omega arith)) (λ h. absurd (omega arith)) is
+until_ends_none word is = angle_ends_none word _ (λ h. cc) (λ h. cc) is
 
 pub nothing_ends_none : (word : Text) → BeginsNone word → EndsNone word
 nothing_ends_none word none = record { label = none.label; internal = none.internal; deadlock = none.deadlock }
@@ -67,10 +67,10 @@ not_ended : (e : Element) (front behind rest : List Text) (word : Text) → Spel
     ((second : Text) (tail : List Text) → rest ≡ second ∷ tail → NoEnding second) → ⊥
 not_ended (one l) front behind rest word (w, i, n) cut is none = label_no_angle w word _ l (first_word front behind rest [] w word i cut) n is
 not_ended any front behind rest word (w, i, k) cut is none =
-    apart w word (codes "<any>") (codes "<until>") (first_word front behind rest [] w word i cut) (λ h. absurd (omega arith)) k is
+    apart w word (codes "<any>") (codes "<until>") (first_word front behind rest [] w word i cut) (λ h. cc) k is
 not_ended (until l) front behind rest word (w, t, i, k, o) cut is none = (none t behind (rest_words front behind rest (t ∷ []) w word i cut)).label (l, o)
 not_ended deadlock front behind rest word (w, i, k) cut is none =
-    apart w word (codes "<deadlock>") (codes "<until>") (first_word front behind rest [] w word i cut) (λ h. absurd (omega arith)) k is
+    apart w word (codes "<deadlock>") (codes "<until>") (first_word front behind rest [] w word i cut) (λ h. cc) k is
 not_ended until_deadlock front behind rest word (w, t, i, k, o) cut is none = (none t behind (rest_words front behind rest (t ∷ []) w word i cut)).deadlock o
 
 -- the element of a pattern that begins at a place

@@ -1,15 +1,19 @@
 -- A pattern and one more element.
 use Rattle.std.proofs.Common.{◌≡◌, ℕ, ◌+◌, ◌<◌, List, [], ◌∷◌, ◌++◌, length, take, Some, refl, sym, ap, subst, ◌∙◌, append_assoc, arith}
 use Rattle.std.specs.Prelude.{All, slice_get}
-use Rattle.std.proofs.lemmas.List.{append-nil, length-append}
+use Rattle.std.specs.Borrow.{Bor}
+use Rattle.std.proofs.lemmas.List.{append-nil, length-append, map-append}
 use Rattle.std.proofs.lemmas.List.Elements.{All-cons, All-nil}
 use Rattle.std.proofs.lemmas.Option.{slice_get_within}
 use Rattle.lotos_pattern.specs.Patterns.{Element, EndsDead, EndsLast, IsJoin, any, deadlock, one, until, until_deadlock}
-use Rattle.lotos_pattern.specs.Spelling.{PatternOf, Spelling, Text}
-use Rattle.lotos_pattern.specs.Faults.{BeginsElement, StandsBehind}
-use Rattle.lotos_pattern.specs.Elements.{IsObservable, IsPattern}
-use Rattle.lotos_pattern.specs.Meaning.{HasRoom, SpelledAt}
-use Rattle.lotos_pattern.proofs.Words.{named_observable, take_at}
+use Rattle.lotos_pattern.specs.Spelling.{PatternOf, Spelling, Text, texts_of}
+use Rattle.lotos_pattern.specs.Faults.{BeginsElement, IsCause, SpellsNone, StandsBehind}
+use Rattle.lotos_pattern.specs.Elements.{IsObservable, IsPattern, element_of, elements_of}
+use Rattle.lotos_pattern.specs.Meaning.{HasRoom, IsFull, SpelledAt}
+use Rattle.lotos_pattern.specs.declared.element.Element.{Element as Kept}
+use Rattle.lotos_pattern.specs.declared.fault.PatternFault.{PatternFault}
+use Rattle.lotos_pattern.proofs.Beginnings.{full_cause, full_nothing}
+use Rattle.lotos_pattern.proofs.Words.{named_observable, take_at, within_texts}
 
 module _ (words : List Text) (place : ℕ) (first : Text) (stands : slice_get words place ≡ Some first) where
   pub spelled_by_one : (e : Element) → Spelling e (first ∷ []) → SpelledAt words place e (place + 1)
@@ -42,7 +46,7 @@ ends_last_more (f ∷ []) e last goes_on = (goes_on, tt)
 ends_last_more (f ∷ g ∷ p) e last goes_on = (last.0, ends_last_more (g ∷ p) e last.1 goes_on)
 
 -- where there is room, an element more makes a pattern
-pub one_more : (words : List Text) (place behind : ℕ) (p : List Element) (e : Element) → PatternOf (take place words) p → HasRoom p → SpelledAt words place e behind →
+one_more : (words : List Text) (place behind : ℕ) (p : List Element) (e : Element) → PatternOf (take place words) p → HasRoom p → SpelledAt words place e behind →
     PatternOf (take behind words) (p ++ e ∷ [])
 one_more words place behind p e spelled has next = record {
   spelled = subst (IsJoin Spelling (p ++ e ∷ [])) (sym next.stands) (joined_more p e (take place words) next.own spelled.spelled next.spelling);
@@ -52,18 +56,6 @@ one_more words place behind p e spelled has next = record {
       let room = has.room in
       omega arith;
   ends_last = ends_last_more p e spelled.ends_last has.goes_on;
-}
-
-pub stands_behind : (words : List Text) (place : ℕ) (p : List Element) → place < length words → PatternOf (take place words) p → StandsBehind words (place + 1) p
-stands_behind words place p there spelled = record { before = place; counted = refl; there = there; spelled = spelled }
-
--- where there is room, an element begins at the next word
-pub begins_element : (words : List Text) (place : ℕ) (p : List Element) → place < length words → PatternOf (take place words) p → HasRoom p → BeginsElement words (place + 1)
-begins_element words place p there spelled has = record {
-  pattern = p;
-  behind = stands_behind words place p there spelled;
-  goes_on = has.goes_on;
-  room = let short = spelled.short in let room = has.room in omega arith;
 }
 
 element_observable : (e : Element) (own : List Text) → Spelling e own → IsObservable e
@@ -80,3 +72,30 @@ observable (e ∷ p) words (front, rest, spelling, others, cut) = All-cons IsObs
 -- what words spell is a pattern
 pub is_pattern : (words : List Text) (p : List Element) → PatternOf words p → IsPattern p
 is_pattern words p spelled = record { ends_last = spelled.ends_last; observable = observable p words spelled.spelled; short = spelled.short }
+
+-- what is known where the loop stands: the words before the place spell the elements that are kept
+module _ (words : List (Bor Text)) (place : ℕ) (kept lent : List Kept) (there : place < length words) (spelled : PatternOf (take place (texts_of words)) (elements_of kept))
+    (same : lent ≡ kept) where
+  stands : StandsBehind (texts_of words) (place + 1) (elements_of kept)
+  stands = record { before = place; counted = refl; there = within_texts words place there; spelled = spelled }
+
+  -- where no element may follow them, the fault has its cause
+  pub full_here : (fault : PatternFault) → IsFull (elements_of lent) (place + 1) fault → IsCause (texts_of words) fault × SpellsNone (texts_of words) fault
+  full_here fault full =
+      let own = subst (λ elements. IsFull (elements_of elements) (place + 1) fault) same full in
+      (full_cause (texts_of words) place (elements_of kept) stands fault own, full_nothing (texts_of words) place (elements_of kept) stands fault own)
+
+  -- where one may follow, it begins at the place
+  pub begins_here : HasRoom (elements_of lent) → BeginsElement (texts_of words) (place + 1)
+  begins_here room =
+      let own : HasRoom (elements_of kept) = subst (λ elements. HasRoom (elements_of elements)) same room in
+      let short = spelled.short in
+      let unfilled = own.room in
+      record { pattern = elements_of kept; behind = stands; goes_on = own.goes_on; room = omega arith }
+
+  pub grown_here : (behind : ℕ) (e : Kept) (more : List Kept) → HasRoom (elements_of lent) → SpelledAt (texts_of words) place (element_of e) behind → more ≡ kept ++ e ∷ [] →
+      PatternOf (take behind (texts_of words)) (elements_of more)
+  grown_here behind e more room next grown =
+      let own : HasRoom (elements_of kept) = subst (λ elements. HasRoom (elements_of elements)) same room in
+      let shown : elements_of more ≡ elements_of kept ++ element_of e ∷ [] = ap elements_of grown ∙ map-append element_of kept (e ∷ []) in
+      subst (PatternOf (take behind (texts_of words))) (sym shown) (one_more (texts_of words) place behind (elements_of kept) (element_of e) spelled own next)

@@ -1,5 +1,5 @@
 -- The first word of an element fixes how many words spell it, so words spell at most one pattern.
-use Rattle.std.proofs.Common.{◌≡◌, List, [], ◌∷◌, ◌++◌, refl, sym, ap, subst, ◌∙◌, append_assoc, arith, codes}
+use Rattle.std.proofs.Common.{◌≡◌, List, [], ◌∷◌, ◌++◌, refl, sym, ap, subst, ◌∙◌, append_assoc, codes}
 use Rattle.std.proofs.lemmas.List.{append-nil}
 use Rattle.lotos_pattern.specs.Patterns.{Element, IsJoin, any, deadlock, one, until, until_deadlock}
 use Rattle.lotos_pattern.specs.Spelling.{PatternOf, Spelling, Text}
@@ -30,39 +30,39 @@ once (one l) until_deadlock a b x y (w, i, n) (v, u, j, k, o) e = absurd (label_
 once any (one m) a b x y (w, i, n) (v, j, k) e = absurd (label_no_angle v w _ m (sym (alike a b x y [] [] w v i j e).word) k n)
 once any any a b x y (w, i, n) (v, j, k) e = let h = alike a b x y [] [] w v i j e in record { element = refl; behind = h.rest }
 once any (until m) a b x y (w, i, n) (v, u, j, k, o) e =
-    absurd (apart w v (codes "<any>") (codes "<until>") (alike a b x y [] (u ∷ []) w v i j e).word (λ h. absurd (omega arith)) n k)
+    absurd (apart w v (codes "<any>") (codes "<until>") (alike a b x y [] (u ∷ []) w v i j e).word (λ h. cc) n k)
 once any deadlock a b x y (w, i, n) (v, j, k) e =
-    absurd (apart w v (codes "<any>") (codes "<deadlock>") (alike a b x y [] [] w v i j e).word (λ h. absurd (omega arith)) n k)
+    absurd (apart w v (codes "<any>") (codes "<deadlock>") (alike a b x y [] [] w v i j e).word (λ h. cc) n k)
 once any until_deadlock a b x y (w, i, n) (v, u, j, k, o) e =
-    absurd (apart w v (codes "<any>") (codes "<until>") (alike a b x y [] (u ∷ []) w v i j e).word (λ h. absurd (omega arith)) n k)
+    absurd (apart w v (codes "<any>") (codes "<until>") (alike a b x y [] (u ∷ []) w v i j e).word (λ h. cc) n k)
 once (until l) (one m) a b x y (w, t, i, n, o) (v, j, k) e = absurd (label_no_angle v w _ m (sym (alike a b x y (t ∷ []) [] w v i j e).word) k n)
 once (until l) any a b x y (w, t, i, n, o) (v, j, k) e =
-    absurd (apart w v (codes "<until>") (codes "<any>") (alike a b x y (t ∷ []) [] w v i j e).word (λ h. absurd (omega arith)) n k)
+    absurd (apart w v (codes "<until>") (codes "<any>") (alike a b x y (t ∷ []) [] w v i j e).word (λ h. cc) n k)
 once (until l) (until m) a b x y (w, t, i, n, o) (v, u, j, k, q) e =
     let h = alike a b x y (t ∷ []) (u ∷ []) w v i j e in
     let g = alike (t ∷ []) (u ∷ []) x y [] [] t u refl refl h.rest in
     record { element = ap until (same_label t u l m g.word o q); behind = g.rest }
 once (until l) deadlock a b x y (w, t, i, n, o) (v, j, k) e =
-    absurd (apart w v (codes "<until>") (codes "<deadlock>") (alike a b x y (t ∷ []) [] w v i j e).word (λ h. absurd (omega arith)) n k)
+    absurd (apart w v (codes "<until>") (codes "<deadlock>") (alike a b x y (t ∷ []) [] w v i j e).word (λ h. cc) n k)
 once (until l) until_deadlock a b x y (w, t, i, n, o) (v, u, j, k, q) e =
     let h = alike a b x y (t ∷ []) (u ∷ []) w v i j e in
     absurd (label_no_angle t u _ l (alike (t ∷ []) (u ∷ []) x y [] [] t u refl refl h.rest).word o q)
 once deadlock (one m) a b x y (w, i, n) (v, j, k) e = absurd (label_no_angle v w _ m (sym (alike a b x y [] [] w v i j e).word) k n)
 once deadlock any a b x y (w, i, n) (v, j, k) e =
-    absurd (apart w v (codes "<deadlock>") (codes "<any>") (alike a b x y [] [] w v i j e).word (λ h. absurd (omega arith)) n k)
+    absurd (apart w v (codes "<deadlock>") (codes "<any>") (alike a b x y [] [] w v i j e).word (λ h. cc) n k)
 once deadlock (until m) a b x y (w, i, n) (v, u, j, k, o) e =
-    absurd (apart w v (codes "<deadlock>") (codes "<until>") (alike a b x y [] (u ∷ []) w v i j e).word (λ h. absurd (omega arith)) n k)
+    absurd (apart w v (codes "<deadlock>") (codes "<until>") (alike a b x y [] (u ∷ []) w v i j e).word (λ h. cc) n k)
 once deadlock deadlock a b x y (w, i, n) (v, j, k) e = let h = alike a b x y [] [] w v i j e in record { element = refl; behind = h.rest }
 once deadlock until_deadlock a b x y (w, i, n) (v, u, j, k, o) e =
-    absurd (apart w v (codes "<deadlock>") (codes "<until>") (alike a b x y [] (u ∷ []) w v i j e).word (λ h. absurd (omega arith)) n k)
+    absurd (apart w v (codes "<deadlock>") (codes "<until>") (alike a b x y [] (u ∷ []) w v i j e).word (λ h. cc) n k)
 once until_deadlock (one m) a b x y (w, t, i, n, o) (v, j, k) e = absurd (label_no_angle v w _ m (sym (alike a b x y (t ∷ []) [] w v i j e).word) k n)
 once until_deadlock any a b x y (w, t, i, n, o) (v, j, k) e =
-    absurd (apart w v (codes "<until>") (codes "<any>") (alike a b x y (t ∷ []) [] w v i j e).word (λ h. absurd (omega arith)) n k)
+    absurd (apart w v (codes "<until>") (codes "<any>") (alike a b x y (t ∷ []) [] w v i j e).word (λ h. cc) n k)
 once until_deadlock (until m) a b x y (w, t, i, n, o) (v, u, j, k, q) e =
     let h = alike a b x y (t ∷ []) (u ∷ []) w v i j e in
     absurd (label_no_angle u t _ m (sym (alike (t ∷ []) (u ∷ []) x y [] [] t u refl refl h.rest).word) q o)
 once until_deadlock deadlock a b x y (w, t, i, n, o) (v, j, k) e =
-    absurd (apart w v (codes "<until>") (codes "<deadlock>") (alike a b x y (t ∷ []) [] w v i j e).word (λ h. absurd (omega arith)) n k)
+    absurd (apart w v (codes "<until>") (codes "<deadlock>") (alike a b x y (t ∷ []) [] w v i j e).word (λ h. cc) n k)
 once until_deadlock until_deadlock a b x y (w, t, i, n, o) (v, u, j, k, q) e =
     let h = alike a b x y (t ∷ []) (u ∷ []) w v i j e in
     record { element = refl; behind = (alike (t ∷ []) (u ∷ []) x y [] [] t u refl refl h.rest).rest }

@@ -22,9 +22,9 @@ no_angle (b ∷ bs) rest h e = letter b h.0 cc
 pub label_no_angle : (word other rest : Text) (l : Label) → word ≡ other → Names word l → Reads other (60 ∷ rest) → ⊥
 label_no_angle word other rest l same n e = no_angle word rest n.spelled (ap (map to_ascii_lowercase) same ∙ e)
 
--- one word does not read as two of different length
-pub apart : (word other left right : Text) → word ≡ other → length left ≢ length right → Reads word left → Reads other right → ⊥
-apart word other left right same differ h k = differ (ap length (sym h ∙ ap (map to_ascii_lowercase) same ∙ k))
+-- one word does not read as two different ones
+pub apart : (word other left right : Text) → word ≡ other → left ≢ right → Reads word left → Reads other right → ⊥
+apart word other left right same differ h k = differ (sym h ∙ ap (map to_ascii_lowercase) same ∙ k)
 
 -- a word names one label
 pub same_label : (word other : Text) (l m : Label) → word ≡ other → Names word l → Names other m → l ≡ m
