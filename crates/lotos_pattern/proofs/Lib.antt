@@ -1,0 +1,4 @@
+pub mod Segments
+pub mod Joins
+pub mod Standing
+pub mod Ends

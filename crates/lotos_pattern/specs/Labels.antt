@@ -1,0 +1,14 @@
+-- Labels as they are printed.
+use Rattle.std.specs.Prelude.{ℕ, List, codes}
+
+-- a label, by its printed text: a gate's name, `exit` or `i`
+abbrev pub Label : Type 0
+Label = List ℕ
+
+-- successful termination
+abbrev pub termination : Label
+termination = codes "exit"
+
+-- the internal action, which nobody observes
+abbrev pub internal : Label
+internal = codes "i"

@@ -1,0 +1,58 @@
+-- What a pattern is, and which sequences of labels it matches.
+use Rattle.std.specs.Prelude.{◌≡◌, ◌≢◌, List, [], ◌∷◌, ◌++◌, All}
+use Rattle.lotos_pattern.specs.Labels.{Label, internal}
+
+-- the list is the join of one part for each of the items, in turn
+abbrev pub IsJoin : {E X : Type 0} → (E → List X → Type 0) → List E → List X → Type 0
+IsJoin Part [] xs = xs ≡ []
+IsJoin {E} {X} Part (e ∷ es) xs = (front : List X) × (rest : List X) × Part e front × IsJoin Part es rest × (xs ≡ front ++ rest)
+
+-- an element of a pattern
+pub data Element : Type 0 where
+  -- that one label
+  one : Label → Element
+  -- any one label
+  any : Element
+  -- any number of labels other than this one, and then it
+  until : Label → Element
+  -- nothing, where the end must be a deadlock
+  deadlock : Element
+  -- any number of labels, where the end must be a deadlock
+  until_deadlock : Element
+
+-- the labels that an element takes
+abbrev pub Segment : Element → List Label → Type 0
+Segment (one l) s = s ≡ l ∷ []
+Segment any s = (l : Label) × (s ≡ l ∷ [])
+Segment (until l) s = (others : List Label) × All (λ x. x ≢ l) others × (s ≡ others ++ l ∷ [])
+Segment deadlock s = s ≡ []
+Segment until_deadlock s = Unit {0}
+
+-- a pattern matches one segment for each of its elements in turn, all of them observable
+pub record Lang (p : List Element) (s : List Label) : Type 0 where
+  pub joined : IsJoin Segment p s
+  pub observable : All (λ l. l ≢ internal) s
+
+-- some sequence that the pattern matches begins so
+abbrev pub Viable : List Element → List Label → Type 0
+Viable p r = (s : List Label) × Lang p (r ++ s)
+
+-- the element demands that the end is a deadlock
+abbrev pub IsEnd : Element → Type 0
+IsEnd (one l) = ⊥
+IsEnd any = ⊥
+IsEnd (until l) = ⊥
+IsEnd deadlock = Unit {0}
+IsEnd until_deadlock = Unit {0}
+
+-- a matched sequence must end in a deadlock
+abbrev pub EndsDead : List Element → Type 0
+EndsDead [] = ⊥
+EndsDead (e ∷ []) = IsEnd e
+EndsDead (e ∷ f ∷ p) = EndsDead (f ∷ p)
+
+-- an element that demands a deadlock stands last only
+abbrev pub EndsLast : List Element → Type 0
+EndsLast [] = Unit {0}
+EndsLast (e ∷ []) = Unit {0}
+EndsLast (e ∷ f ∷ p) = (IsEnd e → ⊥) × EndsLast (f ∷ p)

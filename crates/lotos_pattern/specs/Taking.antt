@@ -1,0 +1,14 @@
+-- What a label does where an element's segment begins.
+use Rattle.std.specs.Prelude.{◌≡◌, ◌↔◌, List, [], ◌∷◌}
+use Rattle.lotos_pattern.specs.Labels.{Label}
+use Rattle.lotos_pattern.specs.Patterns.{Element, Segment}
+use Rattle.lotos_pattern.specs.declared.element.Taking.{Taking}
+use Rattle.lotos_pattern.specs.declared.element.Taking.TheVariants as taking
+
+unfoldable pub Takes : Element → Label → Taking → Type 0
+-- the label is a segment, and a part of no longer one
+Takes e l taking.Passes = (s : List Label) → Segment e (l ∷ s) ↔ (s ≡ [])
+-- the label may stand before every segment, and behind it nothing else may stand
+Takes e l taking.Stays = (s : List Label) → Segment e (l ∷ s) ↔ Segment e s
+-- no segment begins with the label
+Takes e l taking.Fails = (s : List Label) → Segment e (l ∷ s) → ⊥

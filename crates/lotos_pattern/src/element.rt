@@ -1,0 +1,74 @@
+//! Elements of a pattern, and what a label does at them.
+ghost use Rattle.std.specs.Prelude.{MatchBool};
+ghost use Rattle.lotos_pattern.specs.Patterns.{EndsDead, IsEnd};
+ghost use Rattle.lotos_pattern.specs.Elements.{element_of, elements_of};
+ghost use Rattle.lotos_pattern.specs.Taking.{Takes};
+
+/// An element of a pattern, with its label as it is printed.
+#[derive(Debug, Drop)]
+pub(crate) enum Element {
+    /// That one label.
+    Label(String),
+    /// Any one label.
+    Any,
+    /// Any number of labels other than this one, and then it.
+    Until(String),
+    /// Nothing, where the end must be a deadlock.
+    Deadlock,
+    /// Any number of labels, where the end must be a deadlock.
+    UntilDeadlock,
+}
+
+/// What a label does where an element's segment begins.
+pub(crate) enum Taking {
+    /// It is the whole segment.
+    Passes,
+    /// It belongs to the segment, and what is left may again be any segment of the element.
+    Stays,
+    /// No segment begins so.
+    Fails,
+}
+
+impl Element {
+    /// What the label, given by its printed text, does where this element's segment begins.
+    pub(crate) fn take(&self, label: &str) -> Taking
+        ensures { Takes (element_of self.now) label.now result }
+    {
+        match self {
+            Element::Label(own) => {
+                if own.as_str() == label {
+                    Taking::Passes
+                } else {
+                    Taking::Fails
+                }
+            }
+            Element::Any => Taking::Passes,
+            Element::Until(own) => {
+                if own.as_str() == label {
+                    Taking::Passes
+                } else {
+                    Taking::Stays
+                }
+            }
+            Element::Deadlock => Taking::Fails,
+            Element::UntilDeadlock => Taking::Stays,
+        }
+    }
+
+    /// Whether the element demands that the end is a deadlock.
+    pub(crate) fn is_end(&self) -> bool
+        ensures { MatchBool result (IsEnd (element_of self.now)) (IsEnd (element_of self.now) → ⊥) }
+    {
+        matches!(self, Element::Deadlock | Element::UntilDeadlock)
+    }
+}
+
+/// Whether the last of the elements demands that the end is a deadlock.
+pub(crate) fn ends_dead(elements: &[Element]) -> bool
+    ensures { MatchBool result (EndsDead (elements_of elements.now)) (EndsDead (elements_of elements.now) → ⊥) }
+{
+    match elements.last() {
+        Some(last) => last.is_end(),
+        None => false,
+    }
+}

@@ -1,0 +1,49 @@
+//! Why words spell no pattern.
+
+use std::alloc::{AllocError, AllocFailed};
+use thiserror::Error;
+
+/// Why the words of a pattern spell none. A number counts the words from 1.
+#[derive(Clone, Copy, Debug, PartialEq, Eq, Error)]
+pub enum PatternFault {
+    /// The word is neither a label nor an element.
+    #[error("E41 word {0} is neither a label nor an element")]
+    E41(usize),
+    /// Behind this word, `<until>`, stands neither a label nor `<deadlock>`, or nothing.
+    #[error("E42 word {0} needs a label or <deadlock> after it")]
+    E42(usize),
+    /// The word follows an element that demands a deadlock.
+    #[error("E43 word {0} follows an end element")]
+    E43(usize),
+    /// The pattern is over 256 elements; this word begins the first past them.
+    #[error("E44 pattern is over 256 elements")]
+    E44(usize),
+    /// The word is `i`, which cannot be observed.
+    #[error("E45 word {0} is i, which cannot be observed")]
+    E45(usize),
+    /// A growth of the heap was refused.
+    #[error("E99 out of memory")]
+    E99(AllocError),
+}
+
+impl From<AllocError> for PatternFault {
+    ghost use Rattle.std.specs.Prelude.{◌≡◌};
+    ghost use Rattle.lotos_pattern.specs.declared.fault.PatternFault.TheVariants.{E99};
+
+    ghost from_gives = { λ error fault. fault ≡ E99 error };
+
+    fn from(error: AllocError) -> PatternFault {
+        PatternFault::E99(error)
+    }
+}
+
+impl<T: Drop> From<AllocFailed<T>> for PatternFault {
+    ghost use Rattle.std.specs.Prelude.{◌≡◌, alloc_error};
+    ghost use Rattle.lotos_pattern.specs.declared.fault.PatternFault.TheVariants.{E99};
+
+    ghost from_gives = { λ _ fault. fault ≡ E99 alloc_error };
+
+    fn from(_error: AllocFailed<T>) -> PatternFault {
+        PatternFault::E99(AllocError)
+    }
+}
