@@ -1,25 +1,28 @@
 //! The search from end to end.
-ghost use Rattle.std.specs.Prelude.{◌≡◌, if◌then◌else◌, ◌∷◌, [], false, map, string_bytes};
+ghost use Rattle.std.specs.Prelude.{◌≡◌, ◌↔◌, if◌then◌else◌, ◌∷◌, [], IfErr, IfOk, IsTrue, false, map, string_bytes};
+ghost use Rattle.lotos_pattern.specs.Faults.{IsCause, SpellsNone};
+ghost use Rattle.lotos_pattern.specs.Spelling.{PatternOf, texts_of};
 ghost use Rattle.lotos_tool.specs.Answers.{Answers, is_input_fault, is_output_fault};
-ghost use Rattle.lotos_tool.specs.Searching.{IsListed};
+ghost use Rattle.lotos_tool.specs.ElementWords.{HasElementWord};
+ghost use Rattle.lotos_tool.specs.Searching.{IsListed, IsRefusedPattern};
 
 use crate::accepting::{Unaccepted, read_specification};
 use crate::answer::{Ended, Why};
 use crate::command::SearchRequest;
 use crate::device::{Sink, Source};
-use crate::interim_pattern::{Unread, read_labels};
-use crate::interim_search::{can_show, is_sequential};
+use crate::interim_search::{find, is_sequential};
 use crate::refusal::Refusal;
 use crate::writing::{finish, write_sequence};
-use std::alloc::Global;
+use lotos_pattern::{Pattern, PatternFault};
+use std::alloc::{AllocError, Global};
 
 /// Reads a specification and writes the listing of its sequences that match the request's pattern: those that some
 /// derivation of at most the request's depth of steps yields, each once, shorter first, then in the order of their labels.
 ///
-/// The words of the pattern are read first, then the text, whose specification is checked and whose behaviour must then have
-/// no form that is not searched yet. What is refused first is answered, with nothing written, and for the words with nothing
-/// read. A line is composed whole before its first byte is written. Where no fault came the writing ends with one flush. The
-/// reader and the writer have not failed yet.
+/// The words of the pattern are read first, and must then have no element that is not searched yet; then the text, whose
+/// specification is checked and whose behaviour must then have no form that is not searched yet. What is refused first is
+/// answered, with nothing written, and for the words with nothing read. A line is composed whole before its first byte is
+/// written. Where no fault came the writing ends with one flush. The reader and the writer have not failed yet.
 pub fn list<R: Source, W: Sink>(
     alloc: Global,
     request: &SearchRequest,
@@ -32,40 +35,63 @@ pub fn list<R: Source, W: Sink>(
     ensures input { R.has_failed reader.new ≡ is_input_fault result }
     ensures output { W.has_failed writer.new ≡ is_output_fault result }
 {
-    let labels = match read_labels(alloc, request.words.as_slice()) {
-        Ok(labels) => labels,
-        Err(Unread::Fault(fault)) => return Ended::Refused(Refusal::Label(fault)),
-        Err(Unread::Memory) => return Ended::Stopped {
-            last: None,
-            why: Why::Memory,
-        },
+    let pattern = match read_pattern(alloc, request.words.as_slice()) {
+        Ok(pattern) => pattern,
+        Err(fault) => return refused(fault),
     };
+    if has_element(request.words.as_slice()) {
+        return Ended::Refused(Refusal::E30);
+    }
     let found = match read_specification(alloc, reader) {
         Ok(found) => found,
         Err(Unaccepted::Refused(refusal)) => return Ended::Refused(refusal),
-        Err(Unaccepted::Memory) => return Ended::Stopped {
-            last: None,
-            why: Why::Memory,
-        },
+        Err(Unaccepted::Memory) => return no_memory(),
     };
     if !is_sequential(found.start()) {
         return Ended::Refused(Refusal::E30);
     }
-    let shown = can_show(found.start(), labels.as_slice(), request.depth);
-    write_listing(alloc, labels.as_slice(), shown, writer)
+    let mut labels = Vec::new(alloc);
+    let place = pattern.begin();
+    match find(alloc, found.start(), &pattern, place, request.depth, &mut labels) {
+        Ok(shown) => write_listing(alloc, labels.as_slice(), shown, writer),
+        Err(_) => no_memory(),
+    }
 }
 
-/// Writes the listing, which is the one sequence or nothing.
-fn write_listing<W: Sink>(alloc: Global, labels: &[String], shown: bool, writer: &mut W) -> Ended
-    requires { W.has_failed writer.old ≡ false }
-    ensures listed { IsListed (W.got writer.old) (W.got writer.new) (if shown then map string_bytes labels.now ∷ [] else []) result }
-    ensures failed { W.has_failed writer.new ≡ is_output_fault result }
+/// The pattern that the words spell.
+fn read_pattern(alloc: Global, words: &[String]) -> Result<Pattern, PatternFault>
+    ensures pattern { IfOk result (PatternOf (map string_bytes words.now)) }
+    ensures cause { IfErr result (IsCause (map string_bytes words.now)) }
+    ensures nothing { IfErr result (SpellsNone (map string_bytes words.now)) }
 {
-    if !shown {
-        return finish(writer, None, 0);
+    let texts = texts(alloc, words)?;
+    Pattern::read(alloc, texts.as_slice())
+}
+
+/// The words, lent.
+fn texts<'a>(alloc: Global, words: &'a [String]) -> Result<Vec<&'a str>, AllocError>
+    ensures { IfOk result (λ v. texts_of v.items ≡ map string_bytes words.now) }
+{
+    let mut texts = Vec::new(alloc);
+    for word in words {
+        texts.push(word.as_str())?;
     }
-    match write_sequence(alloc, labels, writer) {
-        Ok(text) => finish(writer, Some(text), 1),
-        Err(why) => Ended::Stopped { last: None, why },
+    Ok(texts)
+}
+
+/// Whether a word begins with `<`, as those of all elements but labels do.
+fn has_element(words: &[String]) -> bool
+    ensures { IsTrue result ↔ HasElementWord (map string_bytes words.now) }
+{
+    words.iter().any(|word| word.as_bytes().first() == Some(&b'<'))
+}
+
+/// How a search ends whose words spell no pattern.
+fn refused(fault: PatternFault) -> Ended
+    ensures { IsRefusedPattern fault result }
+{
+    match fault {
+        PatternFault::E99(_) => no_memory(),
+        _ => Ended::Refused(Refusal::Pattern(fault)),
     }
 }
