@@ -1,10 +1,12 @@
 //! The search from end to end.
-ghost use Rattle.std.specs.Prelude.{◌≡◌, ◌↔◌, if◌then◌else◌, ◌∷◌, [], IfErr, IfOk, IsTrue, false, map, string_bytes};
+ghost use Rattle.std.specs.Prelude.{◌≡◌, ◌↔◌, if◌then◌else◌, ◌∷◌, [], IfErr, IfOk, IsTrue, None, false, map, string_bytes};
 ghost use Rattle.lotos_pattern.specs.Faults.{IsCause, SpellsNone};
 ghost use Rattle.lotos_pattern.specs.Spelling.{PatternOf, texts_of};
 ghost use Rattle.lotos_tool.specs.Answers.{Answers, is_input_fault, is_output_fault};
 ghost use Rattle.lotos_tool.specs.ElementWords.{HasElementWord};
 ghost use Rattle.lotos_tool.specs.Searching.{IsListed, IsRefusedPattern};
+ghost use Rattle.lotos_tool.specs.declared.answer.Ended.TheVariants.{Stopped};
+ghost use Rattle.lotos_tool.specs.declared.answer.Why.TheVariants.{Memory};
 
 use crate::accepting::{Unaccepted, read_specification};
 use crate::answer::{Ended, Why};
@@ -86,12 +88,41 @@ fn has_element(words: &[String]) -> bool
     words.iter().any(|word| word.as_bytes().first() == Some(&b'<'))
 }
 
-/// How a search ends whose words spell no pattern.
+/// How a search ends whose words spell no pattern, for this fault.
 fn refused(fault: PatternFault) -> Ended
     ensures { IsRefusedPattern fault result }
 {
     match fault {
+        PatternFault::E41(_)
+        | PatternFault::E42(_)
+        | PatternFault::E43(_)
+        | PatternFault::E44(_)
+        | PatternFault::E45(_) => Ended::Refused(Refusal::Pattern(fault)),
         PatternFault::E99(_) => no_memory(),
-        _ => Ended::Refused(Refusal::Pattern(fault)),
+    }
+}
+
+/// How a search ends for which memory was wanting before any line.
+fn no_memory() -> Ended
+    ensures { result ≡ Stopped None Memory }
+{
+    Ended::Stopped {
+        last: None,
+        why: Why::Memory,
+    }
+}
+
+/// Writes the listing, which is the one sequence or nothing.
+fn write_listing<W: Sink>(alloc: Global, labels: &[String], shown: bool, writer: &mut W) -> Ended
+    requires { W.has_failed writer.old ≡ false }
+    ensures listed { IsListed (W.got writer.old) (W.got writer.new) (if shown then map string_bytes labels.now ∷ [] else []) result }
+    ensures failed { W.has_failed writer.new ≡ is_output_fault result }
+{
+    if !shown {
+        return finish(writer, None, 0);
+    }
+    match write_sequence(alloc, labels, writer) {
+        Ok(text) => finish(writer, Some(text), 1),
+        Err(why) => Ended::Stopped { last: None, why },
     }
 }
