@@ -60,8 +60,8 @@ module _ (p : List Element) (kept lent : List Kept) (shown : elements_of kept �
   pub elements_at : (x : Kept) → done < length lent → x ≡ get_or lent done x → drop place p ≡ element_of x ∷ drop (place + 1) p
   elements_at x within is =
       subst (λ q. drop place q ≡ element_of x ∷ drop (place + 1) q) shown
-          (subst (λ i. drop i (elements_of kept) ≡ element_of x ∷ drop (i + 1) (elements_of kept)) there
-          (subst (λ l. drop done (elements_of l) ≡ element_of x ∷ drop (done + 1) (elements_of l)) same (elements_from lent done x within is)))
+      (subst (λ i. drop i (elements_of kept) ≡ element_of x ∷ drop (i + 1) (elements_of kept)) there
+      (subst (λ l. drop done (elements_of l) ≡ element_of x ∷ drop (done + 1) (elements_of l)) same (elements_from lent done x within is)))
 
   -- a place behind the last kept element is behind the pattern's last
   pub past_elements : length lent ≤ done → length p ≤ place

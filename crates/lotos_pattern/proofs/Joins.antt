@@ -40,10 +40,10 @@ module _ (e : Element) (p : List Element) (l : Label) (last : EndsLast (e ∷ p)
   unfolding Takes
   behind_passed takes s = (
     λ j.
-    let first = first_segment e p l s last j in
-    let none : first.front ≡ [] = (takes first.front).0 first.segment in
-    let same : first.rest ≡ s = sym (first.cut ∙ ap (λ front. front ++ first.rest) none) in
-    subst (IsJoin Segment p) same first.others,
+        let first = first_segment e p l s last j in
+        let none : first.front ≡ [] = (takes first.front).0 first.segment in
+        let same : first.rest ≡ s = sym (first.cut ∙ ap (λ front. front ++ first.rest) none) in
+        subst (IsJoin Segment p) same first.others,
     λ j. (l ∷ [], s, (takes []).1 refl, j, refl),
   )
 
@@ -63,8 +63,10 @@ pub some_sequence : (p : List Element) → All IsObservable p → (s : List Labe
 some_sequence [] h = ([], record { joined = refl; observable = All-nil (λ l. l ≢ internal) })
 some_sequence (e ∷ p) h =
     let first = some_segment e (All-head IsObservable e p h) in
-    let rest = some_sequence p (All-tail IsObservable e p h) in
-    (first.0 ++ rest.0, record {
-      joined = (first.0, rest.0, first.1, rest.1.joined, refl);
-      observable = All-append (λ l. l ≢ internal) first.0 rest.0 first.2 rest.1.observable;
-    })
+    let rest = some_sequence p (All-tail IsObservable e p h) in (
+      first.0 ++ rest.0,
+      record {
+        joined = (first.0, rest.0, first.1, rest.1.joined, refl);
+        observable = All-append (λ l. l ≢ internal) first.0 rest.0 first.2 rest.1.observable;
+      },
+    )

@@ -1,8 +1,8 @@
 -- The places of sequences.
-use Rattle.std.proofs.Common.{◌≡◌, ◌≢◌, ℕ, ◌+◌, ◌<◌, ◌≤◌, List, [], ◌∷◌, ◌++◌, length, drop, refl, sym, ap, subst, ◌∙◌, append_assoc, arith}
+use Rattle.std.proofs.Common.{◌≡◌, ◌≢◌, ℕ, ◌+◌, ◌≤◌, List, [], ◌∷◌, ◌++◌, length, drop, sym, ap, subst, append_assoc}
 use Rattle.std.specs.Prelude.{◌↔◌, All}
 use Rattle.std.proofs.lemmas.List.{append-nil, drop_all}
-use Rattle.std.proofs.lemmas.List.Elements.{All-append, All-cons, All-drop, All-head, All-nil, All-tail}
+use Rattle.std.proofs.lemmas.List.Elements.{All-cons, All-drop, All-head, All-nil, All-tail}
 use Rattle.lotos_pattern.specs.Labels.{Label, internal}
 use Rattle.lotos_pattern.specs.Patterns.{Element, EndsLast, IsJoin, Lang, Segment, Viable}
 use Rattle.lotos_pattern.specs.Places.{Follows, Stands}
@@ -26,10 +26,10 @@ stepped p r l place next observable seen moves stands =
     let after : (s : List Label) → Lang p ((r ++ l ∷ []) ++ s) ↔ Follows p next s = λ s.
     let regrouped : (r ++ l ∷ []) ++ s ≡ r ++ (l ∷ s) = append_assoc r (l ∷ []) s in (
       λ m.
-      let here = (stands (l ∷ s)).0 (subst (Lang p) regrouped m) in
-      record { joined = (moves s).0 here.joined; observable = All-tail (λ v. v ≢ internal) l s here.observable },
+          let here = (stands (l ∷ s)).0 (subst (Lang p) regrouped m) in
+          record { joined = (moves s).0 here.joined; observable = All-tail (λ v. v ≢ internal) l s here.observable },
       λ m.
-      subst (Lang p) (sym regrouped)
+          subst (Lang p) (sym regrouped)
           ((stands (l ∷ s)).1 (record { joined = (moves s).1 m.joined; observable = All-cons (λ v. v ≢ internal) l s seen m.observable })),
     ) in
     let some = some_sequence (drop next p) (All-drop IsObservable next p observable) in
@@ -56,12 +56,12 @@ module _ (p : List Element) (r : List Label) (l : Label) (place : ℕ) (e : Elem
   pub passes : All IsObservable p → l ≢ internal → Takes e l Passes → Stands p r place → Viable p (r ++ l ∷ []) × Stands p (r ++ l ∷ []) (place + 1)
   passes observable seen takes =
       stepped p r l place (place + 1) observable seen
-          (λ s. subst (λ q. IsJoin Segment q (l ∷ s) ↔ IsJoin Segment (drop (place + 1) p) s) (sym here) (behind_passed e (drop (place + 1) p) l ends_last takes s))
+      (λ s. subst (λ q. IsJoin Segment q (l ∷ s) ↔ IsJoin Segment (drop (place + 1) p) s) (sym here) (behind_passed e (drop (place + 1) p) l ends_last takes s))
 
   pub stays : All IsObservable p → l ≢ internal → Takes e l Stays → Stands p r place → Viable p (r ++ l ∷ []) × Stands p (r ++ l ∷ []) place
   stays observable seen takes =
       stepped p r l place place observable seen
-          (λ s. subst (λ q. IsJoin Segment q (l ∷ s) ↔ IsJoin Segment q s) (sym here) (behind_stayed e (drop (place + 1) p) l ends_last takes s))
+      (λ s. subst (λ q. IsJoin Segment q (l ∷ s) ↔ IsJoin Segment q s) (sym here) (behind_stayed e (drop (place + 1) p) l ends_last takes s))
 
   pub fails : Takes e l Fails → Stands p r place → Viable p (r ++ l ∷ []) → ⊥
   fails takes =

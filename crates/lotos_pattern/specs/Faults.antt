@@ -1,5 +1,5 @@
 -- Why words spell no pattern. A number counts the words from 1.
-use Rattle.std.specs.Prelude.{◌≡◌, ◌⊎◌, ℕ, ◌+◌, ◌<◌, List, None, Some, codes, length, slice_get, take}
+use Rattle.std.specs.Prelude.{◌≡◌, ◌⊎◌, ℕ, ◌+◌, ◌<◌, List, Some, codes, length, slice_get, take}
 use Rattle.lotos_pattern.specs.Labels.{Label, internal}
 use Rattle.lotos_pattern.specs.Patterns.{Element, EndsDead}
 use Rattle.lotos_pattern.specs.Spelling.{Names, PatternOf, Reads, Text}

@@ -58,7 +58,7 @@ impl Pattern {
     pub fn step(&self, place: Place, label: &str) -> Option<Place>
         ensures { (r : List Label) → Stands self.now r place →
             MatchOption result (Viable self.now (r ++ label.now ∷ []) → ⊥)
-                (λ q. Viable self.now (r ++ label.now ∷ []) × Stands self.now (r ++ label.now ∷ []) q) }
+            (λ q. Viable self.now (r ++ label.now ∷ []) × Stands self.now (r ++ label.now ∷ []) q) }
     {
         if label == "i" {
             return None;
@@ -94,3 +94,6 @@ impl Pattern {
         }
     }
 }
+
+#[cfg(test)]
+mod tests;

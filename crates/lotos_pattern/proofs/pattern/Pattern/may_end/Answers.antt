@@ -9,4 +9,4 @@ returns-in-Some c =
     let x = c.in-Some.element.now in
     let last = subst EndsLast c.self.view_is c.self.invariant.ends_last in
     may_end_shown c.args.self.now c.self.inside.elements.items c.deref.result.now c.self.view_is c.deref.ensures.value c.done.result c.args.place c.done.ensures
-        x c.is_end.result last there.0 (there.1 x) c.is_end.ensures
+    x c.is_end.result last there.0 (there.1 x) c.is_end.ensures

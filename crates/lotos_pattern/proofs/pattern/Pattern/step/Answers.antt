@@ -1,4 +1,4 @@
-use Rattle.std.proofs.Common.{◌≡◌, ◌≢◌, ◌+◌, ◌∷◌, [], ◌++◌, ap, arith, drop, subst, sym, ◌∙◌}
+use Rattle.std.proofs.Common.{◌≡◌, ◌≢◌, ◌+◌, ◌∷◌, [], ◌++◌, ap, drop, subst, sym, ◌∙◌}
 use Rattle.std.specs.Prelude.{All, MatchOption}
 use Rattle.std.proofs.lemmas.Slice.Eq.{bytes_eq-Decides}
 use Rattle.lotos_pattern.specs.Labels.{internal}
@@ -15,7 +15,7 @@ here c =
     let there = c.in_ok-get.ensures.lookup.3 in
     let x = c.in_ok-get.field-0.now in
     elements_at c.args.self.now c.self.inside.elements.items c.deref.result.now c.self.view_is c.deref.ensures.value c.done-done.result c.args.place c.done-done.ensures
-        x there.0 (there.1 x)
+    x there.0 (there.1 x)
 
 last : (c : After-take) → EndsLast c.args.self.now
 last c = subst EndsLast c.self.view_is c.self.invariant.ends_last
@@ -33,7 +33,7 @@ returns-then-eq c r stands =
 pub returns-in_err-get : goal.returns-in_err-get
 returns-in_err-get c r stands =
     let past = past_elements c.args.self.now c.self.inside.elements.items c.deref.result.now c.self.view_is c.deref.ensures.value c.done-done.result c.args.place c.done-done.ensures
-        c.in_err-get.ensures.lookup.3 in
+    c.in_err-get.ensures.lookup.3 in
     let none = past_stuck c.args.self.now r c.args.label.now c.args.place past stands in
     let s = r ++ c.args.label.now ∷ [] in
     subst (λ answer. MatchOption answer (Viable c.args.self.now s → ⊥) (λ q. Viable c.args.self.now s × Stands c.args.self.now s q)) (sym c.from_residual.ensures) none
@@ -44,7 +44,7 @@ returns-in-Passes c r stands =
     let behind = c.behind.ensures ∙ ap (λ i. i + 1) c.done-done.ensures in
     let s = r ++ c.args.label.now ∷ [] in
     subst (λ place. Viable c.args.self.now s × Stands c.args.self.now s place) (sym behind)
-        (passes _ r _ _ _ (here d) (last d) (observable d) (seen d) c.in-Passes.ensures stands)
+    (passes _ r _ _ _ (here d) (last d) (observable d) (seen d) c.in-Passes.ensures stands)
 
 pub returns-in-Stays : goal.returns-in-Stays
 returns-in-Stays c r stands =

@@ -1,0 +1,8 @@
+use Rattle.std.proofs.Common.{◌<◌, length}
+use Rattle.lotos_pattern.proofs.pattern.tests.+is_matched.Given as goal
+
+abbrev pub decreases-is_matched : goal.decreases-is_matched
+decreases-is_matched l = length l.parts.now
+
+abbrev pub invariant-loop-cut : goal.invariant-loop-cut
+invariant-loop-cut l = length l.others < length l.parts

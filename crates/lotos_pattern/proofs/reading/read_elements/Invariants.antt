@@ -1,0 +1,14 @@
+use Rattle.std.proofs.Common.{◌-◌, ◌≤◌, length, take}
+use Rattle.lotos_pattern.specs.Spelling.{PatternOf, texts_of}
+use Rattle.lotos_pattern.specs.Elements.{elements_of}
+use Rattle.lotos_pattern.proofs.reading.read_elements.Given as goal
+
+-- the words before the place spell the elements so far
+abbrev pub invariant-loop-place : goal.invariant-loop-place
+invariant-loop-place l = record {
+  spelled : PatternOf (take l.place (texts_of l.words)) (elements_of l.elements.items);
+  within : l.place ≤ length l.words;
+}
+
+abbrev pub decreases-loop-place : goal.decreases-loop-place
+decreases-loop-place l = length l.words - l.place
