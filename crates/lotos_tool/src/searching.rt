@@ -3,7 +3,7 @@ ghost use Rattle.std.specs.Prelude.{◌≡◌, ◌↔◌, if◌then◌else◌, �
 ghost use Rattle.lotos_pattern.specs.Faults.{IsCause, SpellsNone};
 ghost use Rattle.lotos_pattern.specs.Spelling.{PatternOf, texts_of};
 ghost use Rattle.lotos_tool.specs.Answers.{Answers, is_input_fault, is_output_fault};
-ghost use Rattle.lotos_tool.specs.ElementWords.{HasElementWord};
+ghost use Rattle.lotos_tool.specs.ElementWords.{HasElementWord, IsElementWord};
 ghost use Rattle.lotos_tool.specs.Searching.{IsListed, IsRefusedPattern};
 ghost use Rattle.lotos_tool.specs.declared.answer.Ended.TheVariants.{Stopped};
 ghost use Rattle.lotos_tool.specs.declared.answer.Why.TheVariants.{Memory};
@@ -85,7 +85,16 @@ fn texts<'a>(alloc: Global, words: &'a [String]) -> Result<Vec<&'a str>, AllocEr
 fn has_element(words: &[String]) -> bool
     ensures { IsTrue result ↔ HasElementWord (map string_bytes words.now) }
 {
-    words.iter().any(|word| word.as_bytes().first() == Some(&b'<'))
+    words.iter().any(|word| is_element(word.as_bytes()))
+}
+
+fn is_element(word: &[u8]) -> bool
+    ensures { IsTrue result ↔ IsElementWord word.now }
+{
+    match word.first() {
+        Some(first) => *first == b'<',
+        None => false,
+    }
 }
 
 /// How a search ends whose words spell no pattern, for this fault.
