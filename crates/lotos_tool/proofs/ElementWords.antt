@@ -1,15 +1,16 @@
 -- Words that begin with `<`, and patterns without one.
-use Rattle.std.proofs.Common.{◌≡◌, ℕ, zero, suc, ◌<◌, ◌⊎◌, inl, inr, List, [], ◌∷◌, ◌++◌, length, map, refl, sym, ◌∙◌, ap, subst, arith, Bool, true, false, IsTrue, ◌↔◌, codes}
+use Rattle.std.proofs.Common.{◌≡◌, ℕ, zero, suc, ◌<◌, inl, inr, List, [], ◌∷◌, ◌++◌, length, map, refl, sym, ◌∙◌, ap, subst, arith, Bool, true, false, IsTrue, ◌↔◌, codes}
 use Rattle.std.specs.Prelude.{MatchBool}
 use Rattle.std.specs.Char.{to_ascii_lowercase}
 use Rattle.std.specs.List.{AllWithin, HoldsAt}
 use Rattle.std.specs.String.{string_bytes}
 use Rattle.std.specs.declared.string.String.{String}
 use Rattle.std.specs.declared.alloc.Global.{Global}
+use Rattle.std.proofs.lemmas.Bool.{false≢true}
 use Rattle.std.proofs.lemmas.Bool.Decides.{nat_tests}
 use Rattle.lotos_pattern.specs.Labels.{Label}
 use Rattle.lotos_pattern.specs.Patterns.{Element, IsJoin, any, deadlock, one, until, until_deadlock}
-use Rattle.lotos_pattern.specs.Spelling.{Reads, Spelling}
+use Rattle.lotos_pattern.specs.Spelling.{PatternOf, Reads, Spelling}
 use Rattle.lotos_tool.specs.ElementWords.{HasElementWord, IsElementWord}
 
 -- ---- in a list of words
@@ -48,7 +49,7 @@ first_is words front others word h e rest f =
     let whole : words ≡ word ∷ (others ++ rest) = f ∙ ap (λ ws. ws ++ rest) e in subst HasElementWord (sym whole) (inl h)
 
 -- a pattern whose words are none of them is labels alone
-pub labels_alone : (p : List Element) (words : List (List ℕ)) → IsJoin Spelling p words → (HasElementWord words → ⊥) → (labels : List Label) × (p ≡ map one labels)
+labels_alone : (p : List Element) (words : List (List ℕ)) → IsJoin Spelling p words → (HasElementWord words → ⊥) → (labels : List Label) × (p ≡ map one labels)
 labels_alone [] words e none = ([], refl)
 labels_alone (one l ∷ p) words (front, rest, (word, e, n), others, f) none =
     let whole : words ≡ word ∷ rest = f ∙ ap (λ ws. ws ++ rest) e in
@@ -60,3 +61,7 @@ labels_alone (until l ∷ p) words (front, rest, (first, second, e, reads, n), o
 labels_alone (deadlock ∷ p) words (front, rest, (word, e, reads), others, f) none = absurd (none (first_is words front [] word (begins word (codes "deadlock>") reads) e rest f))
 labels_alone (until_deadlock ∷ p) words (front, rest, (first, second, e, reads, n), others, f) none =
     absurd (none (first_is words front (second ∷ []) first (begins first (codes "until>") reads) e rest f))
+
+-- the same, from the answer that no word is one
+pub alone : (p : List Element) (words : List (List ℕ)) → PatternOf words p → (IsTrue false ↔ HasElementWord words) → (labels : List Label) × (p ≡ map one labels)
+alone p words pattern answered = labels_alone p words pattern.spelled (λ h. false≢true (answered.1 h))

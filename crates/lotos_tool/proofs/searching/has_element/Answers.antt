@@ -1,4 +1,4 @@
-use Rattle.std.proofs.Common.{rules, tests, map, string_bytes}
+use Rattle.std.proofs.Common.{rules, tests, string_bytes}
 use Rattle.std.proofs.lemmas.Iterator.{cases_from_any, YieldsList-from_slice}
 use Rattle.lotos_tool.specs.ElementWords.{IsElementWord}
 use Rattle.lotos_tool.proofs.ElementWords.{has_element_word}
