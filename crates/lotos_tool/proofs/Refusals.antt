@@ -75,7 +75,7 @@ unread left left' text (unaccepted.Refused (refusal.Check fault line column)) r 
   placed = h.placed;
   never = h.never;
 }
-unread left left' text (unaccepted.Refused (refusal.Label fault)) r h = absurd h
+unread left left' text (unaccepted.Refused (refusal.Pattern fault)) r h = absurd h
 unread left left' text (unaccepted.Refused refusal.E47) r h = absurd h
 unread left left' text (unaccepted.Refused (refusal.Text fault place)) r h = go fault h
   where

@@ -5,7 +5,7 @@
 //! processes, and [`run`] does what the words ask for and answers the status. Readers and writers are a [`Source`] and a
 //! [`Sink`]; [`FromRead`] and [`FromWrite`] make them of std's.
 //!
-//! The modules whose names begin with `interim` stand in for crates to come: patterns and the search.
+//! The module `interim_search` stands in for a crate to come, that of the search over terms.
 #![tactic(auto)]
 
 mod accepting;
@@ -13,7 +13,6 @@ mod answer;
 mod checking;
 mod command;
 mod device;
-mod interim_pattern;
 mod interim_search;
 mod lines;
 mod message;
@@ -30,7 +29,6 @@ pub use answer::{Ended, Why};
 pub use checking::check_text;
 pub use command::{CommandFault, Request, SearchRequest};
 pub use device::{DeviceFailed, FromRead, FromWrite, Sink, Source};
-pub use interim_pattern::LabelFault;
 pub use refusal::Refusal;
 pub use running::run;
 pub use searching::list;

@@ -1,8 +1,8 @@
 //! Why a search or a check is refused.
 
-use crate::interim_pattern::LabelFault;
 use crate::message::At;
 use lotos_check::CheckFault;
+use lotos_pattern::PatternFault;
 use lotos_text::TextFault;
 use thiserror::Error;
 
@@ -15,8 +15,8 @@ pub enum Refusal {
         fault: TextFault,
         place: Option<(usize, usize)>,
     },
-    /// The behaviour of the specification, which meets the static rules, has a form that is not searched yet: a parallel
-    /// expression, hiding, enabling, disabling, or a call.
+    /// The pattern has a word that begins with `<`; or the behaviour of the specification, which meets the static rules, has a
+    /// parallel expression, hiding, enabling, disabling, or a call. Neither is searched yet.
     #[error("E30 form is not searched yet")]
     E30,
     /// The specification breaks a static rule. The place is that of the fault's offset. No fault here is E99.
@@ -26,9 +26,9 @@ pub enum Refusal {
         line: usize,
         column: usize,
     },
-    /// The words of the pattern spell none.
+    /// The words of the pattern spell none. No fault here is E99.
     #[error(transparent)]
-    Label(LabelFault),
+    Pattern(PatternFault),
     /// The input cannot be read.
     #[error("E47 input cannot be read")]
     E47,

@@ -168,22 +168,67 @@ fn searches(rt: HostRuntime) {
     }
 }
 
+/// Words behind `search --depth 1` that are refused before anything is read, and what is said of them.
 const PATTERNS: &[(&[&str], &[u8])] = &[
     (
         &["lotosseq", "search", "--depth", "1", "I"],
         b"lotosseq: E45 word 1 is i, which cannot be observed\n",
     ),
     (
+        &["lotosseq", "search", "--depth", "1", "i"],
+        b"lotosseq: E45 word 1 is i, which cannot be observed\n",
+    ),
+    (
+        &["lotosseq", "search", "--depth", "1", "<until>", "i"],
+        b"lotosseq: E45 word 2 is i, which cannot be observed\n",
+    ),
+    (
         &["lotosseq", "search", "--depth", "1", "A-B"],
         b"lotosseq: E41 word 1 is neither a label nor an element\n",
     ),
     (
-        &["lotosseq", "search", "--depth", "1", "a", "<any>"],
-        b"lotosseq: E41 word 2 is neither a label nor an element\n",
+        &["lotosseq", "search", "--depth", "1", "<foo>"],
+        b"lotosseq: E41 word 1 is neither a label nor an element\n",
     ),
     (
         &["lotosseq", "search", "--depth", "1", "A", "1a", "i"],
         b"lotosseq: E41 word 2 is neither a label nor an element\n",
+    ),
+    (
+        &["lotosseq", "search", "--depth", "1", "<until>"],
+        b"lotosseq: E42 word 1 needs a label or <deadlock> after it\n",
+    ),
+    (
+        &["lotosseq", "search", "--depth", "1", "<until>", "<any>"],
+        b"lotosseq: E42 word 1 needs a label or <deadlock> after it\n",
+    ),
+    (
+        &["lotosseq", "search", "--depth", "1", "<deadlock>", "A"],
+        b"lotosseq: E43 word 2 follows an end element\n",
+    ),
+    (
+        &["lotosseq", "search", "--depth", "1", "A", "<deadlock>", "B"],
+        b"lotosseq: E43 word 3 follows an end element\n",
+    ),
+    (
+        &["lotosseq", "search", "--depth", "1", "<any>"],
+        b"lotosseq: E30 form is not searched yet\n",
+    ),
+    (
+        &["lotosseq", "search", "--depth", "1", "<until>", "b"],
+        b"lotosseq: E30 form is not searched yet\n",
+    ),
+    (
+        &["lotosseq", "search", "--depth", "1", "<deadlock>"],
+        b"lotosseq: E30 form is not searched yet\n",
+    ),
+    (
+        &["lotosseq", "search", "--depth", "1", "<until>", "<deadlock>"],
+        b"lotosseq: E30 form is not searched yet\n",
+    ),
+    (
+        &["lotosseq", "search", "--depth", "1", "a", "<any>"],
+        b"lotosseq: E30 form is not searched yet\n",
     ),
 ];
 
@@ -198,6 +243,7 @@ fn patterns_that_are_refused_before_anything_is_read(rt: HostRuntime) {
         assert_eq!(rt; status, 2);
         assert_eq!(rt; reader.reads, 0);
         assert!(rt; out.got().is_empty());
+        assert_eq!(rt; out.flushes, 0);
     }
 }
 
@@ -215,7 +261,7 @@ fn a_pattern_has_at_most_256_elements(rt: HostRuntime) -> Result<(), std::test::
         let reader = SliceReader::new(text, 4096);
         let out = ArrayWriter::new(4096);
         let err = ArrayWriter::new(4096);
-        let (status, _reader, out, err) = run_on(rt.alloc(), words.as_slice(), reader, out, err);
+        let (status, reader, out, err) = run_on(rt.alloc(), words.as_slice(), reader, out, err);
         let message: &[u8] = if count == 256 {
             b""
         } else {
@@ -223,6 +269,7 @@ fn a_pattern_has_at_most_256_elements(rt: HostRuntime) -> Result<(), std::test::
         };
         assert_eq!(rt; err.got(), message, "{count}");
         assert_eq!(rt; status, if count == 256 { 1 } else { 2 }, "{count}");
+        assert_eq!(rt; reader.reads == 0, count == 257, "{count}");
         assert!(rt; out.got().is_empty(), "{count}");
     }
     Ok(())
