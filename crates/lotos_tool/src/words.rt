@@ -221,7 +221,10 @@ const WORDS_LONG_HELP: &str = "The words of the pattern
 Each word is the name of a gate, or `exit` for successful termination, in upper or
 lower case. The pattern matches the sequence of just these labels in this order. With
 no word it matches the empty sequence alone. `i` is no word of a pattern, as the
-internal action cannot be observed. A pattern has at most 256 words.";
+internal action cannot be observed. A pattern has at most 256 labels.
+
+Words that begin with `<`, as `<any>`, `<until>` and `<deadlock>`, are read as elements
+of a pattern, and are not searched yet.";
 
 const SEARCH_STATUSES: &str = "Statuses:
   0  the listing is complete and has lines
