@@ -9,7 +9,7 @@ use Rattle.lotos_pattern.specs.declared.fault.PatternFault.TheVariants.{E41, E42
 use Rattle.lotos_pattern.specs.declared.reading.Meaning.{Meaning}
 use Rattle.lotos_pattern.specs.declared.reading.Meaning.TheVariants as meaning
 
--- the word has this meaning
+-- what the word means by itself
 abbrev pub IsMeaning : Text → Meaning → Type 0
 IsMeaning word (meaning.Label text) = Names word (string_bytes text)
 IsMeaning word meaning.Internal = IsInternal word
@@ -18,7 +18,7 @@ IsMeaning word meaning.Until = IsUntil word
 IsMeaning word meaning.Deadlock = Reads word (codes "<deadlock>")
 IsMeaning word meaning.Nothing = BeginsNone word
 
--- another element may follow these
+-- another element may follow these, of which there are at most 256
 pub record HasRoom (p : List Element) : Type 0 where
   pub goes_on : EndsDead p → ⊥
   pub room : length p ≢ 256

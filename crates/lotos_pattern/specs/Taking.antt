@@ -6,9 +6,9 @@ use Rattle.lotos_pattern.specs.declared.element.Taking.{Taking}
 use Rattle.lotos_pattern.specs.declared.element.Taking.TheVariants as taking
 
 unfoldable pub Takes : Element → Label → Taking → Type 0
--- the label is a segment, and a part of no longer one
+-- the label is a segment, and it begins no longer one
 Takes e l taking.Passes = (s : List Label) → Segment e (l ∷ s) ↔ (s ≡ [])
--- the label may stand before every segment, and behind it nothing else may stand
+-- behind the label may stand any segment of the element, and nothing else
 Takes e l taking.Stays = (s : List Label) → Segment e (l ∷ s) ↔ Segment e s
 -- no segment begins with the label
 Takes e l taking.Fails = (s : List Label) → Segment e (l ∷ s) → ⊥
