@@ -54,7 +54,14 @@ pub fn list<R: Source, W: Sink>(
     }
     let mut labels = Vec::new(alloc);
     let place = pattern.begin();
-    match find(alloc, found.start(), &pattern, place, request.depth, &mut labels) {
+    match find(
+        alloc,
+        found.start(),
+        &pattern,
+        place,
+        request.depth,
+        &mut labels,
+    ) {
         Ok(shown) => write_listing(alloc, labels.as_slice(), shown, writer),
         Err(_) => no_memory(),
     }

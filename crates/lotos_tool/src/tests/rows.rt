@@ -247,7 +247,14 @@ const PATTERNS: &[(&[&str], &[u8])] = &[
         b"lotosseq: E30 form is not searched yet\n",
     ),
     (
-        &["lotosseq", "search", "--depth", "1", "<until>", "<deadlock>"],
+        &[
+            "lotosseq",
+            "search",
+            "--depth",
+            "1",
+            "<until>",
+            "<deadlock>",
+        ],
         b"lotosseq: E30 form is not searched yet\n",
     ),
     (
