@@ -1,6 +1,7 @@
 /* Refuses one growth of the heap: the one with the number in REFUSED_GROWTH, counted from 1.
    A refusal writes a byte to file descriptor 9. */
 #include <errno.h>
+#include <malloc.h>
 #include <stdlib.h>
 #include <unistd.h>
 
@@ -24,4 +25,9 @@ static int is_refused(void)
 
 void *malloc(size_t size) { return is_refused() ? NULL : __libc_malloc(size); }
 void *calloc(size_t count, size_t size) { return is_refused() ? NULL : __libc_calloc(count, size); }
-void *realloc(void *old, size_t size) { return is_refused() ? NULL : __libc_realloc(old, size); }
+/* What fits where it is, as a list that is cut to its length, is no growth. */
+void *realloc(void *old, size_t size)
+{
+    int fits = old != NULL && size <= malloc_usable_size(old);
+    return !fits && is_refused() ? NULL : __libc_realloc(old, size);
+}

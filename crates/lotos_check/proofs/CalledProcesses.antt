@@ -2,18 +2,18 @@
 use Rattle.std.proofs.Common.{◌≡◌, ◌≢◌, ℕ, ◌+◌, List, [], ◌∷◌, ◌++◌, Some, length, slice_get, refl, sym, ap, ◌∙◌, subst, inl, inr, arith, zero, suc}
 use Rattle.std.proofs.lemmas.Bool.Decides.{eqb_tells}
 use Rattle.std.proofs.lemmas.List.{length-map}
-use Rattle.lotos_text.specs.Tree.{Tree, Def, def, Defs, no_defs, more_defs, call, formals_of, body_of, inner_of}
+use Rattle.lotos_text.specs.Tree.{Tree, Def, def, Defs, no_defs, more_defs, call, name_of, formals_of, body_of, inner_of}
 use Rattle.lotos_text.specs.declared.tree.Placed.{Placed}
 use Rattle.lotos_check.specs.Names.{Name, In, texts}
-use Rattle.lotos_check.specs.Scope.{Scope, Where, Visible, Declares, here, later, Means, nearest, outward, count, within, listed, processes_of, everywhere}
+use Rattle.lotos_check.specs.Scope.{Scope, Where, Scoped, Declares, here, later, Means, nearest, outward, count, within, listed, processes_of, everywhere}
 use Rattle.lotos_check.specs.Parts as parts
 use Rattle.lotos_check.specs.Parts.{Part, in_prefix, in_choice_left, in_choice_right, in_par_left, in_par_right, in_hide, in_enable_left, in_enable_right, in_disable_left, in_disable_right}
 use Rattle.lotos_check.specs.Flat.{Flat, FlatProcess, System, Pairwise, no_pair, one_pair, IsProcess, IsFlat, Resolves, of_stop, of_exit, of_prefix, of_choice, of_par, of_par_all, of_hide, of_enable, of_disable, of_call}
-use Rattle.lotos_check.specs.Bodies.{HasCall, itself, under_prefix, left_choice, right_choice, left_par, right_par, under_hide, left_enable, right_enable, left_disable, right_disable, IsBodyOf, of_whole, of_process}
+use Rattle.lotos_check.specs.Bodies.{HasCall, itself, under_prefix, left_choice, right_choice, left_par, right_par, under_hide, left_enable, right_enable, left_disable, right_disable, IsBodyOf, of_whole, of_process, IsProcessOf, GoesToNamed}
 use Rattle.lotos_check.specs.Causes.{IsE23}
 use Rattle.lotos_check.specs.Checking.{IsAccepted}
 use Rattle.lotos_check.proofs.OneSystem.{paired_at}
-use Rattle.lotos_check.proofs.Visibles.{in_joined, listed_count}
+use Rattle.lotos_check.proofs.ScopedDefinitions.{in_joined, listed_count}
 
 -- in the behaviour stands a call of a name that means the process, with these gates
 record IsCalled (scope : Scope) (known : List Name) (body : Tree) (k : ℕ) (gates : List Name) : Type 0 where
@@ -72,22 +72,22 @@ named_call scope known t c k gates of_stop h = elim h [ ]
 named_call scope known t c k gates of_exit h = elim h [ ]
 
 -- the second list stands in the first from that index on
-abbrev StandsFrom : List Visible → ℕ → List Visible → Type 0
-StandsFrom all k some = (i j : ℕ) (v : Visible) → j ≡ k + i → slice_get some i ≡ Some v → slice_get all j ≡ Some v
+abbrev StandsFrom : List Scoped → ℕ → List Scoped → Type 0
+StandsFrom all k some = (i j : ℕ) (v : Scoped) → j ≡ k + i → slice_get some i ≡ Some v → slice_get all j ≡ Some v
 
-get_front : (xs ys : List Visible) (i : ℕ) (v : Visible) → slice_get xs i ≡ Some v → slice_get (xs ++ ys) i ≡ Some v
+get_front : (xs ys : List Scoped) (i : ℕ) (v : Scoped) → slice_get xs i ≡ Some v → slice_get (xs ++ ys) i ≡ Some v
 get_front [] ys i v e = cc
 get_front (x ∷ xs) ys zero v e = e
 get_front (x ∷ xs) ys (suc i) v e = get_front xs ys i v e
 
-get_back : (xs ys : List Visible) (i j : ℕ) (v : Visible) → j ≡ length xs + i → slice_get ys i ≡ Some v →
+get_back : (xs ys : List Scoped) (i j : ℕ) (v : Scoped) → j ≡ length xs + i → slice_get ys i ≡ Some v →
     slice_get (xs ++ ys) j ≡ Some v
 get_back [] ys i j v at e = let same : i ≡ j = omega arith in subst (λ n. slice_get ys n ≡ Some v) same e
 get_back (x ∷ xs) ys i zero v at e = absurd (omega arith)
 get_back (x ∷ xs) ys i (suc j) v at e = get_back xs ys i j v (omega arith) e
 
 -- where a list stands whose first item two lists follow, there stands that item, behind it the one list, and behind that the other
-module _ (all : List Visible) (k : ℕ) (first : Visible) (xs ys : List Visible) (stands : StandsFrom all k (first ∷ xs ++ ys)) where
+module _ (all : List Scoped) (k : ℕ) (first : Scoped) (xs ys : List Scoped) (stands : StandsFrom all k (first ∷ xs ++ ys)) where
   stands_first : slice_get all k ≡ Some first
   stands_first = stands 0 k first (omega arith) refl
 
@@ -98,46 +98,46 @@ module _ (all : List Visible) (k : ℕ) (first : Visible) (xs ys : List Visible)
   stands_back n after i j v at e = stands (suc (length xs + i)) j v (omega arith) (get_back xs ys i (length xs + i) v refl e)
 
 -- the definition of that number in the list of all definitions
-record IsAt (all : List Visible) (q : ℕ) (d : Def) : Type 0 where
-  visible : Visible
-  stands : slice_get all q ≡ Some visible
-  same : visible.definition ≡ d
+record IsAt (all : List Scoped) (q : ℕ) (d : Def) : Type 0 where
+  scoped : Scoped
+  stands : slice_get all q ≡ Some scoped
+  same : scoped.definition ≡ d
 
 -- the `where` is numbered as its definitions stand in the list
-record IsNumbered (all : List Visible) (w : Where) : Type 0 where
+record IsNumbered (all : List Scoped) (w : Where) : Type 0 where
   scope : Scope
   stands : StandsFrom all w.first (listed scope w.first w.defs)
 
-declared_at : (all : List Visible) (scope : Scope) (k : ℕ) (ds : Defs) → StandsFrom all k (listed scope k ds) →
+declared_at : (all : List Scoped) (scope : Scope) (k : ℕ) (ds : Defs) → StandsFrom all k (listed scope k ds) →
     (n : Name) (q : ℕ) (d : Def) → Declares ds k n q d → IsAt all q d
 declared_at all scope k (more_defs (def name formals declared body inner) ds) stands n q d here =
     let own : Scope = record { defs = inner; first = k + 1 } ∷ scope in
-    let this : Visible = record { scope = own; definition = def name formals declared body inner } in
+    let this : Scoped = record { scope = own; definition = def name formals declared body inner } in
     let at = stands_first all k this (listed own (k + 1) inner) (listed scope (k + 1 + count inner) ds) stands in
-    record { visible = this; stands = at; same = refl }
+    record { scoped = this; stands = at; same = refl }
 declared_at all scope k (more_defs (def name formals declared body inner) ds) stands n q d (later x) =
     let own : Scope = record { defs = inner; first = k + 1 } ∷ scope in
-    let this : Visible = record { scope = own; definition = def name formals declared body inner } in
+    let this : Scoped = record { scope = own; definition = def name formals declared body inner } in
     let deep = listed own (k + 1) inner in
     let c = listed_count own (k + 1) inner in
     let behind = stands_back all k this deep (listed scope (k + 1 + count inner) ds) stands (k + 1 + count inner) (omega arith) in
     declared_at all scope (k + 1 + count inner) ds behind n q d x
 declared_at all scope k no_defs stands n q d x = elim x [ ]
 
-abbrev AllNumbered : List Visible → Scope → Type 0
+abbrev AllNumbered : List Scoped → Scope → Type 0
 AllNumbered all scope = (w : Where) → In w scope → IsNumbered all w
 
-more_numbered : (all : List Visible) (w : Where) (scope : Scope) → IsNumbered all w → AllNumbered all scope → AllNumbered all (w ∷ scope)
+more_numbered : (all : List Scoped) (w : Where) (scope : Scope) → IsNumbered all w → AllNumbered all scope → AllNumbered all (w ∷ scope)
 more_numbered all w scope h numbered x (inl e) = subst (IsNumbered all) e h
 more_numbered all w scope h numbered x (inr i) = numbered x i
 
-listed_numbered : (all : List Visible) (scope : Scope) (k : ℕ) (ds : Defs) → StandsFrom all k (listed scope k ds) → AllNumbered all scope →
-    (v : Visible) → In v (listed scope k ds) → AllNumbered all v.scope
+listed_numbered : (all : List Scoped) (scope : Scope) (k : ℕ) (ds : Defs) → StandsFrom all k (listed scope k ds) → AllNumbered all scope →
+    (v : Scoped) → In v (listed scope k ds) → AllNumbered all v.scope
 listed_numbered all scope k no_defs stands numbered v i = absurd i
 listed_numbered all scope k (more_defs (def name formals declared body inner) ds) stands numbered v i =
     let w : Where = record { defs = inner; first = k + 1 } in
     let own : Scope = w ∷ scope in
-    let this : Visible = record { scope = own; definition = def name formals declared body inner } in
+    let this : Scoped = record { scope = own; definition = def name formals declared body inner } in
     let deep = listed own (k + 1) inner in
     let rest = listed scope (k + 1 + count inner) ds in
     let c = listed_count own (k + 1) inner in
@@ -152,7 +152,7 @@ listed_numbered all scope k (more_defs (def name formals declared body inner) ds
       ]
     ]
 
-visible_numbered : (whole : Def) (v : Visible) → In v (everywhere whole) → AllNumbered (processes_of whole) v.scope
+visible_numbered : (whole : Def) (v : Scoped) → In v (everywhere whole) → AllNumbered (processes_of whole) v.scope
 visible_numbered whole v i =
     let all = processes_of whole in
     let w : Where = record { defs = inner_of whole; first = 0 } in
@@ -163,13 +163,13 @@ visible_numbered whole v i =
       | inr j ↦ listed_numbered all (within whole 0 []) 0 (inner_of whole) stands top v j
     ]
 
-meant_at : (all : List Visible) (scope : Scope) → AllNumbered all scope → (n : Name) (q : ℕ) (d : Def) → Means scope n q d → IsAt all q d
+meant_at : (all : List Scoped) (scope : Scope) → AllNumbered all scope → (n : Name) (q : ℕ) (d : Def) → Means scope n q d → IsAt all q d
 meant_at all (w ∷ ws) numbered n q d (nearest x) =
     let h = numbered w (inl refl) in declared_at all h.scope w.first w.defs h.stands n q d x
 meant_at all (w ∷ ws) numbered n q d (outward none x) = meant_at all ws (λ v i. numbered v (inr i)) n q d x
 meant_at all [] numbered n q d x = elim x [ ]
 
-process_at : (vs : List Visible) (ps : List FlatProcess) → Pairwise IsProcess vs ps → (i : ℕ) (v : Visible) → slice_get vs i ≡ Some v →
+process_at : (vs : List Scoped) (ps : List FlatProcess) → Pairwise IsProcess vs ps → (i : ℕ) (v : Scoped) → slice_get vs i ≡ Some v →
     (p : FlatProcess) × (slice_get ps i ≡ Some p) × IsProcess v p
 process_at [] [] no_pair i v e = cc
 process_at (w ∷ vs) (p ∷ ps) (one_pair h hs) zero v e = let f : w ≡ v = cc in (p, refl, subst (λ x. IsProcess x p) f h)
@@ -177,17 +177,40 @@ process_at (w ∷ vs) (p ∷ ps) (one_pair h hs) (suc i) v e = process_at vs ps 
 process_at [] (p ∷ ps) h i v e = elim h [ ]
 process_at (w ∷ vs) [] h i v e = elim h [ ]
 
--- the process of the number that a name means has the formal gates of the definition that it means
-called_process : (whole : Def) (s : System) → IsFlat whole s → (v : Visible) → In v (everywhere whole) → (n : Name) (k : ℕ) (d : Def) →
-    Means v.scope n k d → (process : FlatProcess) × (slice_get s.processes k ≡ Some process) × (process.formals ≡ texts (formals_of d))
+-- the process of the number that a name means is the definition that it means
+called_process : (whole : Def) (s : System) → IsFlat whole s → (v : Scoped) → In v (everywhere whole) → (n : Name) (k : ℕ) (d : Def) →
+    Means v.scope n k d → IsProcessOf s k d
 called_process whole s flat v i n k d m =
     let at = meant_at (processes_of whole) v.scope (visible_numbered whole v i) n k d m in
-    let p = process_at (processes_of whole) s.processes flat.processes k at.visible at.stands in
-    (p.0, p.1, p.2.formals ∙ ap (λ e. texts (formals_of e)) at.same)
+    let p = process_at (processes_of whole) s.processes flat.processes k at.scoped at.stands in
+    record {
+      process = p.0;
+      stands = p.1;
+      name = p.2.name ∙ ap (λ e. (name_of e).name) at.same;
+      formals = p.2.formals ∙ ap (λ e. texts (formals_of e)) at.same;
+    }
+
+-- a call by number in the body of a definition goes to the definition that its name means
+pub goes_to_named : (whole : Def) (s : System) → IsAccepted whole s → (v : Scoped) → In v (everywhere whole) → (b : Flat) →
+    Resolves v.scope (body_of v.definition) b → (k : ℕ) (gates : List Name) → HasCall b k gates → GoesToNamed s v k gates
+goes_to_named whole s a v i b r k gates h =
+    let c = named_call v.scope (texts (formals_of v.definition)) (body_of v.definition) b k gates r h in
+    record {
+      named = record {
+        there = c.there;
+        called = c.name;
+        actuals = c.actuals;
+        inside = c.inside;
+        definition = c.definition;
+        means = c.means;
+        given = c.given;
+      };
+      process = called_process whole s a.flat v i c.name.name k c.definition c.means;
+    }
 
 -- a behaviour of the flat system is the body of a definition with calls by number
 body_visible : (whole : Def) (s : System) → IsFlat whole s → (b : Flat) → IsBodyOf s b →
-    (v : Visible) × In v (everywhere whole) × Resolves v.scope (body_of v.definition) b
+    (v : Scoped) × In v (everywhere whole) × Resolves v.scope (body_of v.definition) b
 body_visible whole s flat b of_whole = (record { scope = within whole 0 []; definition = whole }, inl refl, flat.start)
 body_visible whole s flat b (of_process p process e) =
     let at = paired_at (processes_of whole) s.processes flat.processes p process e in
@@ -219,5 +242,5 @@ call_fits whole s a b body k gates h =
     } in
     let same : formal ≡ actual = same_unless formal actual (λ differ. a.typed.same_numbers c.name formal actual (unfit differ)) in
     let g = ap length c.given ∙ length-map c.actuals (λ p. p.name) in
-    let f = ap length p.2 ∙ length-map (formals_of c.definition) (λ p. p.name) in
-    (p.0, p.1, g ∙ sym same ∙ sym f)
+    let f = ap length p.formals ∙ length-map (formals_of c.definition) (λ p. p.name) in
+    (p.process, p.stands, g ∙ sym same ∙ sym f)

@@ -3,7 +3,7 @@ use Rattle.std.proofs.Common.{◌≡◌, ◌⊎◌, ℕ, ◌+◌, List, [], ◌�
 use Rattle.lotos_text.specs.Tree.{Def, def, Defs, no_defs, more_defs, formals_of, inner_of}
 use Rattle.lotos_text.specs.declared.tree.Placed.{Placed}
 use Rattle.lotos_check.specs.Names.{In, IsSecond, AreDistinct}
-use Rattle.lotos_check.specs.Scope.{Scope, Visible, Stands, within, listed, listed_with, everywhere, count, declared_names}
+use Rattle.lotos_check.specs.Scope.{Scope, Scoped, IsDefinition, within, listed, listed_with, everywhere, count, declared_names}
 use Rattle.lotos_check.specs.Causes.{IsE20, IsE24, IsDistinct}
 use Rattle.lotos_check.specs.Checking.{IsRepeat}
 use Rattle.lotos_check.specs.declared.fault.CheckFault.{CheckFault}
@@ -16,8 +16,8 @@ Among e no_defs = ⊥
 Among e (more_defs d ds) = (d ≡ e) ⊎ Among e ds
 
 -- the definition stands in the list, whatever is visible in it
-abbrev Lists : List Visible → Def → Type 0
-Lists vs d = (scope : Scope) × In {X = Visible} (record { scope = scope; definition = d }) vs
+abbrev Lists : List Scoped → Def → Type 0
+Lists vs d = (scope : Scope) × In {X = Scoped} (record { scope = scope; definition = d }) vs
 
 -- which definitions are listed does not depend on the scope around them, nor on their numbers
 relisted : (s t : Scope) (k j : ℕ) (ds : Defs) (e : Def) → Lists (listed s k ds) e → Lists (listed t j ds) e
@@ -47,7 +47,7 @@ listed_among s t k j (more_defs (def n fs c b inner) ds) x e (inl h) (u, inl i) 
 )
 listed_among s t k j (more_defs (def n fs c b inner) ds) x e (inl h) (u, inr i) =
     let s' = record { defs = inner; first = k + 1 } ∷ s in
-    let old = subst (λ d. In {X = Visible} (record { scope = u; definition = e }) (listed (within d j t) j (inner_of d))) (sym h)
+    let old = subst (λ d. In {X = Scoped} (record { scope = u; definition = e }) (listed (within d j t) j (inner_of d))) (sym h)
     i in
     let r = relisted (record { defs = inner; first = j } ∷ t) s' j (k + 1) inner e (u, old) in
     (r.0, inr (in_front _ (listed s' (k + 1) inner) (listed s (k + 1 + count inner) ds) r.1))
@@ -78,7 +78,7 @@ among_listed s k (more_defs (def n fs c b inner) ds) e (u, inr i) =
     ]
 
 -- what stands in an inner definition stands in the whole
-stands_inside : (whole x e : Def) (s : Scope) → Among x (inner_of whole) → Stands x s e → Lists (everywhere whole) e
+stands_inside : (whole x e : Def) (s : Scope) → Among x (inner_of whole) → IsDefinition x s e → Lists (everywhere whole) e
 stands_inside whole x e s a i =
     let r = listed_among (within whole 0 []) [] 0 0 (inner_of whole) x e a (s, i) in
     (r.0, inr r.1)

@@ -6,7 +6,7 @@ use Rattle.lotos_text.specs.Inside.{AreNamesInside, IsTreeInside, IsInside, AreI
 use Rattle.lotos_text.specs.declared.tree.Placed.{Placed}
 use Rattle.lotos_text.specs.declared.tree.Action.TheVariants.{Internal, Gate}
 use Rattle.lotos_check.specs.Names.{Name, In, IsSecond}
-use Rattle.lotos_check.specs.Scope.{Scope, Visible, declared_names, count, listed, within, processes_of, everywhere}
+use Rattle.lotos_check.specs.Scope.{Scope, Scoped, declared_names, count, listed, within, processes_of, everywhere}
 use Rattle.lotos_check.specs.Parts.{Part, whole, in_prefix, in_choice_left, in_choice_right, in_par_left, in_par_right, in_hide}
 use Rattle.lotos_check.specs.Parts.{in_enable_left, in_enable_right, in_disable_left, in_disable_right, Uses, acts, synchronizes, passes}
 use Rattle.lotos_check.specs.Causes.{Occurs}
@@ -68,7 +68,7 @@ declared_inside n (more_defs d ds) h p (inl e) = subst (λ t. t.at ≤ n) e (nam
 declared_inside n (more_defs d ds) h p (inr i) = declared_inside n ds h.1 p i
 
 -- of definitions inside the text all that are listed are inside it
-listed_inside : (n : ℕ) (scope : Scope) (k : ℕ) (ds : Defs) → AreInside n ds → (v : Visible) → In v (listed scope k ds) →
+listed_inside : (n : ℕ) (scope : Scope) (k : ℕ) (ds : Defs) → AreInside n ds → (v : Scoped) → In v (listed scope k ds) →
     IsInside n v.definition
 listed_inside n scope k no_defs h v i = absurd i
 listed_inside n scope k (more_defs (def name formals declared body inner) ds) h v (inl e) = subst (λ t. IsInside n t.definition) e h.0
@@ -81,7 +81,7 @@ listed_inside n scope k (more_defs (def name formals declared body inner) ds) h 
 
 module _ (spec : Def) (n : ℕ) (inside : IsInside n spec) where
   -- so is each definition that stands in a specification inside the text
-  stands_inside : (v : Visible) → In v (everywhere spec) → IsInside n v.definition
+  stands_inside : (v : Scoped) → In v (everywhere spec) → IsInside n v.definition
   stands_inside v (inl e) = subst (λ t. IsInside n t.definition) e inside
   stands_inside v (inr i) = listed_inside n (within spec 0 []) 0 (inner_of spec) (inner_inside n spec inside) v i
 
@@ -92,7 +92,7 @@ module _ (spec : Def) (n : ℕ) (inside : IsInside n spec) where
       part_inside n _ (body_of h.definition) known part h.inside body
 
 -- what a place of a list has stands in it
-in_at : (vs : List Visible) (i : ℕ) (v : Visible) → slice_get vs i ≡ Some v → In v vs
+in_at : (vs : List Scoped) (i : ℕ) (v : Scoped) → slice_get vs i ≡ Some v → In v vs
 in_at [] i v e = cc
 in_at (x ∷ vs) zero v e = inl (cc)
 in_at (x ∷ vs) (suc i) v e = inr (in_at vs i v e)
@@ -115,6 +115,6 @@ faulty_inside spec (E25 name declared) n h inside =
     subst (λ p. p.at ≤ n) (sym h.named) (name_inside n h.definition d)
 faulty_inside spec (E26 at) n h inside = (occurs_inside spec n inside h.scope h.known (enable h.left at h.right) h.occurs).1
 faulty_inside spec (E27 name set) n h inside =
-    let d = stands_inside spec n inside h.visible (inr (in_at (processes_of spec) h.first h.visible h.stands)) in
-    subst (λ p. p.at ≤ n) (sym h.named) (name_inside n h.visible.definition d)
+    let d = stands_inside spec n inside h.scoped (inr (in_at (processes_of spec) h.first h.scoped h.stands)) in
+    subst (λ p. p.at ≤ n) (sym h.named) (name_inside n h.scoped.definition d)
 faulty_inside spec (E99 e) n h inside = tt

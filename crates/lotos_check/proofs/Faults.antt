@@ -4,17 +4,17 @@ use Rattle.std.specs.Prelude.{MatchOption, slice_get}
 use Rattle.lotos_text.specs.Tree.{Def, name_of, formals_of, body_of}
 use Rattle.lotos_text.specs.declared.tree.Placed.{Placed}
 use Rattle.lotos_check.specs.Names.{In, texts}
-use Rattle.lotos_check.specs.Scope.{Visible, everywhere, processes_of, definitions_in}
+use Rattle.lotos_check.specs.Scope.{Scoped, everywhere, processes_of, definitions_in}
 use Rattle.lotos_check.specs.Flat.{Pairwise, no_pair, one_pair, System, IsFlat}
-use Rattle.lotos_check.specs.Guard.{IsE27, IsLargestTrap, IsTrap}
-use Rattle.lotos_check.specs.Checking.{IsAccepted, IsRepeat, IsFaulty, IsRefused}
+use Rattle.lotos_check.specs.Guard.{IsE27, IsLargestUnguardedSet, IsUnguardedSet}
+use Rattle.lotos_check.specs.Checking.{IsAccepted, IsRepeat, IsFaulty, IsNowhereAccepted}
 use Rattle.lotos_check.specs.Resolved.{IsBody, IsMisnamedIn, LeftsExit, NeverExits}
 use Rattle.lotos_check.specs.Typing.{IsUntyped, IsUntypedOne}
 use Rattle.lotos_check.specs.declared.body.Resolved.{Resolved}
 use Rattle.lotos_check.specs.declared.fault.CheckFault.{CheckFault}
 use Rattle.lotos_check.specs.declared.fault.CheckFault.TheVariants.{E20, E21, E22, E23, E24, E25, E26, E27, E99}
-use Rattle.lotos_check.proofs.Traps.{trapped_unguarded}
-use Rattle.lotos_check.proofs.Visibles.{everywhere_in_order}
+use Rattle.lotos_check.proofs.UnguardedSets.{unguarded_has_no_ranking}
+use Rattle.lotos_check.proofs.ScopedDefinitions.{everywhere_in_order}
 use Rattle.lotos_check.proofs.OneSystem.{same_processes}
 
 -- a name that is declared twice breaks a rule
@@ -35,31 +35,31 @@ misnamed_faulty whole (E20 gate) h = absurd h.misnamed
 misnamed_faulty whole (E21 gate) h =
     let m = h.misnamed in
     record {
-      scope = h.visible.scope;
+      scope = h.scoped.scope;
       known = m.there;
       part = m.part;
-      occurs = record { definition = h.visible.definition; stands = h.stands; inside = m.stands };
+      occurs = record { definition = h.scoped.definition; stands = h.stands; inside = m.stands };
       uses = m.uses;
       unknown = m.unknown;
     }
 misnamed_faulty whole (E22 name) h =
     let m = h.misnamed in
     record {
-      scope = h.visible.scope;
+      scope = h.scoped.scope;
       known = m.there;
       actuals = m.actuals;
-      occurs = record { definition = h.visible.definition; stands = h.stands; inside = m.stands };
+      occurs = record { definition = h.scoped.definition; stands = h.stands; inside = m.stands };
       unknown = m.unseen;
     }
 misnamed_faulty whole (E23 name formal actual) h =
     let m = h.misnamed in
     record {
-      scope = h.visible.scope;
+      scope = h.scoped.scope;
       known = m.there;
       actuals = m.actuals;
       process = m.process;
       definition = m.definition;
-      occurs = record { definition = h.visible.definition; stands = h.stands; inside = m.stands };
+      occurs = record { definition = h.scoped.definition; stands = h.stands; inside = m.stands };
       means = m.means;
       declared = m.declared;
       given = m.given;
@@ -71,22 +71,22 @@ misnamed_faulty whole (E26 at) h = absurd h.misnamed
 misnamed_faulty whole (E27 name set) h = absurd h.misnamed
 misnamed_faulty whole (E99 e) h = tt
 
-found_at : (vs : List Visible) (found : List Resolved) → Pairwise IsBody vs found → (i : ℕ) (d : Def) (r : Resolved) →
-    slice_get (map (λ v. v.definition) vs) i ≡ Some d → slice_get found i ≡ Some r → (v : Visible) × In v vs × (v.definition ≡ d) × IsBody v r
+found_at : (vs : List Scoped) (found : List Resolved) → Pairwise IsBody vs found → (i : ℕ) (d : Def) (r : Resolved) →
+    slice_get (map (λ v. v.definition) vs) i ≡ Some d → slice_get found i ≡ Some r → (v : Scoped) × In v vs × (v.definition ≡ d) × IsBody v r
 found_at [] [] no_pair i d r e f = cc
 found_at (v ∷ vs) (x ∷ found) (one_pair h hs) zero d r e f = let g : x ≡ r = cc in (v, inl refl, (cc), subst (IsBody v) g h)
 found_at (v ∷ vs) (x ∷ found) (one_pair h hs) (suc i) d r e f = let n = found_at vs found hs i d r e f in (n.0, inr n.1, n.2, n.3)
 found_at [] (x ∷ found) h i d r e f = elim h [ ]
 found_at (v ∷ vs) [] h i d r e f = elim h [ ]
 
-never_at : (v : Visible) (never : Option ℕ) (at : ℕ) → never ≡ Some at →
+never_at : (v : Scoped) (never : Option ℕ) (at : ℕ) → never ≡ Some at →
     MatchOption never (LeftsExit v.scope (texts (formals_of v.definition)) (body_of v.definition))
     (NeverExits v.scope (texts (formals_of v.definition)) (body_of v.definition)) →
     NeverExits v.scope (texts (formals_of v.definition)) (body_of v.definition) at
 never_at v None at e h = cc
 never_at v (Some x) at e h = let f : x ≡ at = cc in subst (NeverExits v.scope (texts (formals_of v.definition)) (body_of v.definition)) f h
 
-untyped_one : (whole : Def) (v : Visible) (r : Resolved) (fault : CheckFault) → In v (everywhere whole) → IsBody v r →
+untyped_one : (whole : Def) (v : Scoped) (r : Resolved) (fault : CheckFault) → In v (everywhere whole) → IsBody v r →
     IsUntypedOne v.definition r fault → IsFaulty whole fault
 untyped_one whole v r (E20 gate) i b h = absurd h
 untyped_one whole v r (E21 gate) i b h = absurd h
@@ -124,16 +124,16 @@ untyped_faulty whole found fault bodies h =
     let n = found_at (everywhere whole) found bodies h.index h.definition h.body (rw e at h.defined) h.stands in
     untyped_one whole n.0 h.body fault n.1 n.3 (subst (λ d. IsUntypedOne d h.body fault) (sym n.2) h.untyped)
 
--- a specification with a trap is not accepted
-trap_refused : (whole : Def) (name : Placed) (set : List ℕ) → IsE27 whole name set → (system : System) → IsAccepted whole system → ⊥
-trap_refused whole name set h system a =
+-- a specification with an unguarded set is not accepted
+unguarded_refused : (whole : Def) (name : Placed) (set : List ℕ) → IsE27 whole name set → (system : System) → IsAccepted whole system → ⊥
+unguarded_refused whole name set h system a =
     let e = same_processes whole h.system system a.typed.distinct h.flat a.flat in
-    let trap = subst (λ ps. IsTrap ps set) e h.trap.trap in
+    let unguarded = subst (λ ps. IsUnguardedSet ps set) e h.unguarded.unguarded in
     let stands : In h.first set = subst (In h.first) (sym h.begins) (inl refl) in
-    trapped_unguarded system.processes set a.guarded.rank h.first trap stands a.guarded.falls
+    unguarded_has_no_ranking system.processes set a.guarded.rank h.first unguarded stands a.guarded.falls
 
 -- what breaks a rule is not accepted
-pub faulty_refused : (whole : Def) (fault : CheckFault) → IsFaulty whole fault → IsRefused whole fault
+pub faulty_refused : (whole : Def) (fault : CheckFault) → IsFaulty whole fault → IsNowhereAccepted whole fault
 faulty_refused whole (E20 gate) h = λ system a. a.typed.distinct.gates gate h
 faulty_refused whole (E21 gate) h = λ system a. a.typed.known_gates gate h
 faulty_refused whole (E22 name) h = λ system a. a.typed.known_processes name h
@@ -141,31 +141,31 @@ faulty_refused whole (E23 name formal actual) h = λ system a. a.typed.same_numb
 faulty_refused whole (E24 name) h = λ system a. a.typed.distinct.processes name h
 faulty_refused whole (E25 name declared) h = λ system a. a.typed.as_declared name declared h
 faulty_refused whole (E26 at) h = λ system a. a.typed.left_exits at h
-faulty_refused whole (E27 name set) h = trap_refused whole name set.items h
+faulty_refused whole (E27 name set) h = unguarded_refused whole name set.items h
 faulty_refused whole (E99 e) h = tt
 
 -- the definition of a process stands in the list of all behind the specification
-process_at : (vs : List Visible) (i : ℕ) (d : Def) → slice_get (map (λ v. v.definition) vs) i ≡ Some d →
-    (v : Visible) × (slice_get vs i ≡ Some v) × (v.definition ≡ d)
+process_at : (vs : List Scoped) (i : ℕ) (d : Def) → slice_get (map (λ v. v.definition) vs) i ≡ Some d →
+    (v : Scoped) × (slice_get vs i ≡ Some v) × (v.definition ≡ d)
 process_at [] i d e = cc
 process_at (v ∷ vs) zero d e = (v, refl, (cc))
 process_at (v ∷ vs) (suc i) d e = process_at vs i d e
 
--- a trap that is not empty breaks the rule of guarded recursion, by the name of its first process
-pub trap_faulty : (whole : Def) (system : System) (set : List ℕ) (first : ℕ) (others : List ℕ) (name : Placed) (d : Def) →
-    IsFlat whole system → IsLargestTrap system.processes set → set ≡ first ∷ others →
+-- an unguarded set that is not empty breaks the rule of guarded recursion, by the name of its first process
+pub unguarded_faulty : (whole : Def) (system : System) (set : List ℕ) (first : ℕ) (others : List ℕ) (name : Placed) (d : Def) →
+    IsFlat whole system → IsLargestUnguardedSet system.processes set → set ≡ first ∷ others →
     slice_get (definitions_in whole) (suc first) ≡ Some d → name ≡ name_of d → IsE27 whole name set
-trap_faulty whole system set first others name d flat trap begins stands named =
+unguarded_faulty whole system set first others name d flat unguarded begins stands named =
     let e = everywhere_in_order whole in
     let at = process_at (processes_of whole) first d (rw e at stands) in
     record {
       system = system;
       flat = flat;
-      trap = trap;
+      unguarded = unguarded;
       first = first;
       others = others;
       begins = begins;
-      visible = at.0;
+      scoped = at.0;
       stands = at.1;
       named = named ∙ ap name_of (sym at.2);
     }

@@ -10,16 +10,16 @@ use Rattle.lotos_check.specs.Names.{Name, In, texts}
 use Rattle.lotos_check.specs.Scope.{count, everywhere, definitions_in, processes_of}
 use Rattle.lotos_check.specs.Flat.{System, IsFlat}
 use Rattle.lotos_check.specs.Guard.{Calls, IsGuarded, IsE27}
-use Rattle.lotos_check.specs.Guarding.{Traps}
+use Rattle.lotos_check.specs.Guarding.{IsUnguarded}
 use Rattle.lotos_check.specs.Resolved.{Adds}
 use Rattle.lotos_check.specs.Checking.{AreRanks, IsFlattened}
 use Rattle.lotos_check.specs.View.{flat_of, process_of}
 use Rattle.lotos_check.specs.declared.body.Resolved.{Resolved}
 use Rattle.lotos_check.specs.declared.code.Code.{Code}
 use Rattle.lotos_check.specs.declared.code.Process.{Process}
-use Rattle.lotos_check.proofs.Faults.{trap_faulty}
+use Rattle.lotos_check.proofs.Faults.{unguarded_faulty}
 use Rattle.lotos_check.proofs.Listings.{in_order}
-use Rattle.lotos_check.proofs.Visibles.{definitions_count, everywhere_in_order}
+use Rattle.lotos_check.proofs.ScopedDefinitions.{definitions_count, everywhere_in_order}
 use Rattle.lotos_check.proofs.Rules.{walked, flat_system}
 use Rattle.lotos_check.proofs.OneSystem.{calls_within, paired_length}
 
@@ -43,12 +43,12 @@ module _ {W : Type 0} (view : W → Def) (definitions : List W) (whole : Def) (l
       let same = ap length listed in
       omega arith
 
-  -- the first process of a trap has its definition there, one place behind its number
-  pub trap_below : (system : System) (set : List ℕ) (k : ℕ) → IsFlat whole system → Traps system.processes set → k ≡ get_or set 0 k →
+  -- the first process of an unguarded set has its definition there, one place behind its number
+  pub unguarded_below : (system : System) (set : List ℕ) (k : ℕ) → IsFlat whole system → IsUnguarded system.processes set → k ≡ get_or set 0 k →
       k + 1 < length definitions
-  trap_below system set k flat trap e =
-      let first : k ≡ trap.first = rw trap.begins at e in
-      let call = trap.trap.trap k (subst (In k) (sym trap.begins) (inl (sym first))) in
+  unguarded_below system set k flat unguarded e =
+      let first : k ≡ unguarded.first = rw unguarded.begins at e in
+      let call = unguarded.unguarded.unguarded k (subst (In k) (sym unguarded.begins) (inl (sym first))) in
       let within = slice_get_within system.processes k call.1.process call.1.stands in
       let processes = paired_length (processes_of whole) system.processes flat.processes in
       let order = ap length (everywhere_in_order whole) in
@@ -57,16 +57,16 @@ module _ {W : Type 0} (view : W → Def) (definitions : List W) (whole : Def) (l
       let same = ap length listed in
       omega arith
 
-  -- a trap breaks the rule of guarded recursion, by the name that is read there
-  pub trap_joined : (system : System) (set : List ℕ) (k : ℕ) (w : W) (name : Placed) → IsFlat whole system → Traps system.processes set →
+  -- an unguarded set breaks the rule of guarded recursion, by the name that is read there
+  pub unguarded_joined : (system : System) (set : List ℕ) (k : ℕ) (w : W) (name : Placed) → IsFlat whole system → IsUnguarded system.processes set →
       k ≡ get_or set 0 k → w ≡ get_or definitions (k + 1) w → name ≡ name_of (view w) → IsE27 whole name set
-  trap_joined system set k w name flat trap e read named =
-      let first : k ≡ trap.first = rw trap.begins at e in
-      let below = trap_below system set k flat trap e in
+  unguarded_joined system set k w name flat unguarded e read named =
+      let first : k ≡ unguarded.first = rw unguarded.begins at e in
+      let below = unguarded_below system set k flat unguarded e in
       let at = slice_get_read definitions (length definitions) (k + 1) w refl below read in
       let seen : slice_get (map view definitions) (k + 1) ≡ Some (view w) = rw (slice_get-map view definitions (k + 1), at) refl in
       let stands = rw (listed, add-one, first) at seen in
-      trap_faulty whole system set trap.first trap.others name (view w) flat trap.trap trap.begins stands named
+      unguarded_faulty whole system set unguarded.first unguarded.others name (view w) flat unguarded.unguarded unguarded.begins stands named
 
 -- what was found, and the code made of it, is the flat system
 pub flat_joined : (whole : Def) (found : List Resolved) (formals : List Name) (start : Code) (processes : List Process) →

@@ -1,5 +1,5 @@
 pub mod UnguardedCalls
-pub mod Traps
+pub mod UnguardedSets
 pub mod CallLists
 pub mod NumbersOf
 pub mod Numbered
@@ -24,7 +24,7 @@ pub mod Walks
 pub mod Pairs
 pub mod Listings
 pub mod Flattening
-pub mod Visibles
+pub mod ScopedDefinitions
 pub mod Rules
 pub mod OneSystem
 pub mod Faults

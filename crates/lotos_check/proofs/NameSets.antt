@@ -14,7 +14,7 @@ use Rattle.std.proofs.lemmas.List.Kept.{Contains-dedup, Contains-from_dedup, IsS
 use Rattle.std.proofs.lemmas.List.Sorted.{Contains-permutation, IsPermutation-sym}
 use Rattle.std.proofs.lemmas.Slice.Eq.{bytes_eq-Decides}
 use Rattle.lotos_text.specs.declared.tree.Placed.{Placed}
-use Rattle.lotos_check.specs.Names.{Name, In, texts, Below, ends, smaller, same, Ascends, none, one, more, IsSetOf}
+use Rattle.lotos_check.specs.Names.{Name, In, texts, Below, Ascends, none, one, more, IsSetOf}
 
 -- a member of the list stands at a place
 placed_in : {X : Type 0} (x : X) (xs : List X) → In x xs → Contains xs x
@@ -31,15 +31,15 @@ member_at x (y ∷ ys) (suc k) within e = inr (member_at x ys k (omega arith) e)
 -- of two texts, the first is below by their first bytes, or by the others where these are the same
 below_by : (a b : ℕ) (xs ys : Name) → (slice_cmp nat_cmp xs ys ≡ Less → Below xs ys) → (r : Ordering) → r ≡ nat_cmp a b →
     ordering_then r (slice_cmp nat_cmp xs ys) ≡ Less → Below (a ∷ xs) (b ∷ ys)
-below_by a b xs ys others Less is_less less = smaller (ranked a b Less is_less)
+below_by a b xs ys others Less is_less less = inl (ranked a b Less is_less)
 below_by a b xs ys others Equal is_equal less = subst (λ c. Below (a ∷ xs) (c ∷ ys)) (ranked a b Equal is_equal)
-    (same (others less))
+    (inr (refl, others less))
 below_by a b xs ys others Greater is_greater less = cc
 
 -- a text that compares as less is below
 below : (x y : Name) → slice_cmp nat_cmp x y ≡ Less → Below x y
 below [] [] e = cc
-below [] (b ∷ ys) e = ends
+below [] (b ∷ ys) e = tt
 below (a ∷ xs) [] e = cc
 below (a ∷ xs) (b ∷ ys) e = below_by a b xs ys (below xs ys) (nat_cmp a b) refl e
 

@@ -4,34 +4,34 @@ use Rattle.std.specs.Prelude.{slice_get}
 use Rattle.lotos_text.specs.Tree.{Tree, Def, body_of}
 use Rattle.lotos_text.specs.declared.tree.Placed.{Placed}
 use Rattle.lotos_text.specs.declared.tree.Functionality.{Functionality}
-use Rattle.lotos_check.specs.Names.{Name, In, Below, ends, smaller, same, Ascends, none, one, more, IsSetOf}
-use Rattle.lotos_check.specs.Scope.{Scope, Visible, Means, DistinctScope, processes_of}
+use Rattle.lotos_check.specs.Names.{Name, In, Below, Ascends, none, one, more, IsSetOf}
+use Rattle.lotos_check.specs.Scope.{Scope, Scoped, Means, DistinctScope, processes_of, within}
 use Rattle.lotos_check.specs.Causes.{IsDistinct}
 use Rattle.lotos_check.specs.Flat.{Flat, FlatProcess, System, Pairwise, no_pair, one_pair, IsProcess, IsFlat, Resolves, of_stop, of_exit, of_prefix, of_choice, of_par, of_par_all, of_hide, of_enable, of_disable, of_call}
 use Rattle.lotos_check.specs.Guard.{Calls, CallsUnguarded, itself, left_choice, right_choice, left_par, right_par, under_hide, left_enable, left_disable, right_disable}
 use Rattle.lotos_check.proofs.OneMeaning.{one_meant}
-use Rattle.lotos_check.proofs.Visibles.{visible_distinct, meant_below}
+use Rattle.lotos_check.proofs.ScopedDefinitions.{visible_distinct, meant_below}
 
 below_differ : (x y : Name) → Below x y → x ≡ y → ⊥
-below_differ [] (b ∷ y) ends e = cc
-below_differ (a ∷ x) (b ∷ y) (smaller h) e = let f : a ≡ b = cc in absurd (omega arith)
-below_differ (a ∷ x) (b ∷ y) (same h) e = below_differ x y h (cc)
-below_differ [] [] h e = elim h [ ]
-below_differ (a ∷ x) [] h e = elim h [ ]
+below_differ [] [] h e = h
+below_differ [] (b ∷ y) h e = cc
+below_differ (a ∷ x) [] h e = h
+below_differ (a ∷ x) (b ∷ y) (inl h) e = let f : a ≡ b = cc in absurd (omega arith)
+below_differ (a ∷ x) (b ∷ y) (inr (f, h)) e = below_differ x y h (cc)
 
 not_below : (x : Name) → Below x x → ⊥
 not_below x h = below_differ x x h refl
 
 below_both : (x y z : Name) → Below x y → Below y z → Below x z
-below_both [] (b ∷ y) (c ∷ z) ends k = ends
-below_both (a ∷ x) (b ∷ y) (c ∷ z) (smaller h) (smaller k) = smaller (omega arith)
-below_both (a ∷ x) (b ∷ y) (c ∷ z) (smaller h) (same k) = smaller h
-below_both (a ∷ x) (b ∷ y) (c ∷ z) (same h) (smaller k) = smaller k
-below_both (a ∷ x) (b ∷ y) (c ∷ z) (same h) (same k) = same (below_both x y z h k)
-below_both [] [] z h k = elim h [ ]
-below_both (a ∷ x) [] z h k = elim h [ ]
-below_both [] (b ∷ y) [] h k = elim k [ ]
-below_both (a ∷ x) (b ∷ y) [] h k = elim k [ ]
+below_both [] [] z h k = absurd h
+below_both [] (b ∷ y) [] h k = absurd k
+below_both [] (b ∷ y) (c ∷ z) h k = tt
+below_both (a ∷ x) [] z h k = absurd h
+below_both (a ∷ x) (b ∷ y) [] h k = absurd k
+below_both (a ∷ x) (b ∷ y) (c ∷ z) (inl h) (inl k) = inl (omega arith)
+below_both (a ∷ x) (b ∷ y) (c ∷ z) (inl h) (inr (f, k)) = inl (subst (λ n. a < n) f h)
+below_both (a ∷ x) (b ∷ y) (c ∷ z) (inr (e, h)) (inl k) = inl (subst (λ n. n < c) (sym e) k)
+below_both (a ∷ x) (b ∷ y) (c ∷ z) (inr (e, h)) (inr (f, k)) = inr (e ∙ f, below_both x y z h k)
 
 first_below : (x : Name) (xs : List Name) → Ascends (x ∷ xs) → (y : Name) → In y xs → Below x y
 first_below x [] a y i = absurd i
@@ -92,7 +92,7 @@ same_parts : (n m : Name) (f g : List Name) (x y : Functionality) (b c : Flat) �
     ◌≡◌ {A = FlatProcess} (record { name = n; formals = f; functionality = x; body = b }) (record { name = m; formals = g; functionality = y; body = c })
 same_parts n m f g x y b c e h k l = rw (e, h, k, l) refl
 
-one_process : (v : Visible) → DistinctScope v.scope → (p q : FlatProcess) → IsProcess v p → IsProcess v q → p ≡ q
+one_process : (v : Scoped) → DistinctScope v.scope → (p q : FlatProcess) → IsProcess v p → IsProcess v q → p ≡ q
 one_process v distinct p q h k =
     let n : p.name ≡ q.name = h.name ∙ sym k.name in
     let f : p.formals ≡ q.formals = h.formals ∙ sym k.formals in
@@ -100,7 +100,7 @@ one_process v distinct p q h k =
     let b : p.body ≡ q.body = one_flat v.scope distinct (body_of v.definition) p.body q.body h.body k.body in
     same_parts p.name q.name p.formals q.formals p.functionality q.functionality p.body q.body n f g b
 
-one_processes : (vs : List Visible) → ((v : Visible) → In v vs → DistinctScope v.scope) → (ps qs : List FlatProcess) →
+one_processes : (vs : List Scoped) → ((v : Scoped) → In v vs → DistinctScope v.scope) → (ps qs : List FlatProcess) →
     Pairwise IsProcess vs ps → Pairwise IsProcess vs qs → ps ≡ qs
 one_processes [] distinct [] [] no_pair no_pair = refl
 one_processes (v ∷ vs) distinct (p ∷ ps) (q ∷ qs) (one_pair h hs) (one_pair k ks) =
@@ -116,6 +116,19 @@ one_processes (v ∷ vs) distinct (p ∷ ps) [] h k = elim k [ ]
 pub same_processes : (whole : Def) (s r : System) → IsDistinct whole → IsFlat whole s → IsFlat whole r → s.processes ≡ r.processes
 same_processes whole s r distinct h k =
     one_processes (processes_of whole) (λ v i. visible_distinct whole distinct v (inr i)) s.processes r.processes h.processes k.processes
+
+same_system : (f g : List Name) (b c : Flat) (ps qs : List FlatProcess) → f ≡ g → b ≡ c → ps ≡ qs →
+    ◌≡◌ {A = System} (record { formals = f; start = b; processes = ps }) (record { formals = g; start = c; processes = qs })
+same_system f g b c ps qs e h k = rw (e, h, k) refl
+
+-- a specification has one flat system
+pub one_system : (whole : Def) (s r : System) → IsDistinct whole → IsFlat whole s → IsFlat whole r → s ≡ r
+one_system whole s r distinct h k =
+    let f : s.formals ≡ r.formals = h.formals ∙ sym k.formals in
+    let b : s.start ≡ r.start = one_flat (within whole 0 [])
+    (visible_distinct whole distinct (record { scope = within whole 0 []; definition = whole }) (inl refl))
+    (body_of whole) s.start r.start h.start k.start in
+    same_system s.formals r.formals s.start r.start s.processes r.processes f b (same_processes whole s r distinct h k)
 
 -- an unguarded call goes to a process whose number a name means
 called_meant : (scope : Scope) (t : Tree) (c : Flat) (q : ℕ) → Resolves scope t c → CallsUnguarded c q → (n : Name) × (d : Def) × Means scope n q d
@@ -135,8 +148,8 @@ called_meant scope t c q of_exit h = elim h [ ]
 called_meant scope t c q (of_prefix x) h = elim h [ ]
 
 -- an item of the second of two lists has its pair
-pub paired_at : (vs : List Visible) (ps : List FlatProcess) → Pairwise IsProcess vs ps → (i : ℕ) (p : FlatProcess) → slice_get ps i ≡ Some p →
-    (v : Visible) × In v vs × IsProcess v p
+pub paired_at : (vs : List Scoped) (ps : List FlatProcess) → Pairwise IsProcess vs ps → (i : ℕ) (p : FlatProcess) → slice_get ps i ≡ Some p →
+    (v : Scoped) × In v vs × IsProcess v p
 paired_at [] [] no_pair i p e = cc
 paired_at (v ∷ vs) (q ∷ ps) (one_pair h hs) zero p e = let f : q ≡ p = cc in (v, inl refl, subst (IsProcess v) f h)
 paired_at (v ∷ vs) (q ∷ ps) (one_pair h hs) (suc i) p e = let r = paired_at vs ps hs i p e in (r.0, inr r.1, r.2)

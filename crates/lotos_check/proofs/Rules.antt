@@ -6,7 +6,7 @@ use Rattle.lotos_text.specs.declared.tree.Placed.{Placed}
 use Rattle.lotos_text.specs.declared.tree.Functionality.{Functionality}
 use Rattle.lotos_text.specs.declared.tree.Functionality.TheVariants.{Exit, NoExit}
 use Rattle.lotos_check.specs.Names.{Name, In, texts}
-use Rattle.lotos_check.specs.Scope.{Scope, Visible, DistinctScope, Stands, within, processes_of, everywhere, definitions_in, row_in}
+use Rattle.lotos_check.specs.Scope.{Scope, Scoped, DistinctScope, IsDefinition, within, processes_of, everywhere, definitions_in, row_in}
 use Rattle.lotos_check.specs.Functionalities.{Func, of_stop, of_exit, of_prefix, of_hide, of_choice, of_disable, of_par, of_enable, of_call}
 use Rattle.lotos_check.specs.Flat.{Pairwise, no_pair, one_pair, IsProcess, IsFlat, Resolves}
 use Rattle.lotos_check.specs.View.{flat_of, process_of}
@@ -18,7 +18,7 @@ use Rattle.lotos_check.specs.declared.body.Resolved.{Resolved}
 use Rattle.lotos_check.specs.declared.code.Code.{Code}
 use Rattle.lotos_check.specs.declared.code.Process.{Process}
 use Rattle.lotos_check.proofs.OneMeaning.{one_meant}
-use Rattle.lotos_check.proofs.Visibles.{everywhere_in_order, visible_distinct, listed_row}
+use Rattle.lotos_check.proofs.ScopedDefinitions.{everywhere_in_order, visible_distinct, listed_row}
 
 -- a behaviour has one functionality where names have one meaning
 pub one_functionality : (scope : Scope) → DistinctScope scope → (t : Tree) (f g : Functionality) → Func scope t f → Func scope t g → f ≡ g
@@ -56,7 +56,7 @@ walked whole found adds = subst (λ t. Pairwise IsBody (everywhere whole) t) (sy
 
 module _ (whole : Def) (found : List Resolved) (distinct : IsDistinct whole) (bodies : Pairwise IsBody (everywhere whole) found)
     (typed : Pairwise IsTyped (definitions_in whole) found) where
-  one_found : (scope : Scope) (d : Def) → Stands whole scope d →
+  one_found : (scope : Scope) (d : Def) → IsDefinition whole scope d →
       (r : Resolved) × (IsBody (record { scope = scope; definition = d }) r × IsTyped d r)
   one_found scope d stands =
       let both = paired_twice (λ v. v.definition) (everywhere whole) found bodies
@@ -113,7 +113,7 @@ module _ (whole : Def) (found : List Resolved) (distinct : IsDistinct whole) (bo
     left_exits = no_stuck_enabling;
   }
 
-flat_processes : (vs : List Visible) (found : List Resolved) (processes : List Process) → Pairwise IsBody vs found →
+flat_processes : (vs : List Scoped) (found : List Resolved) (processes : List Process) → Pairwise IsBody vs found →
     AreMade (map (λ v. v.definition) vs) found processes → Pairwise IsProcess vs (map process_of processes)
 flat_processes [] [] [] no_pair none_made = no_pair
 flat_processes (v ∷ vs) (r ∷ found) (p ∷ processes) (one_pair b bodies) (one_made m all) =
@@ -130,7 +130,7 @@ flat_processes (v ∷ vs) [] processes b a = elim b [ ]
 flat_processes [] [] (p ∷ processes) b a = elim a [ ]
 flat_processes (v ∷ vs) (r ∷ found) [] b a = elim a [ ]
 
-flat_all : (v : Visible) (vs : List Visible) (ds : List Def) (found : List Resolved) (start : Code) (processes : List Process) →
+flat_all : (v : Scoped) (vs : List Scoped) (ds : List Def) (found : List Resolved) (start : Code) (processes : List Process) →
     ds ≡ map (λ v. v.definition) vs → Pairwise IsBody (v ∷ vs) found → IsFlattened (v.definition ∷ ds) found start processes →
     Resolves v.scope (body_of v.definition) (flat_of start) × Pairwise IsProcess vs (map process_of processes)
 flat_all v vs ds (r ∷ found) start processes e (one_pair b bodies) (made s all) = (

@@ -3,7 +3,7 @@ use Rattle.std.proofs.Common.{◌≡◌, ℕ, List, [], ◌∷◌, ◌++◌, Som
 use Rattle.lotos_text.specs.Tree.{Def, formals_of}
 use Rattle.lotos_text.specs.declared.tree.Placed.{Placed}
 use Rattle.lotos_check.specs.Names.{Name, In, texts}
-use Rattle.lotos_check.specs.Scope.{Visible, within, processes_of, everywhere}
+use Rattle.lotos_check.specs.Scope.{Scoped, within, processes_of, everywhere}
 use Rattle.lotos_check.specs.Causes.{IsDistinct}
 use Rattle.lotos_check.specs.Bodies.{NoneTwice}
 use Rattle.lotos_check.specs.Flat.{FlatProcess, System}
@@ -34,7 +34,7 @@ cut_at (p ∷ list) (b ∷ before) after n e =
     record { placed = r.placed; front = p ∷ r.front; back = r.back; stands = stands; shown = shown; named = r.named }
 
 -- formal gates of a definition that stands in the specification
-none_twice : (whole : Def) → IsDistinct whole → (v : Visible) → In v (everywhere whole) → NoneTwice (texts (formals_of v.definition))
+none_twice : (whole : Def) → IsDistinct whole → (v : Scoped) → In v (everywhere whole) → NoneTwice (texts (formals_of v.definition))
 none_twice whole distinct v i before after n e again =
     let c = cut_at (formals_of v.definition) before after n e in
     let named : In c.placed.name before = subst (λ m. In m before) (sym c.named) again in
@@ -48,7 +48,7 @@ none_twice whole distinct v i before after n e again =
 -- the formal gates of an accepted specification are distinct
 pub formals_distinct : (whole : Def) (s : System) → IsAccepted whole s → NoneTwice s.formals
 formals_distinct whole s a =
-    let top : Visible = record { scope = within whole 0 []; definition = whole } in
+    let top : Scoped = record { scope = within whole 0 []; definition = whole } in
     subst NoneTwice (sym a.flat.formals) (none_twice whole a.typed.distinct top (inl refl))
 
 -- and those of each of its processes

@@ -7,7 +7,7 @@ use Rattle.lotos_text.specs.View.{definition_of, definitions_of}
 use Rattle.lotos_text.specs.declared.tree.Definition.{Definition, out-Definition}
 use Rattle.lotos_text.specs.declared.tree.Placed.{Placed}
 use Rattle.lotos_check.specs.Names.{Name, In, texts}
-use Rattle.lotos_check.specs.Scope.{Scope, Visible, count, within, listed, listed_with}
+use Rattle.lotos_check.specs.Scope.{Scope, Scoped, count, within, listed, listed_with}
 use Rattle.lotos_check.specs.Table.{Knows, Shows, Tabulates}
 use Rattle.lotos_check.specs.Flat.{Pairwise, no_pair, one_pair}
 use Rattle.lotos_check.specs.Resolved.{IsResolved, IsMisnamed, Adds, IsMisnamedIn}
@@ -26,7 +26,7 @@ pairs_append (x ∷ xs) us [] vs h q = elim h [ ]
 pairs_append (x ∷ xs) us (y ∷ ys) vs (one_pair p r) q = one_pair p (pairs_append xs us ys vs r q)
 
 -- what is found of these and then of those is found of both
-pub adds_append : (these those : List Visible) (old between new : List Resolved) → Adds these old between →
+pub adds_append : (these those : List Scoped) (old between new : List Resolved) → Adds these old between →
     Adds those between new →
     Adds (these ++ those) old new
 adds_append these those old between new h k = record {
@@ -68,20 +68,20 @@ in_right x [] those h = h
 in_right x (y ∷ these) those h = inr (in_right x these those h)
 
 -- a fault in one of these
-pub misnamed_left : (these those : List Visible) (fault : CheckFault) → IsMisnamedIn these fault →
+pub misnamed_left : (these those : List Scoped) (fault : CheckFault) → IsMisnamedIn these fault →
     IsMisnamedIn (these ++ those) fault
 misnamed_left these those fault h = record {
-  visible = h.visible;
-  stands = in_left h.visible these those h.stands;
+  scoped = h.scoped;
+  stands = in_left h.scoped these those h.stands;
   misnamed = h.misnamed;
 }
 
 -- a fault in one of those
-pub misnamed_right : (these those : List Visible) (fault : CheckFault) → IsMisnamedIn those fault →
+pub misnamed_right : (these those : List Scoped) (fault : CheckFault) → IsMisnamedIn those fault →
     IsMisnamedIn (these ++ those) fault
 misnamed_right these those fault h = record {
-  visible = h.visible;
-  stands = in_right h.visible these those h.stands;
+  scoped = h.scoped;
+  stands = in_right h.scoped these those h.stands;
   misnamed = h.misnamed;
 }
 
@@ -89,7 +89,7 @@ misnamed_right these those fault h = record {
 pub misnamed_here : (scope : Scope) (first : ℕ) (d : Def) (fault : CheckFault) →
     IsMisnamed (within d first scope) (texts (formals_of d)) (body_of d) fault → IsMisnamedIn (listed_with scope first d) fault
 misnamed_here scope first d fault h = record {
-  visible = record { scope = within d first scope; definition = d };
+  scoped = record { scope = within d first scope; definition = d };
   stands = inl refl;
   misnamed = h;
 }
@@ -97,7 +97,7 @@ misnamed_here scope first d fault h = record {
 -- a fault in one of its inner definitions
 pub misnamed_inside : (scope : Scope) (first : ℕ) (d : Def) (fault : CheckFault) →
     IsMisnamedIn (listed (within d first scope) first (inner_of d)) fault → IsMisnamedIn (listed_with scope first d) fault
-misnamed_inside scope first d fault h = record { visible = h.visible; stands = inr h.stands; misnamed = h.misnamed }
+misnamed_inside scope first d fault h = record { scoped = h.scoped; stands = inr h.stands; misnamed = h.misnamed }
 
 -- a fault that a result carries on
 pub carried_on : {X E : Type 0} (result : Result X E) (P : E → Type 0) (fault : E) → IsErrAnd result (λ x. x ≡ fault) →

@@ -1,6 +1,11 @@
 -- What stands anywhere in the behaviours of a system.
 use Rattle.std.specs.Prelude.{◌≡◌, ℕ, List, ◌∷◌, ◌++◌, Option, Some, slice_get}
-use Rattle.lotos_check.specs.Names.{Name, In}
+use Rattle.lotos_text.specs.Tree as t
+use Rattle.lotos_text.specs.Tree.{Def, name_of, formals_of, body_of}
+use Rattle.lotos_text.specs.declared.tree.Placed.{Placed}
+use Rattle.lotos_check.specs.Names.{Name, In, texts}
+use Rattle.lotos_check.specs.Scope.{Scoped, Means}
+use Rattle.lotos_check.specs.Parts.{Part}
 use Rattle.lotos_check.specs.Flat.{Flat, prefix, choice, par, hide, enable, disable, call, FlatProcess, System}
 
 -- in the behaviour stands a call of the process with these gates
@@ -25,3 +30,30 @@ pub data IsBodyOf (system : System) : Flat → Type 0 where
 -- no name stands behind the same one
 abbrev pub NoneTwice : List Name → Type 0
 NoneTwice names = (before after : List Name) (n : Name) → names ≡ before ++ n ∷ after → In n before → ⊥
+
+-- in the body of the definition stands a call by name with these gates, and the name means the process of that number
+pub record IsNamed (scoped : Scoped) (k : ℕ) (gates : List Name) : Type 0 where
+  -- the gates that may be used at the call
+  pub there : List Name
+  -- the name that is called, where it stands
+  pub called : Placed
+  pub actuals : List Placed
+  pub inside : Part (texts (formals_of scoped.definition)) (body_of scoped.definition) there (t.call called actuals)
+  -- the definition that the name means
+  pub definition : Def
+  pub means : Means scoped.scope called.name k definition
+  pub given : gates ≡ texts actuals
+
+-- the process of that number has the name and the formal gates of the definition
+pub record IsProcessOf (system : System) (k : ℕ) (definition : Def) : Type 0 where
+  pub process : FlatProcess
+  pub stands : slice_get system.processes k ≡ Some process
+  pub name : process.name ≡ (name_of definition).name
+  pub formals : process.formals ≡ texts (formals_of definition)
+
+-- the call by number comes from one by name, and goes to the definition that the name means
+pub record GoesToNamed (system : System) (scoped : Scoped) (k : ℕ) (gates : List Name) : Type 0 where
+  -- the call by name
+  pub named : IsNamed scoped k gates
+  -- the process that it goes to
+  pub process : IsProcessOf system k named.definition

@@ -5,21 +5,21 @@ use Rattle.lotos_text.specs.declared.tree.Placed.{Placed}
 use Rattle.lotos_text.specs.declared.tree.Functionality.{Functionality}
 use Rattle.lotos_text.specs.declared.tree.Functionality.TheVariants.{NoExit}
 use Rattle.lotos_check.specs.Names.{Name, In, texts, IsSecond}
-use Rattle.lotos_check.specs.Scope.{Scope, Stands, Means, declared_names}
+use Rattle.lotos_check.specs.Scope.{Scope, IsDefinition, Means, declared_names}
 use Rattle.lotos_check.specs.Parts.{Part, Uses}
 use Rattle.lotos_check.specs.Functionalities.{Func}
 
 -- in the body of a definition stands this part, in which these processes are visible and these gates may be used
 pub record Occurs (whole : Def) (scope : Scope) (known : List Name) (part : Tree) : Type 0 where
   pub definition : Def
-  pub stands : Stands whole scope definition
+  pub stands : IsDefinition whole scope definition
   pub inside : Part (texts (formals_of definition)) (body_of definition) known part
 
 -- a formal gate stands twice in one list
 pub record IsE20 (whole : Def) (gate : Placed) : Type 0 where
   pub scope : Scope
   pub definition : Def
-  pub stands : Stands whole scope definition
+  pub stands : IsDefinition whole scope definition
   pub second : IsSecond gate (formals_of definition)
 
 -- a gate is not declared where it is used
@@ -56,7 +56,7 @@ pub record IsE23 (whole : Def) (name : Placed) (formal actual : ℕ) : Type 0 wh
 pub record IsE24 (whole : Def) (name : Placed) : Type 0 where
   pub scope : Scope
   pub definition : Def
-  pub stands : Stands whole scope definition
+  pub stands : IsDefinition whole scope definition
   pub second : IsSecond name (declared_names (inner_of definition))
 
 -- the declared functionality differs from the body's
@@ -64,7 +64,7 @@ pub record IsE25 (whole : Def) (name : Placed) (declared : Functionality) : Type
   pub scope : Scope
   pub definition : Def
   pub other : Functionality
-  pub stands : Stands whole scope definition
+  pub stands : IsDefinition whole scope definition
   pub named : name ≡ name_of definition
   pub says : declared ≡ declared_of definition
   pub has : Func scope (body_of definition) other

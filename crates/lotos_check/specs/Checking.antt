@@ -48,16 +48,16 @@ IsFaulty whole (E27 name set) = IsE27 whole name set.items
 IsFaulty whole (E99 e) = Unit {0}
 
 -- but for want of memory, the specification is not accepted
-abbrev pub IsRefused : Def → CheckFault → Type 0
-IsRefused whole (E99 e) = Unit {0}
-IsRefused whole (E20 gate) = (system : System) → IsAccepted whole system → ⊥
-IsRefused whole (E21 gate) = (system : System) → IsAccepted whole system → ⊥
-IsRefused whole (E22 name) = (system : System) → IsAccepted whole system → ⊥
-IsRefused whole (E23 name formal actual) = (system : System) → IsAccepted whole system → ⊥
-IsRefused whole (E24 name) = (system : System) → IsAccepted whole system → ⊥
-IsRefused whole (E25 name declared) = (system : System) → IsAccepted whole system → ⊥
-IsRefused whole (E26 at) = (system : System) → IsAccepted whole system → ⊥
-IsRefused whole (E27 name set) = (system : System) → IsAccepted whole system → ⊥
+abbrev pub IsNowhereAccepted : Def → CheckFault → Type 0
+IsNowhereAccepted whole (E99 e) = Unit {0}
+IsNowhereAccepted whole (E20 gate) = (system : System) → IsAccepted whole system → ⊥
+IsNowhereAccepted whole (E21 gate) = (system : System) → IsAccepted whole system → ⊥
+IsNowhereAccepted whole (E22 name) = (system : System) → IsAccepted whole system → ⊥
+IsNowhereAccepted whole (E23 name formal actual) = (system : System) → IsAccepted whole system → ⊥
+IsNowhereAccepted whole (E24 name) = (system : System) → IsAccepted whole system → ⊥
+IsNowhereAccepted whole (E25 name declared) = (system : System) → IsAccepted whole system → ⊥
+IsNowhereAccepted whole (E26 at) = (system : System) → IsAccepted whole system → ⊥
+IsNowhereAccepted whole (E27 name set) = (system : System) → IsAccepted whole system → ⊥
 
 -- the process is the definition with that code
 pub record IsMade (definition : Def) (found : Resolved) (process : FlatProcess) : Type 0 where

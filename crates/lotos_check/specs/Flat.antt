@@ -7,7 +7,7 @@ use Rattle.lotos_text.specs.declared.tree.Functionality.{Functionality}
 use Rattle.lotos_text.specs.declared.tree.Action.{Action}
 use Rattle.lotos_text.specs.declared.tree.Action.TheVariants.{Internal, Gate}
 use Rattle.lotos_check.specs.Names.{Name, texts, IsSetOf}
-use Rattle.lotos_check.specs.Scope.{Scope, Means, Visible, within, processes_of}
+use Rattle.lotos_check.specs.Scope.{Scope, Means, Scoped, within, processes_of}
 
 -- A behaviour with calls by number. A prefix of none is one of the internal action; a parallel expression on none
 -- synchronizes on all gates.
@@ -47,16 +47,18 @@ pub data Resolves (scope : Scope) : Tree → Flat → Type 0 where
   of_choice : {l r : Tree} {c e : Flat} → Resolves scope l c → Resolves scope r e → Resolves scope (t.choice l r) (choice c e)
   of_par : {l r : Tree} {gs : List Placed} {names : List Name} {c e : Flat} →
       Resolves scope l c → IsSetOf names gs → Resolves scope r e → Resolves scope (t.par l (t.gates gs) r) (par c (Some names) e)
-  of_par_all : {l r : Tree} {c e : Flat} → Resolves scope l c → Resolves scope r e → Resolves scope (t.par l t.all r) (par c None e)
+  of_par_all : {l r : Tree} {c e : Flat} → Resolves scope l c → Resolves scope r e →
+      Resolves scope (t.par l t.all r) (par c None e)
   of_hide : {gs : List Placed} {names : List Name} {b : Tree} {c : Flat} →
       IsSetOf names gs → Resolves scope b c → Resolves scope (t.hide gs b) (hide names c)
   of_enable : {l r : Tree} {at : ℕ} {c e : Flat} →
       Resolves scope l c → Resolves scope r e → Resolves scope (t.enable l at r) (enable c e)
   of_disable : {l r : Tree} {c e : Flat} → Resolves scope l c → Resolves scope r e → Resolves scope (t.disable l r) (disable c e)
-  of_call : {p : Placed} {gs : List Placed} {k : ℕ} {d : Def} → Means scope p.name k d → Resolves scope (t.call p gs) (call k (texts gs))
+  of_call : {p : Placed} {gs : List Placed} {k : ℕ} {d : Def} → Means scope p.name k d →
+      Resolves scope (t.call p gs) (call k (texts gs))
 
 -- the process is this definition, with calls by number
-pub record IsProcess (v : Visible) (process : FlatProcess) : Type 0 where
+pub record IsProcess (v : Scoped) (process : FlatProcess) : Type 0 where
   pub name : process.name ≡ (name_of v.definition).name
   pub formals : process.formals ≡ texts (formals_of v.definition)
   pub functionality : process.functionality ≡ declared_of v.definition

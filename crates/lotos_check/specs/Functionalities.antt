@@ -1,4 +1,5 @@
--- Whether a behaviour may terminate.
+-- The functionality of a behaviour. Where it is noexit, the behaviour never terminates successfully; exit promises nothing:
+-- the process `P := x; P` may be declared exit, and never ends.
 use Rattle.std.specs.Prelude.{ℕ, List}
 use Rattle.lotos_text.specs.Tree.{Tree, Sync, stop, exit, prefix, choice, par, hide, enable, disable, call, Def, declared_of}
 use Rattle.lotos_text.specs.declared.tree.Placed.{Placed}

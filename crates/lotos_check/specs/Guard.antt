@@ -3,7 +3,7 @@ use Rattle.std.specs.Prelude.{◌≡◌, ℕ, ◌<◌, List, [], ◌∷◌, Opti
 use Rattle.lotos_text.specs.Tree.{Def, name_of}
 use Rattle.lotos_text.specs.declared.tree.Placed.{Placed}
 use Rattle.lotos_check.specs.Names.{Name, In}
-use Rattle.lotos_check.specs.Scope.{Visible, processes_of}
+use Rattle.lotos_check.specs.Scope.{Scoped, processes_of}
 use Rattle.lotos_check.specs.Flat.{Flat, choice, par, hide, enable, disable, call, FlatProcess, System, IsFlat}
 
 -- the behaviour calls the process under no prefix and not in the right operand of `>>`
@@ -34,8 +34,8 @@ pub record IsGuarded (system : System) : Type 0 where
   pub falls : IsRanking system.processes rank
 
 -- each process of the set has an unguarded call into the set
-abbrev pub IsTrap : List FlatProcess → List ℕ → Type 0
-IsTrap processes set = (p : ℕ) → In p set → (q : ℕ) × Calls processes p q × In q set
+abbrev pub IsUnguardedSet : List FlatProcess → List ℕ → Type 0
+IsUnguardedSet processes set = (p : ℕ) → In p set → (q : ℕ) × Calls processes p q × In q set
 
 -- each number is smaller than the next
 pub data Rises : List ℕ → Type 0 where
@@ -44,19 +44,19 @@ pub data Rises : List ℕ → Type 0 where
   more : {x y : ℕ} {ys : List ℕ} → x < y → Rises (y ∷ ys) → Rises (x ∷ y ∷ ys)
 
 -- the largest set of that kind: every other lies inside it
-pub record IsLargestTrap (processes : List FlatProcess) (set : List ℕ) : Type 0 where
-  pub trap : IsTrap processes set
-  pub largest : (other : List ℕ) → IsTrap processes other → (p : ℕ) → In p other → In p set
+pub record IsLargestUnguardedSet (processes : List FlatProcess) (set : List ℕ) : Type 0 where
+  pub unguarded : IsUnguardedSet processes set
+  pub largest : (other : List ℕ) → IsUnguardedSet processes other → (p : ℕ) → In p other → In p set
   pub rises : Rises set
 
 -- recursion is not guarded: the largest set is not empty, and this is the name of its first process
 pub record IsE27 (whole : Def) (name : Placed) (set : List ℕ) : Type 0 where
   pub system : System
   pub flat : IsFlat whole system
-  pub trap : IsLargestTrap system.processes set
+  pub unguarded : IsLargestUnguardedSet system.processes set
   pub first : ℕ
   pub others : List ℕ
   pub begins : set ≡ first ∷ others
-  pub visible : Visible
-  pub stands : slice_get (processes_of whole) first ≡ Some visible
-  pub named : name ≡ name_of visible.definition
+  pub scoped : Scoped
+  pub stands : slice_get (processes_of whole) first ≡ Some scoped
+  pub named : name ≡ name_of scoped.definition

@@ -2,21 +2,21 @@
 use Rattle.std.specs.Prelude.{◌≡◌, ◌↔◌, ℕ, ◌+◌, ◌<◌, List, [], ◌∷◌, Option, Some, None, length, slice_get}
 use Rattle.lotos_check.specs.Names.{In}
 use Rattle.lotos_check.specs.Flat.{FlatProcess}
-use Rattle.lotos_check.specs.Guard.{CallsUnguarded, IsLargestTrap, Rises}
+use Rattle.lotos_check.specs.Guard.{CallsUnguarded, IsLargestUnguardedSet, Rises}
 use Rattle.lotos_check.specs.Checking.{AreRanks}
 use Rattle.lotos_check.specs.declared.guard.Ranking.{Ranking}
-use Rattle.lotos_check.specs.declared.guard.Ranking.TheVariants.{Guarded, Trapped}
+use Rattle.lotos_check.specs.declared.guard.Ranking.TheVariants.{Guarded, Unguarded}
 
 -- the set is not empty, and is the largest of its kind
-pub record Traps (processes : List FlatProcess) (set : List ℕ) : Type 0 where
+pub record IsUnguarded (processes : List FlatProcess) (set : List ℕ) : Type 0 where
   pub first : ℕ
   pub others : List ℕ
   pub begins : set ≡ first ∷ others
-  pub trap : IsLargestTrap processes set
+  pub unguarded : IsLargestUnguardedSet processes set
 
 abbrev pub IsRanked : List FlatProcess → Ranking → Type 0
 IsRanked processes (Guarded ranks) = AreRanks processes ranks.items
-IsRanked processes (Trapped set) = Traps processes set.items
+IsRanked processes (Unguarded set) = IsUnguarded processes set.items
 
 -- the list has the processes that the process calls unguarded
 abbrev pub AreCalls : List ℕ → FlatProcess → Type 0

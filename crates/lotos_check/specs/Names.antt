@@ -26,11 +26,16 @@ pub record IsSecond (placed : Placed) (names : List Placed) : Type 0 where
 abbrev pub AreDistinct : List Placed → Type 0
 AreDistinct names = (p : Placed) → IsSecond p names → ⊥
 
+-- smaller at the first place where they differ, or a beginning of the other
+abbrev pub Lex : {A : Type 0} → (A → A → Type 0) → List A → List A → Type 0
+Lex smaller [] [] = ⊥
+Lex smaller [] (y ∷ ys) = Unit {0}
+Lex smaller (x ∷ xs) [] = ⊥
+Lex smaller (x ∷ xs) (y ∷ ys) = smaller x y ⊎ ((x ≡ y) × Lex smaller xs ys)
+
 -- the text is smaller by its bytes; a beginning is smaller than what it begins
-pub data Below : Name → Name → Type 0 where
-  ends : {y : ℕ} {ys : Name} → Below [] (y ∷ ys)
-  smaller : {x y : ℕ} {xs ys : Name} → x < y → Below (x ∷ xs) (y ∷ ys)
-  same : {x : ℕ} {xs ys : Name} → Below xs ys → Below (x ∷ xs) (x ∷ ys)
+abbrev pub Below : Name → Name → Type 0
+Below = Lex ◌<◌
 
 -- each is smaller than the next
 pub data Ascends : List Name → Type 0 where

@@ -6,7 +6,7 @@ use Rattle.lotos_text.specs.declared.tree.Action.TheVariants.{Internal, Gate}
 use Rattle.lotos_text.specs.declared.tree.Placed.{Placed}
 use Rattle.lotos_text.specs.declared.tree.Functionality.TheVariants as f
 use Rattle.lotos_check.specs.Names.{Name, In, texts, IsSetOf}
-use Rattle.lotos_check.specs.Scope.{Scope, Means, Visible}
+use Rattle.lotos_check.specs.Scope.{Scope, Means, Scoped}
 use Rattle.lotos_check.specs.Parts.{Part, Uses}
 use Rattle.lotos_check.specs.Functionalities.{Func}
 use Rattle.lotos_check.specs.Flat.{Resolves, Pairwise}
@@ -17,16 +17,19 @@ use Rattle.lotos_check.specs.declared.fault.CheckFault.TheVariants.{E20, E21, E2
 
 -- each gate that a part uses may be used there
 abbrev pub GatesKnown : List Name → Tree → Type 0
-GatesKnown known body = (there : List Name) (part : Tree) (g : Placed) → Part known body there part → Uses part g → In g.name there
+GatesKnown known body =
+    (there : List Name) (part : Tree) (g : Placed) → Part known body there part → Uses part g → In g.name there
 
 -- each call names a visible process, with as many gates as its definition has
 abbrev pub CallsFit : Scope → List Name → Tree → Type 0
-CallsFit scope known body = (there : List Name) (name : Placed) (actuals : List Placed) → Part known body there (call name actuals) →
+CallsFit scope known body =
+    (there : List Name) (name : Placed) (actuals : List Placed) → Part known body there (call name actuals) →
     (k : ℕ) × (d : Def) × Means scope name.name k d × (length (formals_of d) ≡ length actuals)
 
 -- each left operand of `>>` has exit
 abbrev pub LeftsExit : Scope → List Name → Tree → Type 0
-LeftsExit scope known body = (there : List Name) (left right : Tree) (at : ℕ) → Part known body there (enable left at right) → Func scope left f.Exit
+LeftsExit scope known body =
+    (there : List Name) (left right : Tree) (at : ℕ) → Part known body there (enable left at right) → Func scope left f.Exit
 
 -- at the offset stands a `>>` whose left operand has noexit
 pub record NeverExits (scope : Scope) (known : List Name) (body : Tree) (at : ℕ) : Type 0 where
@@ -123,17 +126,17 @@ IsMisnamed scope known body (E27 name set) = ⊥
 IsMisnamed scope known body (E99 e) = Unit {0}
 
 -- what was found of a definition's body, where it stands
-abbrev pub IsBody : Visible → Resolved → Type 0
+abbrev pub IsBody : Scoped → Resolved → Type 0
 IsBody v found = IsResolved v.scope (texts (formals_of v.definition)) (body_of v.definition) found
 
 -- to the list was added what was found of these, one by one
-pub record Adds (definitions : List Visible) (old new : List Resolved) : Type 0 where
+pub record Adds (definitions : List Scoped) (old new : List Resolved) : Type 0 where
   pub more : List Resolved
   pub joined : new ≡ old ++ more
   pub found : Pairwise IsBody definitions more
 
 -- the body of one of these is refused
-pub record IsMisnamedIn (definitions : List Visible) (fault : CheckFault) : Type 0 where
-  pub visible : Visible
-  pub stands : In visible definitions
-  pub misnamed : IsMisnamed visible.scope (texts (formals_of visible.definition)) (body_of visible.definition) fault
+pub record IsMisnamedIn (definitions : List Scoped) (fault : CheckFault) : Type 0 where
+  pub scoped : Scoped
+  pub stands : In scoped definitions
+  pub misnamed : IsMisnamed scoped.scope (texts (formals_of scoped.definition)) (body_of scoped.definition) fault

@@ -40,32 +40,33 @@ abbrev pub within : Def → ℕ → Scope → Scope
 within d first scope = record { defs = inner_of d; first = first } ∷ scope
 
 -- a definition, and the `where`s that are visible in it, its own the nearest
-pub record Visible : Type 0 where
+pub record Scoped : Type 0 where
   pub scope : Scope
   pub definition : Def
 
 -- the definitions, numbered from there on, each followed at once by its inner ones, where the scope encloses them
-abbrev pub listed : Scope → ℕ → Defs → List Visible
+abbrev pub listed : Scope → ℕ → Defs → List Scoped
 listed scope first no_defs = []
 listed scope first (more_defs (def name formals declared body inner) ds) =
     record { scope = record { defs = inner; first = first + 1 } ∷ scope; definition = def name formals declared body inner }
     ∷ listed (record { defs = inner; first = first + 1 } ∷ scope) (first + 1) inner ++ listed scope (first + 1 + count inner) ds
 
 -- a definition whose inner ones are numbered from there on, followed by these
-abbrev pub listed_with : Scope → ℕ → Def → List Visible
-listed_with scope first d = record { scope = within d first scope; definition = d } ∷ listed (within d first scope) first (inner_of d)
+abbrev pub listed_with : Scope → ℕ → Def → List Scoped
+listed_with scope first d =
+    record { scope = within d first scope; definition = d } ∷ listed (within d first scope) first (inner_of d)
 
 -- the processes of a specification, in the order of their numbers
-abbrev pub processes_of : Def → List Visible
+abbrev pub processes_of : Def → List Scoped
 processes_of whole = listed (within whole 0 []) 0 (inner_of whole)
 
 -- the specification, followed by its processes
-abbrev pub everywhere : Def → List Visible
+abbrev pub everywhere : Def → List Scoped
 everywhere whole = listed_with [] 0 whole
 
 -- the definition stands in the specification, and the scope is visible in it
-abbrev pub Stands : Def → Scope → Def → Type 0
-Stands whole scope d = In {X = Visible} (record { scope = scope; definition = d }) (everywhere whole)
+abbrev pub IsDefinition : Def → Scope → Def → Type 0
+IsDefinition whole scope d = In {X = Scoped} (record { scope = scope; definition = d }) (everywhere whole)
 
 -- no `where` of the scope declares a name twice
 abbrev pub DistinctScope : Scope → Type 0

@@ -14,11 +14,13 @@ Knows now keys names = (n : Name) → In n (map now keys) ↔ In n names
 
 -- the table has each name that the `where` declares, with its meaning, and no other
 pub record Tabulates {K S : Type 0} (now : K → Name) (ds : Defs) (first : ℕ) (t : HashMap K Meaning S) : Type 0 where
-  pub found : (n : Name) (m : Meaning) → get_by (λ k. bytes_eq n (now k)) t ≡ Some m → Declares ds first n m.process (definition_of m.definition.now)
+  pub found : (n : Name) (m : Meaning) → get_by (λ k. bytes_eq n (now k)) t ≡ Some m →
+      Declares ds first n m.process (definition_of m.definition.now)
   pub none : (n : Name) → get_by (λ k. bytes_eq n (now k)) t ≡ None → (j : ℕ) (d : Def) → Declares ds first n j d → ⊥
 
 -- the last table is that of the nearest `where`
 abbrev pub Shows : {K S : Type 0} → (K → Name) → List (HashMap K Meaning S) → Scope → Type 0
 Shows now ts [] = ts ≡ []
 Shows {K} {S} now ts (w ∷ ws) =
-    (front : List (HashMap K Meaning S)) × (t : HashMap K Meaning S) × (ts ≡ front ++ t ∷ []) × Tabulates now w.defs w.first t × Shows now front ws
+    (front : List (HashMap K Meaning S)) × (t : HashMap K Meaning S) × (ts ≡ front ++ t ∷ [])
+    × Tabulates now w.defs w.first t × Shows now front ws

@@ -1,5 +1,5 @@
 //! The names of a body: calls by number, its functionality, and its faults in the order of the text.
-ghost use Rattle.std.specs.Prelude.{◌≡◌, ◌++◌, List, IfErr, IfOk, OnOk, MatchResult, option_map};
+ghost use Rattle.std.specs.Prelude.{◌≡◌, ◌++◌, List, IfErr, IfOk, None, OnOk, MatchResult, option_map};
 ghost use Rattle.lotos_text.specs.Tree.{Tree, Sync, call as plain_call, prefix, choice, par, hide, enable, disable};
 ghost use Rattle.lotos_text.specs.declared.tree.Action.{Action as AnyAction};
 ghost use Rattle.lotos_text.specs.View.{tree_of, sync_of};
@@ -7,6 +7,7 @@ ghost use Rattle.lotos_check.specs.Names.{IsSetOf, Name as AnyName, texts};
 ghost use Rattle.lotos_check.specs.Scope.{Scope};
 ghost use Rattle.lotos_check.specs.Flat.{action_of};
 ghost use Rattle.lotos_check.specs.Functionalities as plain;
+ghost use Rattle.lotos_check.specs.Shown.{flat_of};
 ghost use Rattle.lotos_check.specs.Table.{Knows, Shows};
 ghost use Rattle.lotos_check.specs.Resolved.{AreSyncGatesKnown, IsActionKnown, IsMisnamed, IsResolved, IsSyncSet, IsUnknownAction, IsUnknownOfSync};
 
@@ -74,8 +75,10 @@ fn action_name(
     action: &Action,
 ) -> Result<Option<Name>, CheckFault>
     ensures name { IfOk result (λ a. a ≡ action_of action.now) }
-    ensures known { IfOk result (λ _. (gates : List AnyName) → Knows (λ k. k.now) known.now.keys gates → IsActionKnown gates action.now) }
-    ensures unknown { IfErr result (λ fault. (gates : List AnyName) → Knows (λ k. k.now) known.now.keys gates → IsUnknownAction gates action.now fault) }
+    ensures known { IfOk result (λ _. (gates : List AnyName) →
+        Knows (λ k. k.now) known.now.keys gates → IsActionKnown gates action.now) }
+    ensures unknown { IfErr result (λ fault. (gates : List AnyName) →
+        Knows (λ k. k.now) known.now.keys gates → IsUnknownAction gates action.now fault) }
 {
     match action {
         Action::Internal => Ok(None),
@@ -96,8 +99,10 @@ fn sync_set(
     sync: &SyncSet,
 ) -> Result<Option<Vec<Name>>, CheckFault>
     ensures set { IfOk result (λ s. IsSyncSet (option_map (λ v. v.items) s) (sync_of sync.now)) }
-    ensures known { IfOk result (λ _. (gates : List AnyName) → Knows (λ k. k.now) known.now.keys gates → AreSyncGatesKnown gates (sync_of sync.now)) }
-    ensures unknown { IfErr result (λ fault. (gates : List AnyName) → Knows (λ k. k.now) known.now.keys gates → IsUnknownOfSync gates (sync_of sync.now) fault) }
+    ensures known { IfOk result (λ _. (gates : List AnyName) →
+        Knows (λ k. k.now) known.now.keys gates → AreSyncGatesKnown gates (sync_of sync.now)) }
+    ensures unknown { IfErr result (λ fault. (gates : List AnyName) →
+        Knows (λ k. k.now) known.now.keys gates → IsUnknownOfSync gates (sync_of sync.now) fault) }
 {
     match sync {
         SyncSet::All => Ok(None),
@@ -117,7 +122,10 @@ fn call<'a>(
     name: &Placed,
     actuals: &[Placed],
 ) -> Result<Resolved, CheckFault>
-    ensures { (scope : Scope) (gates : List AnyName) → Shows (λ k. k.now) tables.now scope → Knows (λ k. k.now) known.now.keys gates → MatchResult result (IsResolved scope gates (plain_call name.now actuals.now)) (IsMisnamed scope gates (plain_call name.now actuals.now)) }
+    ensures { (scope : Scope) (gates : List AnyName) → Shows (λ k. k.now) tables.now scope →
+        Knows (λ k. k.now) known.now.keys gates → MatchResult result
+        (IsResolved scope gates (plain_call name.now actuals.now))
+        (IsMisnamed scope gates (plain_call name.now actuals.now)) }
 {
     let Some(meaning) = find(tables, name.name.text()) else {
         return Err(CheckFault::E22(copied(alloc, name)?));
@@ -142,9 +150,25 @@ fn call<'a>(
     })
 }
 
+/// A form without parts, in which no `>>` stands.
+fn leaf(code: Code, functionality: Functionality) -> Resolved
+    ensures code { flat_of result.code ≡ flat_of code }
+    ensures functionality { result.functionality ≡ functionality }
+    ensures never { result.never ≡ None }
+{
+    Resolved {
+        code,
+        functionality,
+        never: None,
+    }
+}
+
 /// A prefix, of what was found of its behaviour.
 fn prefixed(alloc: Global, name: Option<Name>, inner: Resolved) -> Result<Resolved, AllocError>
-    ensures { IfOk result (λ found. (scope : Scope) (gates : List AnyName) (action : AnyAction) (body : Tree) → name ≡ action_of action → IsActionKnown gates action → IsResolved scope gates body inner → IsResolved scope gates (prefix action body) found) }
+    ensures { IfOk result
+        (λ found. (scope : Scope) (gates : List AnyName) (action : AnyAction) (body : Tree) →
+        name ≡ action_of action → IsActionKnown gates action → IsResolved scope gates body inner →
+        IsResolved scope gates (prefix action body) found) }
 {
     Ok(Resolved {
         code: Code::Prefix {
@@ -158,7 +182,9 @@ fn prefixed(alloc: Global, name: Option<Name>, inner: Resolved) -> Result<Resolv
 
 /// A choice, of what was found of its operands.
 fn chosen(alloc: Global, first: Resolved, second: Resolved) -> Result<Resolved, AllocError>
-    ensures { IfOk result (λ found. (scope : Scope) (gates : List AnyName) (left right : Tree) → IsResolved scope gates left first → IsResolved scope gates right second → IsResolved scope gates (choice left right) found) }
+    ensures { IfOk result (λ found. (scope : Scope) (gates : List AnyName) (left right : Tree) →
+        IsResolved scope gates left first → IsResolved scope gates right second →
+        IsResolved scope gates (choice left right) found) }
 {
     Ok(Resolved {
         code: Code::Choice {
@@ -177,7 +203,11 @@ fn composed(
     set: Option<Vec<Name>>,
     second: Resolved,
 ) -> Result<Resolved, AllocError>
-    ensures { IfOk result (λ found. (scope : Scope) (gates : List AnyName) (left right : Tree) (sync : Sync) → IsSyncSet (option_map (λ v. v.items) set) sync → AreSyncGatesKnown gates sync → IsResolved scope gates left first → IsResolved scope gates right second → IsResolved scope gates (par left sync right) found) }
+    ensures { IfOk result
+        (λ found. (scope : Scope) (gates : List AnyName) (left right : Tree) (sync : Sync) →
+        IsSyncSet (option_map (λ v. v.items) set) sync → AreSyncGatesKnown gates sync →
+        IsResolved scope gates left first → IsResolved scope gates right second →
+        IsResolved scope gates (par left sync right) found) }
 {
     Ok(Resolved {
         code: Code::Par {
@@ -192,7 +222,9 @@ fn composed(
 
 /// A hide form, of what was found of its behaviour, where its gates may be used too.
 fn hidden(alloc: Global, gates: &[Placed], inner: Resolved) -> Result<Resolved, AllocError>
-    ensures { IfOk result (λ found. (scope : Scope) (known : List AnyName) (body : Tree) → IsResolved scope (texts gates.now ++ known) body inner → IsResolved scope known (hide gates.now body) found) }
+    ensures { IfOk result (λ found. (scope : Scope) (known : List AnyName) (body : Tree) →
+        IsResolved scope (texts gates.now ++ known) body inner →
+        IsResolved scope known (hide gates.now body) found) }
 {
     Ok(Resolved {
         code: Code::Hide {
@@ -211,7 +243,9 @@ fn enabled(
     at: usize,
     second: Resolved,
 ) -> Result<Resolved, AllocError>
-    ensures { IfOk result (λ found. (scope : Scope) (gates : List AnyName) (left right : Tree) → IsResolved scope gates left first → IsResolved scope gates right second → IsResolved scope gates (enable left at right) found) }
+    ensures { IfOk result (λ found. (scope : Scope) (gates : List AnyName) (left right : Tree) →
+        IsResolved scope gates left first → IsResolved scope gates right second →
+        IsResolved scope gates (enable left at right) found) }
 {
     let here = match first.functionality {
         Functionality::Exit => None,
@@ -229,7 +263,9 @@ fn enabled(
 
 /// A disabling, of what was found of its operands.
 fn disabled(alloc: Global, first: Resolved, second: Resolved) -> Result<Resolved, AllocError>
-    ensures { IfOk result (λ found. (scope : Scope) (gates : List AnyName) (left right : Tree) → IsResolved scope gates left first → IsResolved scope gates right second → IsResolved scope gates (disable left right) found) }
+    ensures { IfOk result (λ found. (scope : Scope) (gates : List AnyName) (left right : Tree) →
+        IsResolved scope gates left first → IsResolved scope gates right second →
+        IsResolved scope gates (disable left right) found) }
 {
     Ok(Resolved {
         code: Code::Disable {
@@ -250,58 +286,47 @@ pub(crate) fn resolve<'a>(
     known: &mut IndexSet<&'a str>,
     behaviour: &'a Behaviour,
 ) -> Result<Resolved, CheckFault>
-    ensures resolved { (scope : Scope) (gates : List AnyName) → Shows (λ k. k.now) tables.now scope → Knows (λ k. k.now) known.old.keys gates → MatchResult result (IsResolved scope gates (tree_of behaviour.now)) (IsMisnamed scope gates (tree_of behaviour.now)) }
+    ensures resolved { (scope : Scope) (gates : List AnyName) →
+        Shows (λ k. k.now) tables.now scope → Knows (λ k. k.now) known.old.keys gates →
+        MatchResult result (IsResolved scope gates (tree_of behaviour.now))
+        (IsMisnamed scope gates (tree_of behaviour.now)) }
     ensures known { OnOk result (known.new.keys ≡ known.old.keys) }
 {
     match behaviour {
-        Behaviour::Stop => Ok(Resolved {
-            code: Code::Stop,
-            functionality: Functionality::NoExit,
-            never: None,
-        }),
-        Behaviour::Exit => Ok(Resolved {
-            code: Code::Exit,
-            functionality: Functionality::Exit,
-            never: None,
-        }),
+        Behaviour::Stop => Ok(leaf(Code::Stop, Functionality::NoExit)),
+        Behaviour::Exit => Ok(leaf(Code::Exit, Functionality::Exit)),
         Behaviour::Prefix { action, body } => {
             let name = action_name(alloc, known, action)?;
             let inner = resolve(alloc, tables, known, body)?;
-            let whole = prefixed(alloc, name, inner)?;
-            Ok(whole)
+            Ok(prefixed(alloc, name, inner)?)
         }
         Behaviour::Choice { left, right } => {
             let first = resolve(alloc, tables, known, left)?;
             let second = resolve(alloc, tables, known, right)?;
-            let whole = chosen(alloc, first, second)?;
-            Ok(whole)
+            Ok(chosen(alloc, first, second)?)
         }
         Behaviour::Par { left, sync, right } => {
             let first = resolve(alloc, tables, known, left)?;
             let set = sync_set(alloc, known, sync)?;
             let second = resolve(alloc, tables, known, right)?;
-            let whole = composed(alloc, first, set, second)?;
-            Ok(whole)
+            Ok(composed(alloc, first, set, second)?)
         }
         Behaviour::Hide { gates, body } => {
             let before = known.len();
             add(known, gates.as_slice())?;
             let inner = resolve(alloc, tables, known, body)?;
             known.truncate(before);
-            let whole = hidden(alloc, gates.as_slice(), inner)?;
-            Ok(whole)
+            Ok(hidden(alloc, gates.as_slice(), inner)?)
         }
         Behaviour::Enable { left, at, right } => {
             let first = resolve(alloc, tables, known, left)?;
             let second = resolve(alloc, tables, known, right)?;
-            let whole = enabled(alloc, first, *at, second)?;
-            Ok(whole)
+            Ok(enabled(alloc, first, *at, second)?)
         }
         Behaviour::Disable { left, right } => {
             let first = resolve(alloc, tables, known, left)?;
             let second = resolve(alloc, tables, known, right)?;
-            let whole = disabled(alloc, first, second)?;
-            Ok(whole)
+            Ok(disabled(alloc, first, second)?)
         }
         Behaviour::Call { name, gates } => call(alloc, tables, known, name, gates.as_slice()),
     }

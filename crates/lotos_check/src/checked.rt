@@ -42,11 +42,12 @@ impl Checked {
         &self.start
     }
 
-    /// A number for a process of this system, by its own number: every unguarded call in its body goes to a process of
-    /// smaller rank.
+    /// The rank of the process of that number: every unguarded call in its body goes to a process of smaller rank, since the
+    /// system is guarded and these are its ranks.
     pub fn rank(&self, process: usize) -> usize
         requires { process < length (system_of self.now).processes }
-        ensures { slice_get (ranks_of self.now) process ≡ Some result }
+        ensures place { slice_get (ranks_of self.now) process ≡ Some result }
+        ensures kept { ∥ Keeps (system_of self.now) (ranks_of self.now) ∥₁ }
     {
         self.ranks[process]
     }

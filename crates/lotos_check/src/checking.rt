@@ -8,8 +8,8 @@ ghost use Rattle.lotos_check.specs.Names.{Name as AnyName, texts};
 ghost use Rattle.lotos_check.specs.Scope.{definitions_in, everywhere, row_in};
 ghost use Rattle.lotos_check.specs.Causes.{IsDistinct, WellTyped};
 ghost use Rattle.lotos_check.specs.Flat.{IsFlat, Pairwise, System};
-ghost use Rattle.lotos_check.specs.Guard.{IsE27, IsLargestTrap};
-ghost use Rattle.lotos_check.specs.Checking.{AreRanks, IsAccepted, IsFaulty, IsFlattened, IsRefused, IsRepeat};
+ghost use Rattle.lotos_check.specs.Guard.{IsE27, IsLargestUnguardedSet};
+ghost use Rattle.lotos_check.specs.Checking.{AreRanks, IsAccepted, IsFaulty, IsFlattened, IsNowhereAccepted, IsRepeat};
 ghost use Rattle.lotos_check.specs.Places.{StandsInside};
 ghost use Rattle.lotos_check.specs.Resolved.{Adds, IsMisnamedIn};
 ghost use Rattle.lotos_check.specs.Typing.{IsTyped, IsUntyped};
@@ -37,8 +37,9 @@ use std::alloc::{AllocError, Global};
 /// E23; E25 and E26; E27. Answers E99 where a growth of the heap was refused.
 pub fn check(alloc: Global, tree: Specification) -> Result<Checked, CheckFault>
     ensures faulty { IfErr result (IsFaulty (definition_of tree.whole)) }
-    ensures refused { IfErr result (IsRefused (definition_of tree.whole)) }
-    ensures inside { IfErr result (λ fault. (n : ℕ) → IsInside n (definition_of tree.whole) → StandsInside n fault) }
+    ensures refused { IfErr result (IsNowhereAccepted (definition_of tree.whole)) }
+    ensures inside { IfErr result (λ fault. (n : ℕ) → IsInside n (definition_of tree.whole) →
+        StandsInside n fault) }
     ensures accepted { IfOk result (λ c. IsAccepted (definition_of tree.whole) (system_of c)) }
     ensures ranks { IfOk result (λ c. AreRanks (system_of c).processes (ranks_of c)) }
 {
@@ -58,7 +59,7 @@ pub fn check(alloc: Global, tree: Specification) -> Result<Checked, CheckFault>
             processes,
             ranks,
         }),
-        Ranking::Trapped(set) => Err(CheckFault::E27 {
+        Ranking::Unguarded(set) => Err(CheckFault::E27 {
             name: copied(alloc, &definitions[set[0] + 1].name)?,
             set,
         }),
@@ -68,12 +69,26 @@ pub fn check(alloc: Global, tree: Specification) -> Result<Checked, CheckFault>
 /// What the passes find is what the static rules say: with no fault the specification is well typed and its code the flat
 /// system; each fault is one of the specification.
 pub(crate) fn passes()
-    ensures typed { (whole : Def) (found : List AnyResolved) → IsDistinct whole → Adds (everywhere whole) [] found → Pairwise IsTyped (definitions_in whole) found → WellTyped whole }
-    ensures flat { (whole : Def) (found : List AnyResolved) (formals : List AnyName) (start : AnyCode) (processes : List AnyProcess) → Adds (everywhere whole) [] found → IsFlattened (whole ∷ row_in (inner_of whole)) found start processes → formals ≡ texts (formals_of whole) → IsFlat whole (record { formals = formals; start = flat_of start; processes = map process_of processes }) }
-    ensures repeated { (whole : Def) (fault : AnyFault) → IsRepeat whole fault → IsFaulty whole fault }
-    ensures misnamed { (whole : Def) (fault : AnyFault) → IsMisnamedIn (everywhere whole) fault → IsFaulty whole fault }
-    ensures untyped { (whole : Def) (found : List AnyResolved) (fault : AnyFault) → Adds (everywhere whole) [] found → IsUntyped (definitions_in whole) found fault → IsFaulty whole fault }
-    ensures trapped { (whole : Def) (system : System) (set : List ℕ) (first : ℕ) (others : List ℕ) (name : AnyPlaced) (d : Def) → IsFlat whole system → IsLargestTrap system.processes set → set ≡ first ∷ others → slice_get (definitions_in whole) (suc first) ≡ Some d → name ≡ name_of d → IsE27 whole name set }
+    ensures typed { (whole : Def) (found : List AnyResolved) → IsDistinct whole →
+        Adds (everywhere whole) [] found → Pairwise IsTyped (definitions_in whole) found →
+        WellTyped whole }
+    ensures flat { (whole : Def) (found : List AnyResolved) (formals : List AnyName)
+        (start : AnyCode) (processes : List AnyProcess) → Adds (everywhere whole) [] found →
+        IsFlattened (whole ∷ row_in (inner_of whole)) found start processes →
+        formals ≡ texts (formals_of whole) →
+        IsFlat whole (record { formals = formals; start = flat_of start; processes = map process_of processes }) }
+    ensures repeated { (whole : Def) (fault : AnyFault) → IsRepeat whole fault →
+        IsFaulty whole fault }
+    ensures misnamed { (whole : Def) (fault : AnyFault) → IsMisnamedIn (everywhere whole) fault →
+        IsFaulty whole fault }
+    ensures untyped { (whole : Def) (found : List AnyResolved) (fault : AnyFault) →
+        Adds (everywhere whole) [] found → IsUntyped (definitions_in whole) found fault →
+        IsFaulty whole fault }
+    ensures unguarded { (whole : Def) (system : System) (set : List ℕ) (first : ℕ)
+        (others : List ℕ) (name : AnyPlaced) (d : Def) → IsFlat whole system →
+        IsLargestUnguardedSet system.processes set → set ≡ first ∷ others →
+        slice_get (definitions_in whole) (suc first) ≡ Some d → name ≡ name_of d →
+        IsE27 whole name set }
 {}
 
 /// The code of the first definition, which is the specification, and the others as processes.
@@ -84,7 +99,8 @@ pub(crate) fn flattened(
 ) -> Result<(Code, Vec<Process>), AllocError>
     requires some { 0 < length found.items }
     requires sized { length definitions.now ≡ length found.items }
-    ensures { IfOk result (λ p. IsFlattened (map (λ d. definition_of d.now) definitions.now) found.items p.0 p.1.items) }
+    ensures { IfOk result
+        (λ p. IsFlattened (map (λ d. definition_of d.now) definitions.now) found.items p.0 p.1.items) }
 {
     let mut start = Code::Stop;
     let mut processes = Vec::new(alloc);

@@ -18,7 +18,7 @@ pub(crate) enum Ranking {
     /// A number for each process, and they fall at every unguarded call.
     Guarded(Vec<usize>),
     /// The largest set of processes each of which has an unguarded call into the set, ascending. It is not empty.
-    Trapped(Vec<usize>),
+    Unguarded(Vec<usize>),
 }
 
 /// A numbering of the processes that falls at every unguarded call, or the processes that cannot be numbered.
@@ -39,13 +39,14 @@ pub(crate) fn ranked(alloc: Global, processes: &[Process]) -> Result<Ranking, Al
         let numbers = numbers_of(alloc, ranks.as_slice())?;
         Ok(Ranking::Guarded(numbers))
     } else {
-        Ok(Ranking::Trapped(waiting))
+        Ok(Ranking::Unguarded(waiting))
     }
 }
 
 /// For each process, the processes that it calls unguarded.
 fn edges_of(alloc: Global, processes: &[Process]) -> Result<Vec<Vec<usize>>, AllocError>
-    ensures { IfOk result (λ v. Pairwise AreCalls (map (λ calls. calls.items) v.items) (map process_of processes.now)) }
+    ensures { IfOk result
+        (λ v. Pairwise AreCalls (map (λ calls. calls.items) v.items) (map process_of processes.now)) }
 {
     let mut edges = Vec::new(alloc);
     for process in processes {
@@ -58,7 +59,8 @@ fn edges_of(alloc: Global, processes: &[Process]) -> Result<Vec<Vec<usize>>, All
 
 /// Adds the processes that the behaviour calls unguarded: under no prefix, and not in the right operand of `>>`.
 fn add_unguarded(code: &Code, into: &mut Vec<usize>) -> Result<(), AllocError>
-    ensures { OnOk result ((q : ℕ) → In q into.new.items ↔ In q into.old.items ⊎ CallsUnguarded (flat_of code.now) q) }
+    ensures { OnOk result ((q : ℕ) → In q into.new.items ↔ In q into.old.items
+        ⊎ CallsUnguarded (flat_of code.now) q) }
 {
     match code {
         Code::Stop | Code::Exit | Code::Prefix { .. } => Ok(()),

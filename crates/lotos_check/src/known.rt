@@ -15,7 +15,8 @@ use std::alloc::{AllocError, Global};
 
 /// Adds the gates of a list behind those that are known.
 pub(crate) fn add<'a>(known: &mut IndexSet<&'a str>, gates: &'a [Placed]) -> Result<(), AllocError>
-    ensures added { OnOk result ((names : List Name) → Knows (λ k. k.now) known.old.keys names → Knows (λ k. k.now) known.new.keys (texts gates.now ++ names)) }
+    ensures added { OnOk result ((names : List Name) → Knows (λ k. k.now) known.old.keys names →
+        Knows (λ k. k.now) known.new.keys (texts gates.now ++ names)) }
     ensures before { OnOk result (take (length known.old.keys) known.new.keys ≡ known.old.keys) }
 {
     for gate in gates {
@@ -30,8 +31,11 @@ pub(crate) fn all_known(
     known: &IndexSet<&str>,
     gates: &[Placed],
 ) -> Result<(), CheckFault>
-    ensures known { IfOk result (λ _. (names : List Name) → Knows (λ k. k.now) known.now.keys names → (g : AnyPlaced) → In g gates.now → In g.name names) }
-    ensures unknown { IfErr result (λ fault. (names : List Name) → Knows (λ k. k.now) known.now.keys names → IsUnknownOf names gates.now fault) }
+    ensures known { IfOk result (λ _. (names : List Name) →
+        Knows (λ k. k.now) known.now.keys names → (g : AnyPlaced) → In g gates.now →
+        In g.name names) }
+    ensures unknown { IfErr result (λ fault. (names : List Name) →
+        Knows (λ k. k.now) known.now.keys names → IsUnknownOf names gates.now fault) }
 {
     for gate in gates {
         if !known.contains(gate.name.text()) {

@@ -11,7 +11,8 @@ pub(crate) fn add_all<'a>(
     of: &'a Definition,
     into: &mut Vec<&'a Definition>,
 ) -> Result<(), AllocError>
-    ensures { OnOk result (map (λ d. definition_of d.now) into.new.items ≡ map (λ d. definition_of d.now) into.old.items ++ definitions_in (definition_of of.now)) }
+    ensures { OnOk result (map (λ d. definition_of d.now) into.new.items
+        ≡ map (λ d. definition_of d.now) into.old.items ++ definitions_in (definition_of of.now)) }
 {
     into.push(of)?;
     for inner in &of.inner {

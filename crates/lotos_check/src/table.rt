@@ -52,7 +52,9 @@ pub(crate) fn tabulate<'a>(
 
 /// The meaning of a name: that of the nearest table that has it, which is the last.
 pub(crate) fn find<'a>(tables: &[IndexMap<&'a str, Meaning<'a>>], name: &str) -> Option<Meaning<'a>>
-    ensures { (scope : Scope) → Shows (λ k. k.now) tables.now scope → MatchOption result ((k : ℕ) (d : Def) → Means scope name.now k d → ⊥) (λ m. Means scope name.now m.process (definition_of m.definition.now)) }
+    ensures { (scope : Scope) → Shows (λ k. k.now) tables.now scope →
+        MatchOption result ((k : ℕ) (d : Def) → Means scope name.now k d → ⊥)
+        (λ m. Means scope name.now m.process (definition_of m.definition.now)) }
 {
     match tables.split_last() {
         None => None,

@@ -17,7 +17,8 @@ pub(crate) fn typed(
     found: &[Resolved],
 ) -> Result<(), CheckFault>
     requires { length definitions.now ≡ length found.now }
-    ensures typed { IfOk result (λ _. Pairwise IsTyped (map (λ d. definition_of d.now) definitions.now) found.now) }
+    ensures typed { IfOk result
+        (λ _. Pairwise IsTyped (map (λ d. definition_of d.now) definitions.now) found.now) }
     ensures untyped { IfErr result (IsUntyped (map (λ d. definition_of d.now) definitions.now) found.now) }
 {
     for index in 0..found.len() {

@@ -25,8 +25,11 @@ pub(crate) fn walk<'a>(
 ) -> Result<(), CheckFault>
     requires { first + count (inner_of (definition_of of.now)) < 2 ^ 63 }
     ensures stack { OnOk result (tables.new.items ≡ tables.old.items) }
-    ensures adds { OnOk result ((scope : Scope) → Shows (λ k. k.now) tables.old.items scope → Adds (listed_with scope first (definition_of of.now)) into.old.items into.new.items) }
-    ensures misnamed { IfErr result (λ fault. (scope : Scope) → Shows (λ k. k.now) tables.old.items scope → IsMisnamedIn (listed_with scope first (definition_of of.now)) fault) }
+    ensures adds { OnOk result ((scope : Scope) → Shows (λ k. k.now) tables.old.items scope →
+        Adds (listed_with scope first (definition_of of.now)) into.old.items into.new.items) }
+    ensures misnamed { IfErr result (λ fault. (scope : Scope) →
+        Shows (λ k. k.now) tables.old.items scope →
+        IsMisnamedIn (listed_with scope first (definition_of of.now)) fault) }
 {
     let own = tabulate(alloc, of.inner.as_slice(), first)?;
     tables.push(own)?;

@@ -1,101 +1,107 @@
 -- A pattern and one more element.
-use Rattle.std.proofs.Common.{◌≡◌, ℕ, ◌+◌, ◌<◌, List, [], ◌∷◌, ◌++◌, length, take, Some, refl, sym, ap, subst, ◌∙◌, append_assoc, arith}
+use Rattle.std.proofs.Common.{◌≡◌, ℕ, ◌+◌, ◌<◌, Bool, List, [], ◌∷◌, ◌++◌, length, take, Some, refl, sym, ap, subst, ◌∙◌, append_assoc, arith}
 use Rattle.std.specs.Prelude.{All, slice_get}
 use Rattle.std.specs.Borrow.{Bor}
 use Rattle.std.proofs.lemmas.List.{append-nil, length-append, map-append}
 use Rattle.std.proofs.lemmas.List.Elements.{All-cons, All-nil}
 use Rattle.std.proofs.lemmas.Option.{slice_get_within}
-use Rattle.lotos_pattern.specs.Patterns.{Element, EndsDead, EndsLast, IsJoin, any, deadlock, one, until, until_deadlock}
+use Rattle.lotos_pattern.specs.Patterns.{Element, EndLast, EndsLast, IsJoin, any, deadlock, one, until, until_deadlock, while, while_any}
 use Rattle.lotos_pattern.specs.Spelling.{PatternOf, Spelling, Text, texts_of}
 use Rattle.lotos_pattern.specs.Faults.{BeginsElement, IsCause, SpellsNone, StandsBehind}
-use Rattle.lotos_pattern.specs.Elements.{IsObservable, IsPattern, element_of, elements_of}
+use Rattle.lotos_pattern.specs.Elements.{CanOccur, IsPattern, element_of, elements_of, pattern_of}
 use Rattle.lotos_pattern.specs.Meaning.{HasRoom, IsFull, SpelledAt}
 use Rattle.lotos_pattern.specs.declared.element.Element.{Element as Kept}
 use Rattle.lotos_pattern.specs.declared.fault.PatternFault.{PatternFault}
 use Rattle.lotos_pattern.proofs.Beginnings.{full_cause, full_nothing}
-use Rattle.lotos_pattern.proofs.Words.{named_observable, take_at, within_texts}
+use Rattle.lotos_pattern.proofs.Words.{take_at, within_texts}
 
-module _ (words : List Text) (place : ℕ) (first : Text) (stands : slice_get words place ≡ Some first) where
-  pub spelled_by_one : (e : Element) → Spelling e (first ∷ []) → SpelledAt words place e (place + 1)
-  spelled_by_one e spelling = let there = slice_get_within words place first stands in record {
-    own = first ∷ [];
-    spelling = spelling;
-    stands = take_at words place first stands;
-    further = omega arith;
-    within = omega arith;
+module _ (strong : Bool) where
+  module _ (words : List Text) (place : ℕ) (first : Text) (stands : slice_get words place ≡ Some first) where
+    pub spelled_by_one : (e : Element) → Spelling strong e (first ∷ []) → SpelledAt strong words place e (place + 1)
+    spelled_by_one e spelling = let there = slice_get_within words place first stands in record {
+      own = first ∷ [];
+      spelling = spelling;
+      stands = take_at words place first stands;
+      further = omega arith;
+      within = omega arith;
+    }
+
+    pub spelled_by_two : (second : Text) (e : Element) → slice_get words (place + 1) ≡ Some second → Spelling strong e (first ∷ second ∷ []) → SpelledAt strong words place e (place + 1 + 1)
+    spelled_by_two second e follows spelling = let there = slice_get_within words (place + 1) second follows in record {
+      own = first ∷ second ∷ [];
+      spelling = spelling;
+      stands = take_at words (place + 1) second follows ∙ ap (λ front. front ++ second ∷ []) (take_at words place first stands) ∙
+          append_assoc (take place words) (first ∷ []) (second ∷ []);
+      further = omega arith;
+      within = omega arith;
+    }
+
+  joined_more : (p : List Element) (e : Element) (words own : List Text) → IsJoin (Spelling strong) p words → Spelling strong e own → IsJoin (Spelling strong) (p ++ e ∷ []) (words ++ own)
+  joined_more [] e words own none spelling = (own, [], spelling, refl, ap (λ front. front ++ own) none ∙ sym (append-nil own))
+  joined_more (f ∷ p) e words own (front, rest, first, others, cut) spelling =
+      (front, rest ++ own, first, joined_more p e rest own others spelling, ap (λ l. l ++ own) cut ∙ append_assoc front rest own)
+
+  ends_last_more : (p : List Element) (e : Element) → EndsLast p → (EndLast p → ⊥) → EndsLast (p ++ e ∷ [])
+  ends_last_more [] e last goes_on = tt
+  ends_last_more (f ∷ []) e last goes_on = (goes_on, tt)
+  ends_last_more (f ∷ g ∷ p) e last goes_on = (last.0, ends_last_more (g ∷ p) e last.1 goes_on)
+
+  -- where there is room, an element more makes a pattern
+  one_more : (words : List Text) (place behind : ℕ) (p : List Element) (e : Element) → PatternOf strong (take place words) (pattern_of strong p) → HasRoom p →
+      SpelledAt strong words place e behind → PatternOf strong (take behind words) (pattern_of strong (p ++ e ∷ []))
+  one_more words place behind p e spelled has next = record {
+    shows = refl;
+    spelled = subst (IsJoin (Spelling strong) (p ++ e ∷ [])) (sym next.stands) (joined_more p e (take place words) next.own spelled.spelled next.spelling);
+    short =
+        let long : length (p ++ e ∷ []) ≡ length p + 1 = length-append p (e ∷ []) in
+        let short = spelled.short in
+        let room = has.room in
+        omega arith;
+    ends_last = ends_last_more p e spelled.ends_last has.goes_on;
   }
 
-  pub spelled_by_two : (second : Text) (e : Element) → slice_get words (place + 1) ≡ Some second → Spelling e (first ∷ second ∷ []) → SpelledAt words place e (place + 1 + 1)
-  spelled_by_two second e follows spelling = let there = slice_get_within words (place + 1) second follows in record {
-    own = first ∷ second ∷ [];
-    spelling = spelling;
-    stands = take_at words (place + 1) second follows ∙ ap (λ front. front ++ second ∷ []) (take_at words place first stands) ∙
-        append_assoc (take place words) (first ∷ []) (second ∷ []);
-    further = omega arith;
-    within = omega arith;
-  }
+  can_occur : (e : Element) (own : List Text) → Spelling strong e own → CanOccur strong e
+  can_occur (one l) own (word, is, names) = names.observable
+  can_occur any own spelling = tt
+  can_occur (until l) own (first, second, is, reads, names) = names.observable
+  can_occur (while l) own spelling = tt
+  can_occur while_any own spelling = tt
+  can_occur deadlock own spelling = tt
+  can_occur until_deadlock own spelling = tt
 
-joined_more : (p : List Element) (e : Element) (words own : List Text) → IsJoin Spelling p words → Spelling e own → IsJoin Spelling (p ++ e ∷ []) (words ++ own)
-joined_more [] e words own none spelling = (own, [], spelling, refl, ap (λ front. front ++ own) none ∙ sym (append-nil own))
-joined_more (f ∷ p) e words own (front, rest, first, others, cut) spelling =
-    (front, rest ++ own, first, joined_more p e rest own others spelling, ap (λ l. l ++ own) cut ∙ append_assoc front rest own)
+  all_occur : (p : List Element) (words : List Text) → IsJoin (Spelling strong) p words → All (CanOccur strong) p
+  all_occur [] words none = All-nil (CanOccur strong)
+  all_occur (e ∷ p) words (front, rest, spelling, others, cut) = All-cons (CanOccur strong) e p (can_occur e front spelling) (all_occur p rest others)
 
-ends_last_more : (p : List Element) (e : Element) → EndsLast p → (EndsDead p → ⊥) → EndsLast (p ++ e ∷ [])
-ends_last_more [] e last goes_on = tt
-ends_last_more (f ∷ []) e last goes_on = (goes_on, tt)
-ends_last_more (f ∷ g ∷ p) e last goes_on = (last.0, ends_last_more (g ∷ p) e last.1 goes_on)
+  -- what words spell is a pattern
+  pub is_pattern : (words : List Text) (p : List Element) → PatternOf strong words (pattern_of strong p) → IsPattern (pattern_of strong p)
+  is_pattern words p spelled = record { ends_last = spelled.ends_last; observable = all_occur p words spelled.spelled; short = spelled.short }
 
--- where there is room, an element more makes a pattern
-one_more : (words : List Text) (place behind : ℕ) (p : List Element) (e : Element) → PatternOf (take place words) p → HasRoom p → SpelledAt words place e behind →
-    PatternOf (take behind words) (p ++ e ∷ [])
-one_more words place behind p e spelled has next = record {
-  spelled = subst (IsJoin Spelling (p ++ e ∷ [])) (sym next.stands) (joined_more p e (take place words) next.own spelled.spelled next.spelling);
-  short =
-      let long : length (p ++ e ∷ []) ≡ length p + 1 = length-append p (e ∷ []) in
-      let short = spelled.short in
-      let room = has.room in
-      omega arith;
-  ends_last = ends_last_more p e spelled.ends_last has.goes_on;
-}
+  -- what is known where the loop stands: the words before the place spell the elements that are kept
+  module _ (words : List (Bor Text)) (place : ℕ) (kept lent : List Kept) (there : place < length words)
+      (spelled : PatternOf strong (take place (texts_of words)) (pattern_of strong (elements_of kept))) (same : lent ≡ kept) where
+    stands : StandsBehind strong (texts_of words) (place + 1) (pattern_of strong (elements_of kept))
+    stands = record { before = place; counted = refl; there = within_texts words place there; spelled = spelled }
 
-element_observable : (e : Element) (own : List Text) → Spelling e own → IsObservable e
-element_observable (one l) own (word, is, names) = named_observable word l names
-element_observable any own spelling = tt
-element_observable (until l) own (first, second, is, reads, names) = named_observable second l names
-element_observable deadlock own spelling = tt
-element_observable until_deadlock own spelling = tt
+    -- where no element may follow them, the fault has its cause
+    pub full_here : (fault : PatternFault) → IsFull (elements_of lent) (place + 1) fault → IsCause strong (texts_of words) fault × SpellsNone strong (texts_of words) fault
+    full_here fault full =
+        let own = subst (λ elements. IsFull (elements_of elements) (place + 1) fault) same full in
+        let p = pattern_of strong (elements_of kept) in
+        (full_cause strong (texts_of words) place p stands fault own, full_nothing strong (texts_of words) place p stands fault own)
 
-observable : (p : List Element) (words : List Text) → IsJoin Spelling p words → All IsObservable p
-observable [] words none = All-nil IsObservable
-observable (e ∷ p) words (front, rest, spelling, others, cut) = All-cons IsObservable e p (element_observable e front spelling) (observable p rest others)
+    -- where one may follow, it begins at the place
+    pub begins_here : HasRoom (elements_of lent) → BeginsElement strong (texts_of words) (place + 1)
+    begins_here room =
+        let own : HasRoom (elements_of kept) = subst (λ elements. HasRoom (elements_of elements)) same room in
+        let short = spelled.short in
+        let unfilled = own.room in
+        record { pattern = pattern_of strong (elements_of kept); behind = stands; goes_on = own.goes_on; room = omega arith }
 
--- what words spell is a pattern
-pub is_pattern : (words : List Text) (p : List Element) → PatternOf words p → IsPattern p
-is_pattern words p spelled = record { ends_last = spelled.ends_last; observable = observable p words spelled.spelled; short = spelled.short }
-
--- what is known where the loop stands: the words before the place spell the elements that are kept
-module _ (words : List (Bor Text)) (place : ℕ) (kept lent : List Kept) (there : place < length words) (spelled : PatternOf (take place (texts_of words)) (elements_of kept))
-    (same : lent ≡ kept) where
-  stands : StandsBehind (texts_of words) (place + 1) (elements_of kept)
-  stands = record { before = place; counted = refl; there = within_texts words place there; spelled = spelled }
-
-  -- where no element may follow them, the fault has its cause
-  pub full_here : (fault : PatternFault) → IsFull (elements_of lent) (place + 1) fault → IsCause (texts_of words) fault × SpellsNone (texts_of words) fault
-  full_here fault full =
-      let own = subst (λ elements. IsFull (elements_of elements) (place + 1) fault) same full in
-      (full_cause (texts_of words) place (elements_of kept) stands fault own, full_nothing (texts_of words) place (elements_of kept) stands fault own)
-
-  -- where one may follow, it begins at the place
-  pub begins_here : HasRoom (elements_of lent) → BeginsElement (texts_of words) (place + 1)
-  begins_here room =
-      let own : HasRoom (elements_of kept) = subst (λ elements. HasRoom (elements_of elements)) same room in
-      let short = spelled.short in
-      let unfilled = own.room in
-      record { pattern = elements_of kept; behind = stands; goes_on = own.goes_on; room = omega arith }
-
-  pub grown_here : (behind : ℕ) (e : Kept) (more : List Kept) → HasRoom (elements_of lent) → SpelledAt (texts_of words) place (element_of e) behind → more ≡ kept ++ e ∷ [] →
-      PatternOf (take behind (texts_of words)) (elements_of more)
-  grown_here behind e more room next grown =
-      let own : HasRoom (elements_of kept) = subst (λ elements. HasRoom (elements_of elements)) same room in
-      let shown : elements_of more ≡ elements_of kept ++ element_of e ∷ [] = ap elements_of grown ∙ map-append element_of kept (e ∷ []) in
-      subst (PatternOf (take behind (texts_of words))) (sym shown) (one_more (texts_of words) place behind (elements_of kept) (element_of e) spelled own next)
+    pub grown_here : (behind : ℕ) (e : Kept) (more : List Kept) → HasRoom (elements_of lent) → SpelledAt strong (texts_of words) place (element_of e) behind → more ≡ kept ++ e ∷ [] →
+        PatternOf strong (take behind (texts_of words)) (pattern_of strong (elements_of more))
+    grown_here behind e more room next grown =
+        let own : HasRoom (elements_of kept) = subst (λ elements. HasRoom (elements_of elements)) same room in
+        let shown : elements_of more ≡ elements_of kept ++ element_of e ∷ [] = ap elements_of grown ∙ map-append element_of kept (e ∷ []) in
+        subst (λ p. PatternOf strong (take behind (texts_of words)) (pattern_of strong p)) (sym shown)
+        (one_more (texts_of words) place behind (elements_of kept) (element_of e) spelled own next)

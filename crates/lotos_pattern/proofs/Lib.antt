@@ -1,8 +1,10 @@
-pub mod Segments
-pub mod Joins
-pub mod Standing
-pub mod Ends
 pub mod Words
+pub mod Segments
+pub mod Passings
+pub mod Places
+pub mod Standing
 pub mod Spellings
+pub mod Ends
+pub mod Endings
 pub mod Beginnings
 pub mod Growth

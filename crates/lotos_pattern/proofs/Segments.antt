@@ -1,12 +1,13 @@
 -- The segments of an element that begin with a label.
-use Rattle.std.proofs.Common.{◌≡◌, ◌≢◌, List, [], ◌∷◌, ◌++◌, refl, ap}
+use Rattle.std.proofs.Common.{◌≡◌, ◌≢◌, Bool, List, [], ◌∷◌, ◌++◌, refl, sym, ap}
 use Rattle.std.specs.Prelude.{All}
 use Rattle.std.proofs.lemmas.List.Elements.{All-head, All-tail, All-cons, All-nil}
-use Rattle.lotos_pattern.specs.Labels.{Label, internal}
-use Rattle.lotos_pattern.specs.Patterns.{Element, IsEnd, Segment, any, deadlock, one, until, until_deadlock}
-use Rattle.lotos_pattern.specs.Elements.{IsObservable}
+use Rattle.lotos_pattern.specs.Labels.{Label}
+use Rattle.lotos_pattern.specs.Patterns.{Element, IsObservable, Segment, any, deadlock, one, until, until_deadlock, while, while_any}
+use Rattle.lotos_pattern.specs.Elements.{CanOccur}
 use Rattle.lotos_pattern.specs.Taking.{Takes}
 use Rattle.lotos_pattern.specs.declared.element.Taking.TheVariants.{Fails, Passes, Stays}
+use Rattle.lotos_pattern.proofs.Words.{other_observable}
 
 pub one_passes : (own l : Label) → own ≡ l → Takes (one own) l Passes
 unfolding Takes
@@ -42,6 +43,18 @@ until_stays own l other s = (
   λ (others, h, e). (l ∷ others, All-cons (λ v. v ≢ own) l others (λ same. other (let back : own ≡ l = cc in back)) h, ap (λ rest. l ∷ rest) e),
 )
 
+pub while_stays : (own l : Label) → own ≡ l → Takes (while own) l Stays
+unfolding Takes
+while_stays own l same s = (λ h. All-tail (λ v. v ≡ own) l s h, λ h. All-cons (λ v. v ≡ own) l s (sym same) h)
+
+pub while_fails : (own l : Label) → own ≢ l → Takes (while own) l Fails
+unfolding Takes
+while_fails own l other s h = other (sym (All-head (λ v. v ≡ own) l s h))
+
+pub while_any_stays : (l : Label) → Takes while_any l Stays
+unfolding Takes
+while_any_stays l s = (λ h. tt, λ h. tt)
+
 pub deadlock_fails : (l : Label) → Takes deadlock l Fails
 unfolding Takes
 deadlock_fails l s e = cc
@@ -50,31 +63,16 @@ pub until_deadlock_stays : (l : Label) → Takes until_deadlock l Stays
 unfolding Takes
 until_deadlock_stays l s = (λ h. tt, λ h. tt)
 
-until_takes : (own : Label) (others : List Label) → [] ≡ others ++ own ∷ [] → ⊥
-until_takes own [] e = cc
-until_takes own (x ∷ others) e = cc
+module _ (strong : Bool) where
+  alone : (l : Label) → IsObservable strong l → All (IsObservable strong) (l ∷ [])
+  alone l h = All-cons (IsObservable strong) l [] h (All-nil (IsObservable strong))
 
--- an element that may take nothing demands a deadlock
-pub takes_nothing : (e : Element) → Segment e [] → IsEnd e
-takes_nothing (one own) e = cc
-takes_nothing any (l, e) = cc
-takes_nothing (until own) (others, h, e) = until_takes own others e
-takes_nothing deadlock e = tt
-takes_nothing until_deadlock e = tt
-
--- an element that demands a deadlock may take nothing
-pub end_takes_nothing : (e : Element) → IsEnd e → Segment e []
-end_takes_nothing (one own) h = absurd h
-end_takes_nothing any h = absurd h
-end_takes_nothing (until own) h = absurd h
-end_takes_nothing deadlock h = refl
-end_takes_nothing until_deadlock h = tt
-
--- each element has a segment that can be observed
-pub some_segment : (e : Element) → IsObservable e → (s : List Label) × Segment e s × All (λ l. l ≢ internal) s
-some_segment (one own) h = (own ∷ [], refl, All-cons (λ l. l ≢ internal) own [] h (All-nil (λ l. l ≢ internal)))
-some_segment any h = ([] ∷ [], ([], refl), All-cons (λ l. l ≢ internal) [] [] (λ e. cc) (All-nil (λ l. l ≢ internal)))
-some_segment (until own) h =
-    (own ∷ [], ([], All-nil (λ v. v ≢ own), refl), All-cons (λ l. l ≢ internal) own [] h (All-nil (λ l. l ≢ internal)))
-some_segment deadlock h = ([], refl, All-nil (λ l. l ≢ internal))
-some_segment until_deadlock h = ([], tt, All-nil (λ l. l ≢ internal))
+  -- each element has a segment that can be observed
+  pub some_segment : (e : Element) → CanOccur strong e → (s : List Label) × Segment e s × All (IsObservable strong) s
+  some_segment (one own) h = (own ∷ [], refl, alone own h)
+  some_segment any h = ([] ∷ [], ([], refl), alone [] (other_observable strong [] (λ e. cc)))
+  some_segment (until own) h = (own ∷ [], ([], All-nil (λ v. v ≢ own), refl), alone own h)
+  some_segment (while own) h = ([], All-nil (λ v. v ≡ own), All-nil (IsObservable strong))
+  some_segment while_any h = ([], tt, All-nil (IsObservable strong))
+  some_segment deadlock h = ([], refl, All-nil (IsObservable strong))
+  some_segment until_deadlock h = ([], tt, All-nil (IsObservable strong))

@@ -1,79 +1,98 @@
 -- The places of sequences.
-use Rattle.std.proofs.Common.{◌≡◌, ◌≢◌, ℕ, ◌+◌, ◌≤◌, List, [], ◌∷◌, ◌++◌, length, drop, sym, ap, subst, append_assoc}
+use Rattle.std.proofs.Common.{◌≡◌, ℕ, ◌⊎◌, inl, inr, Bool, List, [], ◌∷◌, ◌++◌, drop, refl, sym, subst, append_assoc}
 use Rattle.std.specs.Prelude.{◌↔◌, All}
-use Rattle.std.proofs.lemmas.List.{append-nil, drop_all}
-use Rattle.std.proofs.lemmas.List.Elements.{All-cons, All-drop, All-head, All-nil, All-tail}
-use Rattle.lotos_pattern.specs.Labels.{Label, internal}
-use Rattle.lotos_pattern.specs.Patterns.{Element, EndsLast, IsJoin, Lang, Segment, Viable}
-use Rattle.lotos_pattern.specs.Places.{Follows, Stands}
-use Rattle.lotos_pattern.specs.Elements.{IsObservable}
-use Rattle.lotos_pattern.specs.Taking.{Takes}
-use Rattle.lotos_pattern.specs.declared.element.Taking.TheVariants.{Fails, Passes, Stays}
-use Rattle.lotos_pattern.proofs.Ends.{ends_last_drop}
-use Rattle.lotos_pattern.proofs.Joins.{behind_failed, behind_passed, behind_stayed, some_sequence}
+use Rattle.std.proofs.lemmas.List.{append-nil}
+use Rattle.std.proofs.lemmas.List.Elements.{All-append, All-cons, All-drop, All-head, All-nil, All-tail}
+use Rattle.lotos_pattern.specs.Labels.{Label}
+use Rattle.lotos_pattern.specs.Patterns.{Element, IsJoin, IsObservable, Lang, Pattern, Segment, Viable}
+use Rattle.lotos_pattern.specs.Positions.{Follows, Has, Place}
+use Rattle.lotos_pattern.specs.Places.{Stands}
+use Rattle.lotos_pattern.specs.Elements.{CanOccur}
+use Rattle.lotos_pattern.specs.Passing.{Leads, LeadsOn}
+use Rattle.lotos_pattern.proofs.Segments.{some_segment}
+
+-- a pattern whose labels can occur matches some sequence
+pub some_sequence : (p : Pattern) (elements : List Element) → All (CanOccur p.strong) elements → (s : List Label) × IsJoin Segment elements s × All (IsObservable p.strong) s
+some_sequence p [] h = ([], refl, All-nil (IsObservable p.strong))
+some_sequence p (e ∷ es) h =
+    let first = some_segment p.strong e (All-head (CanOccur p.strong) e es h) in
+    let rest = some_sequence p es (All-tail (CanOccur p.strong) e es h) in (
+      first.0 ++ rest.0,
+      (first.0, rest.0, first.1, rest.1, refl),
+      All-append (IsObservable p.strong) first.0 rest.0 first.2 rest.2,
+    )
+
+pub some_matched : (p : Pattern) → All (CanOccur p.strong) p.elements → Viable p []
+some_matched p h = let some = some_sequence p p.elements h in (some.0, record { joined = some.1; observable = some.2 })
+
+-- what follows at a place is where it leads, of labels that can be observed
+follows : (p : Pattern) (place : Place) (s : List Label) → Leads p.elements place s → All (IsObservable p.strong) s → Follows p place s
+follows p place s m o = record { position = m.position; has = m.has; matched = record { joined = m.joined; observable = o } }
+
+leads : (p : Pattern) (place : Place) (s : List Label) → Follows p place s → Leads p.elements place s
+leads p place s m = record { position = m.position; has = m.has; joined = m.matched.joined }
 
 -- the place before any label
-pub begins : (p : List Element) (place : ℕ) → place ≡ 0 → Stands p [] place
+pub begins : (p : Pattern) (none place : Place) → ((k : ℕ) → Has none k → ⊥) → ((k : ℕ) → Has place k ↔ (Has none k ⊎ (k ≡ 0))) → Stands p [] place
 unfolding Stands
-begins p place is s = let whole : drop place p ≡ p = ap (λ i. drop i p) is in (λ m. subst (λ q. Lang q s) (sym whole) m, λ m. subst (λ q. Lang q s) whole m)
+begins p none place bare has s = (
+  λ m. record { position = 0; has = (has 0).1 (inr refl); matched = record { joined = m.joined; observable = m.observable } },
+  λ m. elim ((has m.position).0 m.has) [
+    | inl h ↦ absurd (bare m.position h)
+    | inr first ↦ record { joined = subst (λ k. IsJoin Segment (drop k p.elements) s) first m.matched.joined; observable = m.matched.observable }
+  ],
+)
 
--- a label that may follow leads to the next place
-stepped : (p : List Element) (r : List Label) (l : Label) (place next : ℕ) → All IsObservable p → l ≢ internal →
-    ((s : List Label) → IsJoin Segment (drop place p) (l ∷ s) ↔ IsJoin Segment (drop next p) s) →
-    Stands p r place → Viable p (r ++ l ∷ []) × Stands p (r ++ l ∷ []) next
-unfolding Stands
-stepped p r l place next observable seen moves stands =
-    let after : (s : List Label) → Lang p ((r ++ l ∷ []) ++ s) ↔ Follows p next s = λ s.
-    let regrouped : (r ++ l ∷ []) ++ s ≡ r ++ (l ∷ s) = append_assoc r (l ∷ []) s in (
-      λ m.
-          let here = (stands (l ∷ s)).0 (subst (Lang p) regrouped m) in
-          record { joined = (moves s).0 here.joined; observable = All-tail (λ v. v ≢ internal) l s here.observable },
-      λ m.
-          subst (Lang p) (sym regrouped)
-          ((stands (l ∷ s)).1 (record { joined = (moves s).1 m.joined; observable = All-cons (λ v. v ≢ internal) l s seen m.observable })),
-    ) in
-    let some = some_sequence (drop next p) (All-drop IsObservable next p observable) in
-    ((some.0, (after some.0).1 some.1), after)
-
--- a label that may not follow leads to nothing
-stuck : (p : List Element) (r : List Label) (l : Label) (place : ℕ) → ((s : List Label) → Follows p place (l ∷ s) → ⊥) → Stands p r place → Viable p (r ++ l ∷ []) → ⊥
-unfolding Stands
-stuck p r l place none stands (s, m) = none s ((stands (l ∷ s)).0 (subst (Lang p) (append_assoc r (l ∷ []) s) m))
-
--- the internal action follows nowhere
-pub internal_stuck : (p : List Element) (r : List Label) (l : Label) (place : ℕ) → l ≡ internal → Stands p r place → Viable p (r ++ l ∷ []) → ⊥
-internal_stuck p r l place is = stuck p r l place (λ s m. All-head (λ v. v ≢ internal) l s m.observable is)
-
--- nothing follows behind the last element
-pub past_stuck : (p : List Element) (r : List Label) (l : Label) (place : ℕ) → length p ≤ place → Stands p r place → Viable p (r ++ l ∷ []) → ⊥
-past_stuck p r l place past =
-    stuck p r l place (λ s m. let none : l ∷ s ≡ [] = subst (λ q. IsJoin Segment q (l ∷ s)) (drop_all place p past) m.joined in let z : ⊥ = cc in z)
-
-module _ (p : List Element) (r : List Label) (l : Label) (place : ℕ) (e : Element) (here : drop place p ≡ e ∷ drop (place + 1) p) (last : EndsLast p) where
-  ends_last : EndsLast (e ∷ drop (place + 1) p)
-  ends_last = subst EndsLast here (ends_last_drop p place last)
-
-  pub passes : All IsObservable p → l ≢ internal → Takes e l Passes → Stands p r place → Viable p (r ++ l ∷ []) × Stands p (r ++ l ∷ []) (place + 1)
-  passes observable seen takes =
-      stepped p r l place (place + 1) observable seen
-      (λ s. subst (λ q. IsJoin Segment q (l ∷ s) ↔ IsJoin Segment (drop (place + 1) p) s) (sym here) (behind_passed e (drop (place + 1) p) l ends_last takes s))
-
-  pub stays : All IsObservable p → l ≢ internal → Takes e l Stays → Stands p r place → Viable p (r ++ l ∷ []) × Stands p (r ++ l ∷ []) place
-  stays observable seen takes =
-      stepped p r l place place observable seen
-      (λ s. subst (λ q. IsJoin Segment q (l ∷ s) ↔ IsJoin Segment q s) (sym here) (behind_stayed e (drop (place + 1) p) l ends_last takes s))
-
-  pub fails : Takes e l Fails → Stands p r place → Viable p (r ++ l ∷ []) → ⊥
-  fails takes =
-      stuck p r l place (λ s m. behind_failed e (drop (place + 1) p) l ends_last takes s (subst (λ q. IsJoin Segment q (l ∷ s)) here m.joined))
-
-module _ (p : List Element) (r : List Label) (place : ℕ) (stands : Stands p r place) where
-  -- where nothing more need follow, the sequence is matched
-  pub matched : IsJoin Segment (drop place p) [] → Lang p r
+module _ (p : Pattern) (r : List Label) (l : Label) (place onward : Place) where
+  -- a label that can be observed leads to the next place
+  stepped : IsObservable p.strong l → LeadsOn p.elements place l onward → Stands p r place → Stands p (r ++ l ∷ []) onward
   unfolding Stands
-  matched j = subst (Lang p) (append-nil r) ((stands []).1 (record { joined = j; observable = All-nil (λ l. l ≢ internal) }))
+  stepped seen leads_on stands s =
+      let regrouped : (r ++ l ∷ []) ++ s ≡ r ++ (l ∷ s) = append_assoc r (l ∷ []) s in (
+        λ m.
+            let before = (stands (l ∷ s)).0 (subst (Lang p) regrouped m) in
+            follows p onward s ((leads_on s).0 (leads p place (l ∷ s) before)) (All-tail (IsObservable p.strong) l s before.matched.observable),
+        λ m.
+            let before = (leads_on s).1 (leads p onward s m) in
+            subst (Lang p) (sym regrouped) ((stands (l ∷ s)).1 (follows p place (l ∷ s) before (All-cons (IsObservable p.strong) l s seen m.matched.observable))),
+      )
+
+  -- a place with a position is that of a sequence that goes on to one that is matched
+  alive : All (CanOccur p.strong) p.elements → (k : ℕ) → Has onward k → Stands p (r ++ l ∷ []) onward → Viable p (r ++ l ∷ [])
+  unfolding Stands
+  alive occur k has stands =
+      let some = some_sequence p (drop k p.elements) (All-drop (CanOccur p.strong) k p.elements occur) in
+      (some.0, (stands some.0).1 (record { position = k; has = has; matched = record { joined = some.1; observable = some.2 } }))
+
+  -- a place with a position stands, and the sequence goes on
+  pub goes_on : All (CanOccur p.strong) p.elements → IsObservable p.strong l → LeadsOn p.elements place l onward → (k : ℕ) × Has onward k → Stands p r place →
+      Viable p (r ++ l ∷ []) × Stands p (r ++ l ∷ []) onward
+  goes_on occur seen leads_on (k, has) stands = let next = stepped seen leads_on stands in (alive occur k has next, next)
+
+  -- where the label leads nowhere, no sequence goes on so
+  pub stuck : LeadsOn p.elements place l onward → ((k : ℕ) → Has onward k → ⊥) → Stands p r place → Viable p (r ++ l ∷ []) → ⊥
+  unfolding Stands
+  stuck leads_on none stands (s, m) =
+      let before = (stands (l ∷ s)).0 (subst (Lang p) (append_assoc r (l ∷ []) s) m) in
+      let after = (leads_on s).0 (leads p place (l ∷ s) before) in
+      none after.position after.has
+
+-- what stands behind other labels can be observed where all can
+last_seen : (strong : Bool) (r : List Label) (l : Label) (s : List Label) → All (IsObservable strong) (r ++ l ∷ s) → IsObservable strong l
+last_seen strong [] l s h = All-head (IsObservable strong) l s h
+last_seen strong (x ∷ r) l s h = last_seen strong r l s (All-tail (IsObservable strong) x (r ++ l ∷ s) h)
+
+-- a label that cannot be observed follows nowhere
+pub unseen : (p : Pattern) (r : List Label) (l : Label) → (IsObservable p.strong l → ⊥) → Viable p (r ++ l ∷ []) → ⊥
+unseen p r l hidden (s, m) = hidden (last_seen p.strong r l s (subst (All (IsObservable p.strong)) (append_assoc r (l ∷ []) s) m.observable))
+
+module _ (p : Pattern) (r : List Label) (place : Place) (stands : Stands p r place) where
+  -- where nothing more need follow, the sequence is matched
+  pub matched : Leads p.elements place [] → Lang p r
+  unfolding Stands
+  matched m = subst (Lang p) (append-nil r) ((stands []).1 (follows p place [] m (All-nil (IsObservable p.strong))))
 
   -- where something must follow, it is not
-  pub unmatched : (IsJoin Segment (drop place p) [] → ⊥) → Lang p r → ⊥
+  pub unmatched : (Leads p.elements place [] → ⊥) → Lang p r → ⊥
   unfolding Stands
-  unmatched none m = none ((stands []).0 (subst (Lang p) (sym (append-nil r)) m)).joined
+  unmatched none m = none (leads p place [] ((stands []).0 (subst (Lang p) (sym (append-nil r)) m)))

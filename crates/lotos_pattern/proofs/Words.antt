@@ -1,14 +1,14 @@
 -- Words that mean different things.
-use Rattle.std.proofs.Common.{◌≡◌, ◌≢◌, ℕ, zero, suc, ◌+◌, ◌<◌, List, [], ◌∷◌, ◌++◌, length, map, take, drop, get_or, Some, refl, sym, ap, ◌∙◌, arith, inl, inr}
-use Rattle.std.specs.Prelude.{slice_get, IsTrue}
+use Rattle.std.proofs.Common.{◌≡◌, ◌≢◌, ℕ, zero, suc, ◌+◌, ◌<◌, Bool, true, false, List, [], ◌∷◌, ◌++◌, length, map, take, drop, get_or, Some, Result, Ok, Err, refl, sym, ap, subst, ◌∙◌, arith}
+use Rattle.std.specs.Prelude.{IfOk, IsTrue, slice_get}
 use Rattle.std.specs.Borrow.{Bor}
 use Rattle.std.specs.Char.{to_ascii_lowercase, to_ascii_uppercase, is_ascii_alphabetic}
 use Rattle.std.proofs.lemmas.Bool.Decides.{nat_tests}
 use Rattle.std.proofs.lemmas.List.{drop_more, length-map, take_more}
 use Rattle.std.proofs.lemmas.Option.{get_or_from_slice_get, slice_get_within}
-use Rattle.lotos_text.specs.Cut.{IsWord}
 use Rattle.lotos_pattern.specs.Labels.{Label, internal, termination}
-use Rattle.lotos_pattern.specs.Spelling.{Names, Reads, Text, texts_of}
+use Rattle.lotos_pattern.specs.Patterns.{IsObservable}
+use Rattle.lotos_pattern.specs.Spelling.{IsNamed, IsWord, Names, Reads, Text, exits, gate, inside, texts_of}
 
 -- a word of the language begins with a letter, and so does its text in lower case
 letter : (b : ℕ) → IsTrue (is_ascii_alphabetic b) → to_ascii_lowercase b ≡ 60 → ⊥
@@ -18,20 +18,23 @@ pub no_angle : (word rest : Text) → IsWord word → Reads word (60 ∷ rest) �
 no_angle [] rest h e = h
 no_angle (b ∷ bs) rest h e = letter b h.0 cc
 
--- a label is no word in angle brackets
-pub label_no_angle : (word other rest : Text) (l : Label) → word ≡ other → Names word l → Reads other (60 ∷ rest) → ⊥
-label_no_angle word other rest l same n e = no_angle word rest n.spelled (ap (map to_ascii_lowercase) same ∙ e)
-
 -- one word does not read as two different ones
 pub apart : (word other left right : Text) → word ≡ other → left ≢ right → Reads word left → Reads other right → ⊥
 apart word other left right same differ h k = differ (sym h ∙ ap (map to_ascii_lowercase) same ∙ k)
 
--- a word names one label
-pub same_label : (word other : Text) (l m : Label) → word ≡ other → Names word l → Names other m → l ≡ m
-same_label word other l m same n k = elim n.named [
-  | inl ends ↦ elim k.named [ inl too ↦ ends.1 ∙ sym too.1 | inr goes ↦ absurd (goes.0 (ap (map to_ascii_lowercase) (sym same) ∙ ends.0)) ]
-  | inr goes ↦ elim k.named [ inl ends ↦ absurd (goes.0 (ap (map to_ascii_lowercase) same ∙ ends.0)) | inr too ↦ goes.1 ∙ ap (map to_ascii_uppercase) same ∙ sym too.1 ]
-]
+exit_not_internal : termination ≢ internal
+exit_not_internal e = let long : length termination ≡ length internal = ap length e in absurd (omega arith)
+
+one_named : (word : Text) (l m : Label) → IsNamed word l → IsNamed word m → l ≡ m
+one_named word _ _ (exits h) (exits k) = refl
+one_named word _ _ (exits h) (inside k) = absurd (exit_not_internal (sym h ∙ k))
+one_named word _ _ (exits h) (gate j k) = absurd (j h)
+one_named word _ _ (inside h) (exits k) = absurd (exit_not_internal (sym k ∙ h))
+one_named word _ _ (inside h) (inside k) = refl
+one_named word _ _ (inside h) (gate j k) = absurd (k h)
+one_named word _ _ (gate h g) (exits k) = absurd (h k)
+one_named word _ _ (gate h g) (inside k) = absurd (g k)
+one_named word _ _ (gate h g) (gate j k) = refl
 
 upper_no_i : (b : ℕ) → to_ascii_uppercase b ≢ 105
 upper_no_i b e = grind (arith, nat_tests)
@@ -40,12 +43,45 @@ upper_not_internal : (word : Text) → map to_ascii_uppercase word ≢ internal
 upper_not_internal [] e = cc
 upper_not_internal (b ∷ bs) e = upper_no_i b cc
 
--- what a word names can be observed
-pub named_observable : (word : Text) (l : Label) → Names word l → l ≢ internal
-named_observable word l n e = elim n.named [
-  | inl ends ↦ let same : termination ≡ internal = sym ends.1 ∙ e in let long : length termination ≡ length internal = ap length same in absurd (omega arith)
-  | inr goes ↦ upper_not_internal word (sym goes.1 ∙ e)
-]
+-- every label but the internal action can be observed
+pub other_observable : (strong : Bool) (l : Label) → l ≢ internal → IsObservable strong l
+other_observable true l h = tt
+other_observable false l h = h
+
+module _ (strong : Bool) where
+  -- a label is no word in angle brackets
+  pub label_no_angle : (word other rest : Text) (l : Label) → word ≡ other → Names strong word l → Reads other (60 ∷ rest) → ⊥
+  label_no_angle word other rest l same n e = no_angle word rest n.spelled (ap (map to_ascii_lowercase) same ∙ e)
+
+  -- a word names one label
+  pub same_label : (word other : Text) (l m : Label) → word ≡ other → Names strong word l → Names strong other m → l ≡ m
+  same_label word other l m same n k = one_named word l m n.named (subst (λ w. IsNamed w m) (sym same) k.named)
+
+  pub names_exit : (word : Text) → IsWord word → Reads word termination → Names strong word termination
+  names_exit word spelled reads = record { spelled = spelled; named = exits reads; observable = other_observable strong termination exit_not_internal }
+
+  pub names_gate : (word : Text) → IsWord word → (Reads word termination → ⊥) → (Reads word internal → ⊥) → Names strong word (map to_ascii_uppercase word)
+  names_gate word spelled no_exit no_internal = record {
+    spelled = spelled;
+    named = gate no_exit no_internal;
+    observable = other_observable strong (map to_ascii_uppercase word) (upper_not_internal word);
+  }
+
+-- what is not shown is not named by the internal action's word
+pub names_no_internal : (word : Text) (l : Label) → Names false word l → Reads word internal → ⊥
+names_no_internal word l n is = n.observable (one_named word l internal n.named (inside is))
+
+-- the internal action's word is a word of the language, and names it where internal steps are shown
+letter_of : (b : ℕ) → to_ascii_lowercase b ≡ 105 → IsTrue (is_ascii_alphabetic b)
+letter_of b e = grind (arith, nat_tests)
+
+internal_spelled : (word : Text) → Reads word internal → IsWord word
+internal_spelled [] e = cc
+internal_spelled (b ∷ []) e = (letter_of b cc, tt)
+internal_spelled (b ∷ c ∷ bs) e = cc
+
+pub names_internal : (word : Text) → Reads word internal → Names true word internal
+names_internal word is = record { spelled = internal_spelled word is; named = inside is; observable = tt }
 
 -- the text of the word at a place
 pub word_at : (words : List (Bor Text)) (place : ℕ) (other : Bor Text) → place < length words → slice_get (texts_of words) place ≡ Some (get_or words place other).now
@@ -65,3 +101,8 @@ drop_at words place word is =
 pub take_at : (words : List Text) (place : ℕ) (word : Text) → slice_get words place ≡ Some word → take (place + 1) words ≡ take place words ++ word ∷ []
 take_at words place word is =
     take_more words place word (slice_get_within words place word is) ∙ ap (λ w. take place words ++ w ∷ []) (get_or_from_slice_get words place word word is)
+
+-- what an answer gives has what follows from what it has
+pub if_ok : {A E : Type 0} (P Q : A → Type 0) → ((a : A) → P a → Q a) → (r : Result A E) → IfOk r P → IfOk r Q
+if_ok P Q f (Ok a) h = f a h
+if_ok P Q f (Err e) h = tt

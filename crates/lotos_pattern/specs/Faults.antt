@@ -1,10 +1,10 @@
 -- Why words spell no pattern. A number counts the words from 1.
-use Rattle.std.specs.Prelude.{◌≡◌, ◌⊎◌, ℕ, ◌+◌, ◌<◌, List, Some, codes, length, slice_get, take}
+use Rattle.std.specs.Prelude.{◌≡◌, ◌⊎◌, ℕ, ◌+◌, ◌<◌, Bool, false, List, Some, codes, length, slice_get, take}
 use Rattle.lotos_pattern.specs.Labels.{Label, internal}
-use Rattle.lotos_pattern.specs.Patterns.{Element, EndsDead}
+use Rattle.lotos_pattern.specs.Patterns.{EndsDead, Pattern}
 use Rattle.lotos_pattern.specs.Spelling.{Names, PatternOf, Reads, Text}
 use Rattle.lotos_pattern.specs.declared.fault.PatternFault.{PatternFault}
-use Rattle.lotos_pattern.specs.declared.fault.PatternFault.TheVariants.{E41, E42, E43, E44, E45, E99}
+use Rattle.lotos_pattern.specs.declared.fault.PatternFault.TheVariants.{E41, E42, E43, E44, E45, E48, E99}
 
 -- the word with this number is such a word
 pub record HasWord (words : List Text) (n : ℕ) (Such : Text → Type 0) : Type 0 where
@@ -14,74 +14,90 @@ pub record HasWord (words : List Text) (n : ℕ) (Such : Text → Type 0) : Type
   pub stands : slice_get words before ≡ Some word
   pub such : Such word
 
--- there is a word with this number, and those before it spell the pattern
-pub record StandsBehind (words : List Text) (n : ℕ) (p : List Element) : Type 0 where
-  pub before : ℕ
-  pub counted : n ≡ before + 1
-  pub there : before < length words
-  pub spelled : PatternOf (take before words) p
-
--- an element begins at the word with this number: those before it spell a pattern that another element may follow
-pub record BeginsElement (words : List Text) (n : ℕ) : Type 0 where
-  pub pattern : List Element
-  pub behind : StandsBehind words n pattern
-  pub goes_on : EndsDead pattern → ⊥
-  pub room : length pattern < 256
-
--- the word names a label
-abbrev pub IsLabel : Text → Type 0
-IsLabel word = (l : Label) × Names word l
-
 -- the word is `<until>`
 abbrev pub IsUntil : Text → Type 0
 IsUntil word = Reads word (codes "<until>")
 
--- the word is the internal action's
+-- the word is `<while>`
+abbrev pub IsWhile : Text → Type 0
+IsWhile word = Reads word (codes "<while>")
+
+-- the word is that of the internal action
 abbrev pub IsInternal : Text → Type 0
 IsInternal word = Reads word internal
 
--- no element begins with the word, and it is not `i`
-pub record BeginsNone (word : Text) : Type 0 where
-  pub label : IsLabel word → ⊥
-  pub internal : IsInternal word → ⊥
-  pub any : Reads word (codes "<any>") → ⊥
-  pub until : IsUntil word → ⊥
-  pub deadlock : Reads word (codes "<deadlock>") → ⊥
+module _ (strong : Bool) where
+  -- there is a word with this number, and those before it spell the pattern
+  pub record StandsBehind (words : List Text) (n : ℕ) (p : Pattern) : Type 0 where
+    pub before : ℕ
+    pub counted : n ≡ before + 1
+    pub there : before < length words
+    pub spelled : PatternOf strong (take before words) p
 
--- the word ends no element that `<until>` begins, and it is not `i`
-pub record EndsNone (word : Text) : Type 0 where
-  pub label : IsLabel word → ⊥
-  pub internal : IsInternal word → ⊥
-  pub deadlock : Reads word (codes "<deadlock>") → ⊥
+  -- an element begins at the word with this number: those before it spell a pattern that another element may follow
+  pub record BeginsElement (words : List Text) (n : ℕ) : Type 0 where
+    pub pattern : Pattern
+    pub behind : StandsBehind words n pattern
+    pub goes_on : EndsDead pattern → ⊥
+    pub room : length pattern.elements < 256
 
--- an element begins with `<until>` at the word with this number
-pub record BeginsUntil (words : List Text) (n : ℕ) : Type 0 where
-  pub begins : BeginsElement words n
-  pub until : HasWord words n IsUntil
+  -- the word names a label
+  abbrev pub IsLabel : Text → Type 0
+  IsLabel word = (l : Label) × Names strong word l
 
--- the word with this number may be one that is to be observed: an element begins there, or `<until>` stands before it
-abbrev pub AwaitsLabel : List Text → ℕ → Type 0
-AwaitsLabel words n = BeginsElement words n ⊎ ((before : ℕ) × (n ≡ before + 1) × BeginsUntil words before)
+  -- no element begins with the word, and it is not `i`
+  pub record BeginsNone (word : Text) : Type 0 where
+    pub label : IsLabel word → ⊥
+    pub internal : IsInternal word → ⊥
+    pub any : Reads word (codes "<any>") → ⊥
+    pub until : IsUntil word → ⊥
+    pub while : IsWhile word → ⊥
+    pub deadlock : Reads word (codes "<deadlock>") → ⊥
 
--- the cause that a fault names
-abbrev pub IsCause : List Text → PatternFault → Type 0
--- an element begins, and the word begins none
-IsCause words (E41 n) = BeginsElement words n × HasWord words n BeginsNone
--- an element begins with `<until>`, and the word behind is none that ends it, or there is none
-IsCause words (E42 n) = BeginsUntil words n × (HasWord words (n + 1) EndsNone ⊎ (length words ≡ n))
--- the words before demand a deadlock
-IsCause words (E43 n) = (p : List Element) × StandsBehind words n p × EndsDead p
--- the words before spell 256 elements, and another may follow
-IsCause words (E44 n) = (p : List Element) × StandsBehind words n p × (EndsDead p → ⊥) × (length p ≡ 256)
--- a label is awaited, and the word is that of the internal action
-IsCause words (E45 n) = AwaitsLabel words n × HasWord words n IsInternal
-IsCause words (E99 e) = Unit {0}
+  -- the word ends no element that `<until>` begins, and it is not `i`
+  pub record EndsNone (word : Text) : Type 0 where
+    pub label : IsLabel word → ⊥
+    pub internal : IsInternal word → ⊥
+    pub deadlock : Reads word (codes "<deadlock>") → ⊥
 
--- the words spell no pattern, but for want of memory
-abbrev pub SpellsNone : List Text → PatternFault → Type 0
-SpellsNone words (E41 n) = (p : List Element) → PatternOf words p → ⊥
-SpellsNone words (E42 n) = (p : List Element) → PatternOf words p → ⊥
-SpellsNone words (E43 n) = (p : List Element) → PatternOf words p → ⊥
-SpellsNone words (E44 n) = (p : List Element) → PatternOf words p → ⊥
-SpellsNone words (E45 n) = (p : List Element) → PatternOf words p → ⊥
-SpellsNone words (E99 e) = Unit {0}
+  -- the word ends no element that `<while>` begins, and it is not `i`
+  pub record RepeatsNone (word : Text) : Type 0 where
+    pub label : IsLabel word → ⊥
+    pub internal : IsInternal word → ⊥
+    pub any : Reads word (codes "<any>") → ⊥
+
+  -- an element begins with such a word, the one with this number
+  pub record BeginsWith (words : List Text) (n : ℕ) (Such : Text → Type 0) : Type 0 where
+    pub begins : BeginsElement words n
+    pub first : HasWord words n Such
+
+  -- the word with this number may be a label: an element begins there, or `<until>` or `<while>` stands before it
+  abbrev pub AwaitsLabel : List Text → ℕ → Type 0
+  AwaitsLabel words n = BeginsElement words n
+      ⊎ ((before : ℕ) × (n ≡ before + 1) × (BeginsWith words before IsUntil ⊎ BeginsWith words before IsWhile))
+
+  -- the cause that a fault names
+  abbrev pub IsCause : List Text → PatternFault → Type 0
+  -- an element begins, and the word begins none
+  IsCause words (E41 n) = BeginsElement words n × HasWord words n BeginsNone
+  -- an element begins with `<until>`, and the word behind is none that ends it, or there is none
+  IsCause words (E42 n) = BeginsWith words n IsUntil × (HasWord words (n + 1) EndsNone ⊎ (length words ≡ n))
+  -- the words before demand a deadlock
+  IsCause words (E43 n) = (p : Pattern) × StandsBehind words n p × EndsDead p
+  -- the words before spell 256 elements, and another may follow
+  IsCause words (E44 n) = (p : Pattern) × StandsBehind words n p × (EndsDead p → ⊥) × (length p.elements ≡ 256)
+  -- a label is awaited, and the word is that of the internal action, which is not shown
+  IsCause words (E45 n) = AwaitsLabel words n × HasWord words n IsInternal × (strong ≡ false)
+  -- an element begins with `<while>`, and the word behind is none that ends it, or there is none
+  IsCause words (E48 n) = BeginsWith words n IsWhile × (HasWord words (n + 1) RepeatsNone ⊎ (length words ≡ n))
+  IsCause words (E99 e) = Unit {0}
+
+  -- the words spell no pattern, but for want of memory
+  abbrev pub SpellsNone : List Text → PatternFault → Type 0
+  SpellsNone words (E41 n) = (p : Pattern) → PatternOf strong words p → ⊥
+  SpellsNone words (E42 n) = (p : Pattern) → PatternOf strong words p → ⊥
+  SpellsNone words (E43 n) = (p : Pattern) → PatternOf strong words p → ⊥
+  SpellsNone words (E44 n) = (p : Pattern) → PatternOf strong words p → ⊥
+  SpellsNone words (E45 n) = (p : Pattern) → PatternOf strong words p → ⊥
+  SpellsNone words (E48 n) = (p : Pattern) → PatternOf strong words p → ⊥
+  SpellsNone words (E99 e) = Unit {0}

@@ -2,7 +2,9 @@ pub mod Labels
 pub mod Patterns
 pub mod Spelling
 pub mod Faults
+pub mod Positions
 pub mod Places
 pub mod Elements
 pub mod Taking
+pub mod Passing
 pub mod Meaning

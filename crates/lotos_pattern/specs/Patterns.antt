@@ -1,5 +1,5 @@
 -- What a pattern is, and which sequences of labels it matches.
-use Rattle.std.specs.Prelude.{◌≡◌, ◌≢◌, List, [], ◌∷◌, ◌++◌, All}
+use Rattle.std.specs.Prelude.{◌≡◌, ◌≢◌, Bool, true, false, List, [], ◌∷◌, ◌++◌, All}
 use Rattle.lotos_pattern.specs.Labels.{Label, internal}
 
 -- the list is the join of one part for each of the items, in turn
@@ -15,6 +15,10 @@ pub data Element : Type 0 where
   any : Element
   -- any number of labels other than this one, and then it
   until : Label → Element
+  -- any number of labels, all of them this one
+  while : Label → Element
+  -- any number of labels
+  while_any : Element
   -- nothing, where the end must be a deadlock
   deadlock : Element
   -- any number of labels, where the end must be a deadlock
@@ -25,16 +29,28 @@ abbrev pub Segment : Element → List Label → Type 0
 Segment (one l) s = s ≡ l ∷ []
 Segment any s = (l : Label) × (s ≡ l ∷ [])
 Segment (until l) s = (others : List Label) × All (λ x. x ≢ l) others × (s ≡ others ++ l ∷ [])
+Segment (while l) s = All (λ x. x ≡ l) s
+Segment while_any s = Unit {0}
 Segment deadlock s = s ≡ []
 Segment until_deadlock s = Unit {0}
 
+-- the label can be observed: each one where internal steps are shown, and else each one but the internal action
+abbrev pub IsObservable : (strong : Bool) → Label → Type 0
+IsObservable true l = Unit {0}
+IsObservable false l = l ≢ internal
+
+-- a pattern: its elements in their order, and whether internal steps are shown
+pub record Pattern : Type 0 where
+  pub elements : List Element
+  pub strong : Bool
+
 -- a pattern matches one segment for each of its elements in turn, all of them observable
-pub record Lang (p : List Element) (s : List Label) : Type 0 where
-  pub joined : IsJoin Segment p s
-  pub observable : All (λ l. l ≢ internal) s
+pub record Lang (p : Pattern) (s : List Label) : Type 0 where
+  pub joined : IsJoin Segment p.elements s
+  pub observable : All (IsObservable p.strong) s
 
 -- some sequence that the pattern matches begins so
-abbrev pub Viable : List Element → List Label → Type 0
+abbrev pub Viable : Pattern → List Label → Type 0
 Viable p r = (s : List Label) × Lang p (r ++ s)
 
 -- the element demands that the end is a deadlock
@@ -42,14 +58,20 @@ abbrev pub IsEnd : Element → Type 0
 IsEnd (one l) = ⊥
 IsEnd any = ⊥
 IsEnd (until l) = ⊥
+IsEnd (while l) = ⊥
+IsEnd while_any = ⊥
 IsEnd deadlock = Unit {0}
 IsEnd until_deadlock = Unit {0}
 
+-- the last of the elements demands that the end is a deadlock
+abbrev pub EndLast : List Element → Type 0
+EndLast [] = ⊥
+EndLast (e ∷ []) = IsEnd e
+EndLast (e ∷ f ∷ p) = EndLast (f ∷ p)
+
 -- a matched sequence must end in a deadlock
-abbrev pub EndsDead : List Element → Type 0
-EndsDead [] = ⊥
-EndsDead (e ∷ []) = IsEnd e
-EndsDead (e ∷ f ∷ p) = EndsDead (f ∷ p)
+abbrev pub EndsDead : Pattern → Type 0
+EndsDead p = EndLast p.elements
 
 -- an element that demands a deadlock stands last only
 abbrev pub EndsLast : List Element → Type 0

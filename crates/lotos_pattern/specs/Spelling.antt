@@ -1,10 +1,10 @@
 -- Which words spell a pattern.
-use Rattle.std.specs.Prelude.{◌≡◌, ◌⊎◌, ℕ, ◌≤◌, List, [], ◌∷◌, codes, length, map}
+use Rattle.std.specs.Prelude.{◌≡◌, ℕ, ◌≤◌, ◌||◌, ◌==◌, Bool, IsTrue, List, [], ◌∷◌, codes, length, map}
 use Rattle.std.specs.Borrow.{Bor}
-use Rattle.std.specs.Char.{to_ascii_lowercase, to_ascii_uppercase}
-use Rattle.lotos_text.specs.Cut.{IsWord}
+use Rattle.std.specs.Char.{is_ascii_alphabetic, is_ascii_alphanumeric, to_ascii_lowercase, to_ascii_uppercase}
+use Rattle.std.specs.List.{AllByRecursion}
 use Rattle.lotos_pattern.specs.Labels.{Label, internal, termination}
-use Rattle.lotos_pattern.specs.Patterns.{Element, EndsLast, IsJoin, any, deadlock, one, until, until_deadlock}
+use Rattle.lotos_pattern.specs.Patterns.{Element, EndsLast, IsJoin, IsObservable, Pattern, any, deadlock, one, until, until_deadlock, while, while_any}
 
 abbrev pub Text : Type 0
 Text = List ℕ
@@ -13,28 +13,49 @@ Text = List ℕ
 abbrev pub texts_of : List (Bor Text) → List Text
 texts_of words = map (λ word. word.now) words
 
+-- a letter, a digit or an underscore
+abbrev pub is_word_byte : ℕ → Bool
+is_word_byte b = is_ascii_alphanumeric b || (b == 95)
+
+-- a letter, then letters, digits and underscores
+abbrev pub IsWord : Text → Type 0
+IsWord [] = ⊥
+IsWord (b ∷ bs) = IsTrue (is_ascii_alphabetic b) × AllByRecursion (λ c. IsTrue (is_word_byte c)) bs
+
 -- the word is this one, in upper or lower case
 abbrev pub Reads : Text → Text → Type 0
 Reads word text = map to_ascii_lowercase word ≡ text
 
--- The label that a word names: a word of the language, which is not `i`; `exit` is termination, and every other word is a
--- gate's name in upper case.
-pub record Names (word : Text) (l : Label) : Type 0 where
+-- what a label word names: `exit` is termination, `i` is the internal action, and every other word a gate's name in upper case
+pub data IsNamed (word : Text) : Label → Type 0 where
+  exits : Reads word termination → IsNamed word termination
+  inside : Reads word internal → IsNamed word internal
+  gate : (Reads word termination → ⊥) → (Reads word internal → ⊥) → IsNamed word (map to_ascii_uppercase word)
+
+-- the label that a word of the language names, which can be observed
+pub record Names (strong : Bool) (word : Text) (l : Label) : Type 0 where
   pub spelled : IsWord word
-  pub observable : Reads word internal → ⊥
-  pub named : (Reads word termination × (l ≡ termination)) ⊎ ((Reads word termination → ⊥) × (l ≡ map to_ascii_uppercase word))
+  pub named : IsNamed word l
+  pub observable : IsObservable strong l
 
 -- the words that spell an element
-abbrev pub Spelling : Element → List Text → Type 0
-Spelling (one l) words = (word : Text) × (words ≡ word ∷ []) × Names word l
-Spelling any words = (word : Text) × (words ≡ word ∷ []) × Reads word (codes "<any>")
-Spelling (until l) words = (first second : Text) × (words ≡ first ∷ second ∷ []) × Reads first (codes "<until>") × Names second l
-Spelling deadlock words = (word : Text) × (words ≡ word ∷ []) × Reads word (codes "<deadlock>")
-Spelling until_deadlock words =
+abbrev pub Spelling : (strong : Bool) → Element → List Text → Type 0
+Spelling strong (one l) words = (word : Text) × (words ≡ word ∷ []) × Names strong word l
+Spelling strong any words = (word : Text) × (words ≡ word ∷ []) × Reads word (codes "<any>")
+Spelling strong (until l) words =
+    (first second : Text) × (words ≡ first ∷ second ∷ []) × Reads first (codes "<until>") × Names strong second l
+Spelling strong (while l) words =
+    (first second : Text) × (words ≡ first ∷ second ∷ []) × Reads first (codes "<while>") × Names strong second l
+Spelling strong while_any words =
+    (first second : Text) × (words ≡ first ∷ second ∷ []) × Reads first (codes "<while>") × Reads second (codes "<any>")
+Spelling strong deadlock words = (word : Text) × (words ≡ word ∷ []) × Reads word (codes "<deadlock>")
+Spelling strong until_deadlock words =
     (first second : Text) × (words ≡ first ∷ second ∷ []) × Reads first (codes "<until>") × Reads second (codes "<deadlock>")
 
--- the words spell the pattern: a join of at most 256 elements, of which the last alone may demand a deadlock
-pub record PatternOf (words : List Text) (p : List Element) : Type 0 where
-  pub spelled : IsJoin Spelling p words
-  pub short : length p ≤ 256
-  pub ends_last : EndsLast p
+-- The words spell the pattern: a join of at most 256 elements, of which the last alone may demand a deadlock. Where internal
+-- steps are shown the internal action is a label like others.
+pub record PatternOf (strong : Bool) (words : List Text) (p : Pattern) : Type 0 where
+  pub shows : p.strong ≡ strong
+  pub spelled : IsJoin (Spelling strong) p.elements words
+  pub short : length p.elements ≤ 256
+  pub ends_last : EndsLast p.elements

@@ -1,6 +1,6 @@
 //! Elements of a pattern, and what a label does at them.
-ghost use Rattle.std.specs.Prelude.{MatchBool};
-ghost use Rattle.lotos_pattern.specs.Patterns.{EndsDead, IsEnd};
+ghost use Rattle.std.specs.Prelude.{MatchBool, []};
+ghost use Rattle.lotos_pattern.specs.Patterns.{EndLast, IsEnd, Segment};
 ghost use Rattle.lotos_pattern.specs.Elements.{element_of, elements_of};
 ghost use Rattle.lotos_pattern.specs.Taking.{Takes};
 
@@ -13,6 +13,10 @@ pub(crate) enum Element {
     Any,
     /// Any number of labels other than this one, and then it.
     Until(String),
+    /// Any number of labels, all of them this one.
+    While(String),
+    /// Any number of labels.
+    WhileAny,
     /// Nothing, where the end must be a deadlock.
     Deadlock,
     /// Any number of labels, where the end must be a deadlock.
@@ -50,8 +54,31 @@ impl Element {
                     Taking::Stays
                 }
             }
+            Element::While(repeated) => {
+                if repeated.as_str() == label {
+                    Taking::Stays
+                } else {
+                    Taking::Fails
+                }
+            }
+            Element::WhileAny => Taking::Stays,
             Element::Deadlock => Taking::Fails,
             Element::UntilDeadlock => Taking::Stays,
+        }
+    }
+
+    /// Whether the element may take no label at all.
+    pub(crate) fn may_be_empty(&self) -> bool
+        ensures { MatchBool result (Segment (element_of self.now) []) (Segment (element_of self.now) [] → ⊥) }
+    {
+        match self {
+            Element::Label(_) => false,
+            Element::Any => false,
+            Element::Until(_) => false,
+            Element::While(_) => true,
+            Element::WhileAny => true,
+            Element::Deadlock => true,
+            Element::UntilDeadlock => true,
         }
     }
 
@@ -65,7 +92,7 @@ impl Element {
 
 /// Whether the last of the elements demands that the end is a deadlock.
 pub(crate) fn ends_dead(elements: &[Element]) -> bool
-    ensures { MatchBool result (EndsDead (elements_of elements.now)) (EndsDead (elements_of elements.now) → ⊥) }
+    ensures { MatchBool result (EndLast (elements_of elements.now)) (EndLast (elements_of elements.now) → ⊥) }
 {
     match elements.last() {
         Some(last) => last.is_end(),

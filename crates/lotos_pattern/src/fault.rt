@@ -18,9 +18,12 @@ pub enum PatternFault {
     /// The pattern is over 256 elements; this word begins the first past them.
     #[error("E44 pattern is over 256 elements")]
     E44(usize),
-    /// The word is `i`, which cannot be observed.
+    /// The word is `i`, which cannot be observed where internal steps are not shown.
     #[error("E45 word {0} is i, which cannot be observed")]
     E45(usize),
+    /// Behind this word, `<while>`, stands neither a label nor `<any>`, or nothing.
+    #[error("E48 word {0} needs a label or <any> after it")]
+    E48(usize),
     /// A growth of the heap was refused.
     #[error("E99 out of memory")]
     E99(AllocError),

@@ -1,10 +1,11 @@
 //! Patterns, and how a sequence stands to one.
-ghost use Rattle.std.specs.Prelude.{◌∷◌, ◌++◌, [], List, IfErr, IfOk, MatchBool, MatchOption, drop};
+ghost use Rattle.std.specs.Prelude.{◌≡◌, ◌∷◌, ◌++◌, ◌<◌, [], List, IfErr, IfOk, MatchBool, MatchOption};
 ghost use Rattle.lotos_pattern.specs.Labels.{Label};
-ghost use Rattle.lotos_pattern.specs.Patterns.{IsJoin, Segment, Viable};
+ghost use Rattle.lotos_pattern.specs.Patterns.{IsObservable, Viable};
 ghost use Rattle.lotos_pattern.specs.Spelling.{PatternOf, texts_of};
 ghost use Rattle.lotos_pattern.specs.Faults.{IsCause, SpellsNone};
 ghost use Rattle.lotos_pattern.specs.Places.{Accepts, Stands};
+ghost use Rattle.lotos_pattern.specs.Passing.{IsMarked, Leads, LeadsOn};
 
 use crate::element::{Element, Taking, ends_dead};
 use crate::fault::PatternFault;
@@ -17,32 +18,41 @@ use std::marker::Model;
 #[derive(Debug, Drop)]
 pub struct Pattern {
     elements: Vec<Element>,
+    /// Whether internal steps are shown.
+    strong: bool,
 }
 
 impl Model for Pattern {
-    ghost use Rattle.std.specs.Prelude.{List};
-    ghost use Rattle.lotos_pattern.specs.Patterns.{Element};
-    ghost use Rattle.lotos_pattern.specs.Elements.{IsPattern, elements_of};
+    ghost use Rattle.lotos_pattern.specs.Patterns.{Pattern};
+    ghost use Rattle.lotos_pattern.specs.Elements.{IsPattern, elements_of, pattern_of};
 
-    ghost Value = { List Element };
+    ghost Value = { Pattern };
 
-    ghost view = { λ p. elements_of p.elements.items };
+    ghost view = { λ p. pattern_of p.strong (elements_of p.elements.items) };
 
-    ghost invariant = { λ p. IsPattern (elements_of p.elements.items) };
+    ghost invariant = { λ p. IsPattern (pattern_of p.strong (elements_of p.elements.items)) };
 }
 
 impl Pattern {
-    /// The pattern that the words spell, read without regard to case (this project's profile).
+    /// The pattern that the words spell, read without regard to case (this project's profile). Where internal steps are shown,
+    /// as `strong` says, the internal action is a label like others.
     ///
     /// Words are read from the left, and the first fault is answered. Where an element begins, a word behind one that demands a
     /// deadlock is refused first, then a 257th element, then the word itself.
-    pub fn read(alloc: Global, words: &[&str]) -> Result<Pattern, PatternFault>
-        ensures pattern { IfOk result (PatternOf (texts_of words.now)) }
-        ensures cause { IfErr result (IsCause (texts_of words.now)) }
-        ensures nothing { IfErr result (SpellsNone (texts_of words.now)) }
+    pub fn read(alloc: Global, words: &[&str], strong: bool) -> Result<Pattern, PatternFault>
+        ensures pattern { IfOk result (PatternOf strong (texts_of words.now)) }
+        ensures cause { IfErr result (IsCause strong (texts_of words.now)) }
+        ensures nothing { IfErr result (SpellsNone strong (texts_of words.now)) }
     {
-        let elements = read_elements(alloc, words)?;
-        Ok(Pattern { elements })
+        let elements = read_elements(alloc, words, strong)?;
+        Ok(Pattern { elements, strong })
+    }
+
+    /// Whether internal steps are shown.
+    pub fn strong(&self) -> bool
+        ensures { result ≡ self.now.strong }
+    {
+        self.strong
     }
 
     /// The place before any label.
@@ -52,7 +62,9 @@ impl Pattern {
     {
         // That the elements make a pattern is known where one of the fields is read.
         let _ = &self.elements;
-        Place::behind(0)
+        let mut place = Place::nowhere();
+        place.add(0);
+        place
     }
 
     /// The place behind one more label, given by its printed text; none where no sequence that the pattern matches goes on so.
@@ -61,22 +73,18 @@ impl Pattern {
             MatchOption result (Viable self.now (r ++ label.now ∷ []) → ⊥)
             (λ q. Viable self.now (r ++ label.now ∷ []) × Stands self.now (r ++ label.now ∷ []) q) }
     {
-        if label == "i" {
+        if is_hidden(self.strong, label) {
             return None;
         }
-        let done = place.done();
-        match self.elements.get(done)?.take(label) {
-            Taking::Passes => Some(Place::behind(done + 1)),
-            Taking::Stays => Some(place),
-            Taking::Fails => None,
-        }
+        let next = self.led_to(&place, label);
+        if next.is_nowhere() { None } else { Some(next) }
     }
 
     /// Whether the sequence whose place this is may end there.
     pub fn accepts(&self, place: Place) -> End
         ensures { (r : List Label) → Stands self.now r place → Accepts self.now r result }
     {
-        if !self.may_end(place) {
+        if !self.may_end(&place) {
             End::No
         } else if ends_dead(self.elements.as_slice()) {
             End::IfDead
@@ -85,14 +93,50 @@ impl Pattern {
         }
     }
 
-    /// Whether the elements from the place on match the sequence without labels.
-    fn may_end(&self, place: Place) -> bool
-        ensures { MatchBool result (IsJoin Segment (drop place self.now) []) (IsJoin Segment (drop place self.now) [] → ⊥) }
+    /// Where the label leads from the positions of the place, whether or not it can be observed.
+    fn led_to(&self, place: &Place, label: &str) -> Place
+        ensures { LeadsOn self.now.elements place.now label.now result }
     {
-        match self.elements.get(place.done()) {
-            Some(element) => element.is_end(),
-            None => true,
+        let mut next = Place::nowhere();
+        let mut reached = false;
+        for (position, element) in self.elements.iter().enumerate() {
+            reached = reached | place.has(position);
+            if reached {
+                mark(&mut next, element.take(label), position);
+                reached = element.may_be_empty();
+            }
         }
+        next
+    }
+
+    /// Whether no label need follow at one of the positions of the place.
+    fn may_end(&self, place: &Place) -> bool
+        ensures { MatchBool result (Leads self.now.elements place.now []) (Leads self.now.elements place.now [] → ⊥) }
+    {
+        let mut reached = false;
+        for (position, element) in self.elements.iter().enumerate() {
+            reached = (reached | place.has(position)) & element.may_be_empty();
+        }
+        reached | place.reaches(self.elements.len())
+    }
+}
+
+/// Whether the label cannot be observed, where internal steps are shown or not.
+fn is_hidden(strong: bool, label: &str) -> bool
+    ensures { MatchBool result (IsObservable strong label.now → ⊥) (IsObservable strong label.now) }
+{
+    !strong & (label == "i")
+}
+
+/// Marks where a label leads that does this at the element behind so many others.
+fn mark(place: &mut Place, taking: Taking, position: usize)
+    requires { position < 256 }
+    ensures { IsMarked taking position place.old place.new }
+{
+    match taking {
+        Taking::Passes => place.add(position + 1),
+        Taking::Stays => place.add(position),
+        Taking::Fails => {}
     }
 }
 

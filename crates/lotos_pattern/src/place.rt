@@ -2,38 +2,73 @@
 
 use std::marker::Model;
 
+/// The most positions of a place: no element is done, or up to 256 are.
+const POSITIONS: usize = 257;
+
 /// Where in a pattern the labels of a sequence have led. It is asked of the pattern that gave it.
 #[derive(Clone, Copy, Debug, PartialEq, Eq)]
 pub struct Place {
-    /// How many elements are done.
-    done: usize,
+    /// For each number of elements, whether it is where so many are done.
+    done: [bool; POSITIONS],
 }
 
 impl Model for Place {
-    ghost use Rattle.std.specs.Prelude.{ℕ};
+    ghost use Rattle.lotos_pattern.specs.Positions.{Place};
 
-    ghost Value = { ℕ };
+    ghost Value = { Place };
 
-    ghost view = { λ p. p.done };
+    ghost view = { λ p. record { done = p.done } };
 
-    ghost inverse = { λ n. record { done = n } };
+    ghost inverse = { λ v. record { done = v.done } };
 }
 
 impl Place {
-    ghost use Rattle.std.specs.Prelude.{◌≡◌};
+    ghost use Rattle.std.specs.Prelude.{◌≡◌, ◌⊎◌, ◌↔◌, ◌<◌, ◌≤◌, ℕ, MatchBool, IsTrue};
+    ghost use Rattle.lotos_pattern.specs.Positions.{Has};
 
-    /// The place behind so many elements.
-    pub(crate) fn behind(done: usize) -> Place
-        ensures { result ≡ done }
+    /// No position.
+    pub(crate) fn nowhere() -> Place
+        ensures { (k : ℕ) → Has result k → ⊥ }
     {
-        Place { done }
+        Place {
+            done: [false; POSITIONS],
+        }
     }
 
-    /// How many elements are done.
-    pub(crate) fn done(self) -> usize
-        ensures { result ≡ self }
+    /// One position more: where so many elements are done.
+    pub(crate) fn add(&mut self, position: usize)
+        requires { position < 257 }
+        ensures { (k : ℕ) → Has self.new k ↔ (Has self.old k ⊎ (k ≡ position)) }
     {
-        self.done
+        self.done[position] = true;
+    }
+
+    /// Whether it is where so many elements are done.
+    pub(crate) fn has(&self, position: usize) -> bool
+        ensures { IsTrue result ↔ Has self.now position }
+    {
+        position < POSITIONS && self.done[position]
+    }
+
+    /// Whether it is where so many elements are done, or more.
+    pub(crate) fn reaches(&self, position: usize) -> bool
+        requires { position < 257 }
+        ensures { MatchBool result ((k : ℕ) × (position ≤ k) × Has self.now k)
+            ((k : ℕ) → position ≤ k → Has self.now k → ⊥) }
+    {
+        for k in position..POSITIONS {
+            if self.done[k] {
+                return true;
+            }
+        }
+        false
+    }
+
+    /// Whether it is nowhere.
+    pub(crate) fn is_nowhere(&self) -> bool
+        ensures { MatchBool result ((k : ℕ) → Has self.now k → ⊥) ((k : ℕ) × Has self.now k) }
+    {
+        !self.done.contains(&true)
     }
 }
 

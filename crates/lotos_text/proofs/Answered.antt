@@ -5,7 +5,8 @@ use Rattle.lotos_text.specs.Cut.{Cut, at_byte, at_comment}
 use Rattle.lotos_text.specs.Grammar.{Specifies}
 use Rattle.lotos_text.specs.Kinds.{openings, is_full}
 use Rattle.lotos_text.specs.Parsing.{Limit, Within, Found, Lost, Deeper, IsLostWithin, Starts, fault_at, stop_fault}
-use Rattle.lotos_text.specs.Parts.{Whole}
+use Rattle.lotos_text.specs.Phrases.{Whole}
+use Rattle.lotos_text.specs.Profile.{longest_text, deepest_nesting}
 use Rattle.lotos_text.specs.Refused.{IsStuck, IsRefused, IsE05, SpellsNothing, IsToken}
 use Rattle.lotos_text.specs.Spelled.{Spelled}
 use Rattle.lotos_text.specs.Tree.{Def}
@@ -30,19 +31,19 @@ stuck_spells_nothing text (E06 at) h = absurd h
 stuck_spells_nothing text (E07 at) h = absurd h
 stuck_spells_nothing text (E99 e) h = tt
 
-module _ (text : List ℕ) (ts : List Token) (short : length text ≤ 1048576) (cut : Cut text ts) where
-  found_specifies : (whole : Def) → Found (Whole text (Some 200)) ts whole [] → (n : ℕ) × Specifies text n ts whole × (n ≤ 200)
-  found_specifies whole f = from_whole text (Some 200) ts whole
-      (subst (λ m. Whole text (Some 200) m whole []) (sym (f.joined ∙ append-nil f.front)) f.whole)
+module _ (text : List ℕ) (ts : List Token) (short : length text ≤ longest_text) (cut : Cut text ts) where
+  found_specifies : (whole : Def) → Found (Whole text (Some deepest_nesting)) ts whole [] → (n : ℕ) × Specifies text n ts whole × (n ≤ deepest_nesting)
+  found_specifies whole f = from_whole text (Some deepest_nesting) ts whole
+      (subst (λ m. Whole text (Some deepest_nesting) m whole []) (sym (f.joined ∙ append-nil f.front)) f.whole)
 
   -- the answer is what the text spells
-  pub found_spelled : (whole : Def) → Found (Whole text (Some 200)) ts whole [] → Spelled text whole
+  pub found_spelled : (whole : Def) → Found (Whole text (Some deepest_nesting)) ts whole [] → Spelled text whole
   found_spelled whole f =
       let s = found_specifies whole f in
       record { tokens = ts; nesting = s.0; short = short; cut = cut; spells = s.1; shallow = s.2 }
 
   -- the answer is the only one
-  pub found_only : (whole other : Def) → Found (Whole text (Some 200)) ts whole [] → Spelled text other → other ≡ whole
+  pub found_only : (whole other : Def) → Found (Whole text (Some deepest_nesting)) ts whole [] → Spelled text other → other ≡ whole
   found_only whole other f s =
       let found = found_specifies whole f in
       let same = one_specification text ts s.nesting found.0 other whole
@@ -56,7 +57,7 @@ module _ (text : List ℕ) (ts : List Token) (short : length text ≤ 1048576) (
       (as_whole text limit (l.front ++ more) whole s h)
 
   never_spelled : (limit : Limit) (rest : List Token) (whole : Def) → Lost (Whole text limit) ts rest →
-      ((n : ℕ) → n ≤ 200 → Within limit n) → Spelled text whole → ⊥
+      ((n : ℕ) → n ≤ deepest_nesting → Within limit n) → Spelled text whole → ⊥
   never_spelled limit rest whole l to s =
       never_begun limit rest rest s.nesting whole l (starts_same rest)
       (subst (λ m. Specifies text s.nesting m whole) (one_cut text s.tokens ts s.cut cut ∙ l.joined) s.spells)
@@ -104,7 +105,7 @@ module _ (text : List ℕ) (ts : List Token) (short : length text ≤ 1048576) (
   at_nothing [] l = λ whole s. never_spelled None [] whole l (λ n h. tt) s
   at_nothing (t ∷ after) l = token_nothing after t l (is_full t.kind)
 
-  deep_refused : (t : Token) → Deeper (Whole text) 200 ts t → IsE05 text t.at
+  deep_refused : (t : Token) → Deeper (Whole text) deepest_nesting ts t → IsE05 text t.at
   deep_refused t d =
       let l = d.lost in
       let fronts : d.crowded.front ≡ l.front =
@@ -113,24 +114,24 @@ module _ (text : List ℕ) (ts : List Token) (short : length text ≤ 1048576) (
         before = l.front;
         token = t;
         stands = stands l.front d.after t l.joined;
-        never = λ b. never_begun (Some 200) (t ∷ d.after) (t ∷ b.more) b.nesting b.whole l (b.more, refl)
+        never = λ b. never_begun (Some deepest_nesting) (t ∷ d.after) (t ∷ b.more) b.nesting b.whole l (b.more, refl)
             (subst (λ m. Specifies text b.nesting m b.whole) (append_assoc l.front (t ∷ []) b.more) b.spells) b.within;
         opening = d.opens;
         many = (let i = d.crowded.many in let j = ap (λ m. openings (m ++ t ∷ [])) fronts in omega (arith, i, j));
       }
 
-  deep_nothing : (t : Token) → Deeper (Whole text) 200 ts t → (whole : Def) → Spelled text whole → ⊥
-  deep_nothing t d whole s = never_spelled (Some 200) (t ∷ d.after) whole d.lost (λ n h. h) s
+  deep_nothing : (t : Token) → Deeper (Whole text) deepest_nesting ts t → (whole : Def) → Spelled text whole → ⊥
+  deep_nothing t d whole s = never_spelled (Some deepest_nesting) (t ∷ d.after) whole d.lost (λ n h. h) s
 
   -- the fault is the one that the tokens give
-  pub lost_refused : (stop : Stop) (e : TextFault) → IsLostWithin (Whole text) 200 ts stop → e ≡ stop_fault stop (length text) →
+  pub lost_refused : (stop : Stop) (e : TextFault) → IsLostWithin (Whole text) deepest_nesting ts stop → e ≡ stop_fault stop (length text) →
       IsRefused text e
   lost_refused (At rest) e l h = subst (λ m. IsRefused text m) (sym h) (at_refused rest.now l)
   lost_refused (Deep token) e l h = subst (λ m. IsRefused text m) (sym h) (deep_refused token l)
-  lost_refused (Memory x) e l h = subst (λ m. IsRefused text m) (sym h) tt
+  lost_refused (Memory x) e l h = subst (λ m. IsRefused text m) (sym h) short
 
   -- but for want of memory, the text spells nothing
-  pub lost_spells_nothing : (stop : Stop) (e : TextFault) → IsLostWithin (Whole text) 200 ts stop →
+  pub lost_spells_nothing : (stop : Stop) (e : TextFault) → IsLostWithin (Whole text) deepest_nesting ts stop →
       e ≡ stop_fault stop (length text) → SpellsNothing text e
   lost_spells_nothing (At rest) e l h = subst (λ m. SpellsNothing text m) (sym h) (at_nothing rest.now l)
   lost_spells_nothing (Deep token) e l h = subst (λ m. SpellsNothing text m) (sym h) (deep_nothing token l)

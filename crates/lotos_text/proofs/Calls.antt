@@ -5,8 +5,8 @@ use Rattle.lotos_text.specs.Tree as t
 use Rattle.lotos_text.specs.Tree.{Tree}
 use Rattle.lotos_text.specs.Grammar.{Is, placed, prefixing, Spells, call}
 use Rattle.lotos_text.specs.Follow.{rank}
-use Rattle.lotos_text.specs.Parsing.{Part, NotFirst, Found, Starts, Lost}
-use Rattle.lotos_text.specs.Parts.{Then, Gates, Expression}
+use Rattle.lotos_text.specs.Parsing.{Phrase, NotFirst, Found, Starts, Lost}
+use Rattle.lotos_text.specs.Phrases.{Then, Gates, Expression}
 use Rattle.lotos_text.specs.declared.token.Sign.TheVariants as s
 use Rattle.lotos_text.specs.declared.token.Token.{Token}
 use Rattle.lotos_text.specs.declared.token.TokenKind.TheVariants.{Identifier, Sign}
@@ -39,7 +39,7 @@ module _ (text : List ℕ) where
   alone names end = names
 
   -- gates, with which nothing goes on
-  abbrev Listed : Part (List Placed)
+  abbrev Listed : Phrase (List Placed)
   Listed = Then alone (Gates text) Ended
 
   -- what stands behind the name of a call is lost, and so is the call

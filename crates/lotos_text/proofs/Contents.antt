@@ -1,8 +1,8 @@
 -- What stands behind the first word of a definition: what is found and lost of it.
 use Rattle.std.proofs.Common.{◌≡◌, ℕ, List, [], ◌∷◌, ◌++◌, Some, None, refl, sym, ◌∙◌, ap, append_assoc, arith}
 use Rattle.lotos_text.specs.Grammar.{Is, enabling, Defined, defining_sign, closing_word}
-use Rattle.lotos_text.specs.Parsing.{Part, Limit, Found, Lost}
-use Rattle.lotos_text.specs.Parts.{Then, One, Expression, Heading, Header, Body, Inner, defined, Contents}
+use Rattle.lotos_text.specs.Parsing.{Phrase, Limit, Found, Lost}
+use Rattle.lotos_text.specs.Phrases.{Then, One, Expression, Heading, Header, Body, Inner, defined, Contents}
 use Rattle.lotos_text.specs.Tree.{Tree, Def, Defs}
 use Rattle.lotos_text.specs.declared.token.Token.{Token}
 use Rattle.lotos_text.proofs.Definitions.{firm_inner}
@@ -16,11 +16,11 @@ bodied heading body = (heading, body)
 
 module _ (text : List ℕ) (what : Defined) where
   -- the header and the body
-  abbrev Outer : Limit → Part (Heading × Tree)
+  abbrev Outer : Limit → Phrase (Heading × Tree)
   Outer limit = Then bodied (Header text) (Body text what limit)
 
   -- the header, the body and the inner definitions
-  abbrev Open : Limit → Part Def
+  abbrev Open : Limit → Phrase Def
   Open limit = Then defined (Outer limit) (Inner text limit)
 
   firm_outer : FirmWithin Outer

@@ -4,8 +4,8 @@ use Rattle.lotos_text.specs.Tree as t
 use Rattle.lotos_text.specs.Tree.{Tree, Def, Defs}
 use Rattle.lotos_text.specs.Grammar.{Is, placed, GateList, Declares, enabling, Defined, a_specification, a_process, opening_word, defining_sign, closing_word, Defines, definition, Rest, nothing, definitions, Several, last, another, Specifies}
 use Rattle.lotos_text.specs.Follow.{kind_rank, rank}
-use Rattle.lotos_text.specs.Parsing.{Part, Limit, Within, NotFirst}
-use Rattle.lotos_text.specs.Parts.{Then, Expression, Declared, Heading, Header, Body, Row, Inner, no_inner, some_inner, defined, Contents, Definition}
+use Rattle.lotos_text.specs.Parsing.{Phrase, Limit, Within, NotFirst}
+use Rattle.lotos_text.specs.Phrases.{Then, Expression, Declared, Heading, Header, Body, Row, Inner, no_inner, some_inner, defined, Contents, Definition}
 use Rattle.lotos_text.specs.declared.token.Token.{Token}
 use Rattle.lotos_text.specs.declared.token.TokenKind.TheVariants.{Identifier, Reserved, Sign}
 use Rattle.lotos_text.specs.declared.token.Word.TheVariants as w
@@ -154,10 +154,10 @@ module _ (text : List ℕ) where
 
   -- the parts
 
-  abbrev Headed : Defined → Limit → Part (Heading × Tree)
+  abbrev Headed : Defined → Limit → Phrase (Heading × Tree)
   Headed what limit = Then (λ heading body. (heading, body)) (Header text) (Body text what limit)
 
-  abbrev Told : Defined → Limit → Part Def
+  abbrev Told : Defined → Limit → Phrase Def
   Told what limit = Then defined (Headed what limit) (Inner text limit)
 
   -- a row of definitions is the only one

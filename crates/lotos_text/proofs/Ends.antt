@@ -3,11 +3,11 @@ use Rattle.std.proofs.Common.{◌≡◌, ℕ, ◌<◌, Bool, false, List, [], �
 use Rattle.std.specs.Result.{IsErrAnd}
 use Rattle.lotos_text.specs.Tree as t
 use Rattle.lotos_text.specs.Tree.{Tree}
-use Rattle.lotos_text.specs.Grammar.{Is, gate, internal, prefixing, Spells, stop, exit, brackets, call, prefix, tighter, operation, hide}
+use Rattle.lotos_text.specs.Grammar.{Is, gate, internal, prefixing, Spells, stop, exit, parentheses, call, prefix, tighter, operation, hide}
 use Rattle.lotos_text.specs.Follow.{rank}
 use Rattle.lotos_text.specs.Opens.{opening}
 use Rattle.lotos_text.specs.Parsing.{NotFirst, Found, Lost, IsMissed, IsLostWithin, StopsAt}
-use Rattle.lotos_text.specs.Parts.{Expression}
+use Rattle.lotos_text.specs.Phrases.{Expression}
 use Rattle.lotos_text.specs.declared.descent.Stop.{Stop}
 use Rattle.lotos_text.specs.declared.descent.Stop.TheVariants.{At, Deep, Memory}
 use Rattle.lotos_text.specs.declared.expression.Opening.TheVariants as o
@@ -101,7 +101,7 @@ module _ (text : List ℕ) where
       (Is n (Reserved w.HideWord) → ⊥) → n ∷ more ≡ own ++ behind → Spells text prefixing ends nesting own x → ⊥
   never_begun n ends nesting own behind more x h without e (stop i) = other_begins h (head_same e) i (λ e. cc)
   never_begun n ends nesting own behind more x h without e (exit i) = other_begins h (head_same e) i (λ e. cc)
-  never_begun n ends nesting own behind more x h without e (brackets i d j) = other_begins h (head_same e) i (λ e. cc)
+  never_begun n ends nesting own behind more x h without e (parentheses i d j) = other_begins h (head_same e) i (λ e. cc)
   never_begun n ends nesting own behind more x h without e (call i g) = other_begins h (head_same e) i (λ e. cc)
   never_begun n ends nesting own behind more x h without e (prefix (gate i) j d) = other_begins h (head_same e) i (λ e. cc)
   never_begun n ends nesting own behind more x h without e (prefix (internal i) j d) = other_begins h (head_same e) i (λ e. cc)

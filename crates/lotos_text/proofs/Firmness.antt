@@ -1,8 +1,8 @@
--- Parts with a limit of nesting: each is the only one, whatever the limits, and so are two in a row.
+-- Phrases with a limit of nesting: each is the only one, whatever the limits, and so are two in a row.
 use Rattle.std.proofs.Common.{◌≡◌, ℕ, List, ◌++◌, sym, ◌∙◌, ap, append_assoc, arith, subst}
 use Rattle.lotos_text.specs.Grammar.{Level}
-use Rattle.lotos_text.specs.Parsing.{Part, Limit, Found, Starts, Lost}
-use Rattle.lotos_text.specs.Parts.{Then, One, Behind, Before, Name, Gates, Operation, Expression, Declared, Returns, Heading, Header}
+use Rattle.lotos_text.specs.Parsing.{Phrase, Limit, Found, Starts, Lost}
+use Rattle.lotos_text.specs.Phrases.{Then, One, Behind, Before, Name, Gates, Operation, Expression, Declared, Returns, Heading, Header}
 use Rattle.lotos_text.specs.declared.token.Token.{Token}
 use Rattle.lotos_text.specs.declared.token.TokenKind.{TokenKind}
 use Rattle.lotos_text.specs.declared.tree.Functionality.{Functionality}
@@ -16,16 +16,16 @@ use Rattle.lotos_text.proofs.Unique.{unique}
 
 -- A part that is whole before one list and within one limit stays the only one before each list that starts alike, and within
 -- each limit.
-abbrev pub FirmWithin : {A : Type 0} → (Limit → Part A) → Type 0
+abbrev pub FirmWithin : {A : Type 0} → (Limit → Phrase A) → Type 0
 FirmWithin {A} P = (l m : Limit) (a b r more q : List Token) (x y : A) → P l a x r → Starts r more → P m b y q →
     a ++ more ≡ b ++ q → Same a b x y more q
 
 -- a part without a limit is the only one within each
-pub firm_always : {A : Type 0} (P : Part A) → Firm P → FirmWithin (λ _. P)
+pub firm_always : {A : Type 0} (P : Phrase A) → Firm P → FirmWithin (λ _. P)
 firm_always P firm l m a b r more q x y p st o e = firm a b r more q x y p st o e
 
 -- the first part is found within one limit, and the second is lost: both are lost within the other limit
-pub lost_after : {A B C : Type 0} (together : A → B → C) (P : Limit → Part A) (Q : Part B) (l m : Limit) → FirmWithin P →
+pub lost_after : {A B C : Type 0} (together : A → B → C) (P : Limit → Phrase A) (Q : Phrase B) (l m : Limit) → FirmWithin P →
     (ts between rest : List Token) (x : A) → Found (P l) ts x between → Lost Q between rest → Lost (Then together (P m) Q) ts rest
 lost_after together P Q l m firm ts between rest x f lost = record {
   front = f.front ++ lost.front;
@@ -38,7 +38,7 @@ lost_after together P Q l m firm ts between rest x f lost = record {
 }
 
 -- where each part is the only one within each limit, so are both together
-pub firm_then_within : {A B C : Type 0} (together : A → B → C) (P : Limit → Part A) (Q : Limit → Part B) → FirmWithin P →
+pub firm_then_within : {A B C : Type 0} (together : A → B → C) (P : Limit → Phrase A) (Q : Limit → Phrase B) → FirmWithin P →
     FirmWithin Q → FirmWithin (λ l. Then together (P l) (Q l))
 firm_then_within together P Q firm_p firm_q l m a b r more q x y t st u e =
     let e' : t.front ++ (t.back ++ more) ≡ u.front ++ (u.back ++ q) =
@@ -54,12 +54,12 @@ firm_then_within together P Q firm_p firm_q l m a b r more q x y t st u e =
     }
 
 -- so are a token and the part behind it
-pub firm_behind_within : {A : Type 0} (k : TokenKind) (P : Limit → Part A) → FirmWithin P → FirmWithin (λ l. Behind k (P l))
+pub firm_behind_within : {A : Type 0} (k : TokenKind) (P : Limit → Phrase A) → FirmWithin P → FirmWithin (λ l. Behind k (P l))
 firm_behind_within k P firm =
     firm_then_within (λ token said. said) (λ _. One k) P (firm_always (One k) (firm_one k)) firm
 
 -- so are the part and a token behind it
-pub firm_before_within : {A : Type 0} (P : Limit → Part A) (k : TokenKind) → FirmWithin P → FirmWithin (λ l. Before (P l) k)
+pub firm_before_within : {A : Type 0} (P : Limit → Phrase A) (k : TokenKind) → FirmWithin P → FirmWithin (λ l. Before (P l) k)
 firm_before_within P k firm =
     firm_then_within (λ said token. said) P (λ _. One k) firm (firm_always (One k) (firm_one k))
 

@@ -1,7 +1,7 @@
 -- The header of a definition: what is found and lost of it.
 use Rattle.std.proofs.Common.{ℕ, List, refl}
-use Rattle.lotos_text.specs.Parsing.{Part, Found, Lost}
-use Rattle.lotos_text.specs.Parts.{Then, Name, Gates, Returns, Heading, Header}
+use Rattle.lotos_text.specs.Parsing.{Phrase, Found, Lost}
+use Rattle.lotos_text.specs.Phrases.{Then, Name, Gates, Returns, Heading, Header}
 use Rattle.lotos_text.specs.declared.token.Token.{Token}
 use Rattle.lotos_text.specs.declared.tree.Functionality.{Functionality}
 use Rattle.lotos_text.specs.declared.tree.Placed.{Placed}
@@ -17,7 +17,7 @@ headed front returns = (front.0, front.1, returns)
 
 module _ (text : List ℕ) where
   -- the name and the formal gates
-  abbrev Front : Part (Placed × List Placed)
+  abbrev Front : Phrase (Placed × List Placed)
   Front = Then named (Name text) (Gates text)
 
   firm_front : Firm Front

@@ -4,8 +4,8 @@ use Rattle.lotos_text.specs.Tree as t
 use Rattle.lotos_text.specs.Tree.{Tree}
 use Rattle.lotos_text.specs.Grammar.{Is, Level, enabling, Spells, hide}
 use Rattle.lotos_text.specs.Follow.{rank, bound}
-use Rattle.lotos_text.specs.Parsing.{Part, Limit, Found, Lost, Deeper}
-use Rattle.lotos_text.specs.Parts.{Then, One, Behind, Before, NameList, Expression}
+use Rattle.lotos_text.specs.Parsing.{Phrase, Limit, Found, Lost, Deeper}
+use Rattle.lotos_text.specs.Phrases.{Then, One, Behind, Before, NameList, Expression}
 use Rattle.lotos_text.specs.declared.token.Token.{Token}
 use Rattle.lotos_text.specs.declared.token.TokenKind.TheVariants.{Reserved}
 use Rattle.lotos_text.specs.declared.token.Word.TheVariants as w
@@ -31,13 +31,13 @@ quits_open l true ts h = omega (arith, h)
 quits_open l false ts h = omega (arith, h)
 
 module _ (text : List ℕ) where
-  abbrev Opened : Part (List Placed)
+  abbrev Opened : Phrase (List Placed)
   Opened = Behind (Reserved w.HideWord) (NameList text)
 
-  abbrev Hiding : Part (List Placed)
+  abbrev Hiding : Phrase (List Placed)
   Hiding = Before Opened (Reserved w.InWord)
 
-  abbrev HideForm : Limit → Part Tree
+  abbrev HideForm : Limit → Phrase Tree
   HideForm limit = Then t.hide Hiding (Expression text enabling limit)
 
   firm_hiding : Firm Hiding

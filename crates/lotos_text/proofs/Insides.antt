@@ -2,8 +2,8 @@
 use Rattle.std.proofs.Common.{ℕ, ◌≤◌, Bool, List, [], ◌∷◌, ◌++◌, length, arith}
 use Rattle.std.specs.List.{AllByRecursion}
 use Rattle.lotos_text.specs.Tree.{Tree, Def, Defs}
-use Rattle.lotos_text.specs.Cut.{Stands, AllStand}
-use Rattle.lotos_text.specs.Grammar.{Names, one_name, more_names, GateList, no_gates, gates, Level, gate, internal, Operator, join, Operates, enable_sign, disable_sign, interleave_sign, full_sign, sync_on_none, sync_on, choice_sign, Spells, stop, exit, brackets, call, prefix, tighter, operation, hide, Defined, Defines, definition, Rest, nothing, definitions, Several, last, another}
+use Rattle.lotos_text.specs.Cut.{LiesIn, AllLieIn}
+use Rattle.lotos_text.specs.Grammar.{Names, one_name, more_names, GateList, no_gates, gates, Level, gate, internal, Operator, join, Operates, enable_sign, disable_sign, interleave_sign, full_sign, sync_on_none, sync_on, choice_sign, Spells, stop, exit, parentheses, call, prefix, tighter, operation, hide, Defined, Defines, definition, Rest, nothing, definitions, Several, last, another}
 use Rattle.lotos_text.specs.Inside.{IsFaultInside, IsTreeInside, IsInside, AreInside}
 use Rattle.lotos_text.specs.Refused.{IsStuck, IsRefused, IsToken}
 use Rattle.lotos_text.specs.Spelled.{Spelled}
@@ -17,29 +17,29 @@ use Rattle.lotos_text.proofs.Standing.{all_stand}
 -- ---- tokens that stand in a text
 
 module _ (text : List ℕ) where
-  pub stand_front : (front rest : List Token) → AllStand text (front ++ rest) → AllStand text front
+  pub stand_front : (front rest : List Token) → AllLieIn text (front ++ rest) → AllLieIn text front
   stand_front [] rest h = tt
   stand_front (t ∷ ts) rest h = (h.0, stand_front ts rest h.1)
 
-  pub stand_rest : (front rest : List Token) → AllStand text (front ++ rest) → AllStand text rest
+  pub stand_rest : (front rest : List Token) → AllLieIn text (front ++ rest) → AllLieIn text rest
   stand_rest [] rest h = h
   stand_rest (t ∷ ts) rest h = stand_rest ts rest h.1
 
-  pub token_inside : (t : Token) → Stands text t → t.at ≤ length text
+  pub token_inside : (t : Token) → LiesIn text t → t.at ≤ length text
   token_inside t h = let a = h.ordered in let b = h.inside in omega (arith, a, b)
 
-  names_inside : {ts : List Token} {names : List Placed} → Names text ts names → AllStand text ts →
+  names_inside : {ts : List Token} {names : List Placed} → Names text ts names → AllLieIn text ts →
       AllByRecursion (λ g. g.at ≤ length text) names
   names_inside (one_name {n = n} i) h = (token_inside n h.0, tt)
   names_inside (more_names {n = n} i c d) h = (token_inside n h.0, names_inside d h.1.1)
 
-  gates_inside : {ts : List Token} {names : List Placed} → GateList text ts names → AllStand text ts →
+  gates_inside : {ts : List Token} {names : List Placed} → GateList text ts names → AllLieIn text ts →
       AllByRecursion (λ g. g.at ≤ length text) names
   gates_inside no_gates h = tt
   gates_inside (gates {right = right} {ts = ts} i d j) h = names_inside d (stand_front ts (right ∷ []) h.1)
 
   -- an operator joins trees that lie inside the text to one that does
-  join_inside : {l : Level} {op : List Token} {how : Operator} (left right : Tree) → Operates text l op how → AllStand text op →
+  join_inside : {l : Level} {op : List Token} {how : Operator} (left right : Tree) → Operates text l op how → AllLieIn text op →
       IsTreeInside (length text) left → IsTreeInside (length text) right → IsTreeInside (length text) (join how left right)
   join_inside l r (enable_sign {o = o} i) h x y = (x, token_inside o h.0, y)
   join_inside l r (disable_sign i) h x y = (x, y)
@@ -50,11 +50,11 @@ module _ (text : List ℕ) where
       (x, names_inside d (stand_front ts (right ∷ bar ∷ []) h.1), y)
   join_inside l r (choice_sign i) h x y = (x, y)
 
-  tree_inside : {l : Level} {o : Bool} {n : ℕ} {ts : List Token} {x : Tree} → Spells text l o n ts x → AllStand text ts →
+  tree_inside : {l : Level} {o : Bool} {n : ℕ} {ts : List Token} {x : Tree} → Spells text l o n ts x → AllLieIn text ts →
       IsTreeInside (length text) x
   tree_inside (stop i) h = tt
   tree_inside (exit i) h = tt
-  tree_inside (brackets {right = right} {ts = ts} i d j) h = tree_inside d (stand_front ts (right ∷ []) h.1)
+  tree_inside (parentheses {right = right} {ts = ts} i d j) h = tree_inside d (stand_front ts (right ∷ []) h.1)
   tree_inside (call {name = name} i g) h = (token_inside name h.0, gates_inside g h.1)
   tree_inside (prefix {act = act} (gate i) c d) h = (token_inside act h.0, tree_inside d h.1.1)
   tree_inside (prefix (internal i) c d) h = tree_inside d h.1.1
@@ -68,7 +68,7 @@ module _ (text : List ℕ) where
 
   mutual
     -- the names of a definition lie inside the text
-    pub definition_inside : {what : Defined} {n : ℕ} {ts : List Token} {d : Def} → Defines text what n ts d → AllStand text ts →
+    pub definition_inside : {what : Defined} {n : ℕ} {ts : List Token} {d : Def} → Defines text what n ts d → AllLieIn text ts →
         IsInside (length text) d
     definition_inside (definition {name = name} {colon = colon} {returns = returns} {define = define} {end = end} {gates = gs}
         {body = body} {rest = rest}
@@ -82,11 +82,11 @@ module _ (text : List ℕ) where
           rest_inside l (stand_rest (gs ++ middle) rest all),
         )
 
-    rest_inside : {n : ℕ} {ts : List Token} {ds : Defs} → Rest text n ts ds → AllStand text ts → AreInside (length text) ds
+    rest_inside : {n : ℕ} {ts : List Token} {ds : Defs} → Rest text n ts ds → AllLieIn text ts → AreInside (length text) ds
     rest_inside nothing h = tt
     rest_inside (definitions i d) h = several_inside d h.1
 
-    several_inside : {n : ℕ} {ts : List Token} {ds : Defs} → Several text n ts ds → AllStand text ts → AreInside (length text) ds
+    several_inside : {n : ℕ} {ts : List Token} {ds : Defs} → Several text n ts ds → AllLieIn text ts → AreInside (length text) ds
     several_inside (last d) h = (definition_inside d h, tt)
     several_inside (another {first = first} {others = others} d ds) h =
         (definition_inside d (stand_front first others h), several_inside ds (stand_rest first others h))

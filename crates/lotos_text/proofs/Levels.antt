@@ -2,9 +2,9 @@
 use Rattle.std.proofs.Common.{◌≡◌, ℕ, ◌+◌, ◌<◌, ◌≤◌, max, Bool, true, false, List, [], ◌∷◌, ◌++◌, refl, ap, arith, subst}
 use Rattle.lotos_text.specs.Tree as t
 use Rattle.lotos_text.specs.Tree.{Tree}
-use Rattle.lotos_text.specs.Grammar.{Is, Level, enabling, disabling, parallel, choosing, prefixing, Below, below_enabling, below_disabling, below_parallel, below_choosing, Operator, enables, synchronizes, join, Operates, enable_sign, disable_sign, interleave_sign, full_sign, sync_on_none, sync_on, choice_sign, Spells, stop, exit, brackets, call, prefix, tighter, operation, hide}
+use Rattle.lotos_text.specs.Grammar.{Is, Level, enabling, disabling, parallel, choosing, prefixing, BindsTighter, tighter_than_enabling, tighter_than_disabling, tighter_than_parallel, tighter_than_choosing, Operator, enables, synchronizes, join, Operates, enable_sign, disable_sign, interleave_sign, full_sign, sync_on_none, sync_on, choice_sign, Spells, stop, exit, parentheses, call, prefix, tighter, operation, hide}
 use Rattle.lotos_text.specs.Follow.{kind_rank, rank, level_rank, bound}
-use Rattle.lotos_text.specs.Parts.{SyncList, no_sync, some_sync}
+use Rattle.lotos_text.specs.Phrases.{SyncList, no_sync, some_sync}
 use Rattle.lotos_text.specs.declared.token.Token.{Token}
 use Rattle.lotos_text.specs.declared.token.TokenKind.{TokenKind}
 use Rattle.lotos_text.specs.declared.tree.Placed.{Placed}
@@ -12,14 +12,14 @@ use Rattle.lotos_text.proofs.FirstToken.{head_same, tail_same, apart}
 use Rattle.lotos_text.proofs.NameLists.{unique_sync_list}
 
 -- a tighter level ranks higher
-pub below_rank : {l m : Level} → Below l m → level_rank l < level_rank m
-below_rank below_enabling = omega arith
-below_rank below_disabling = omega arith
-below_rank below_parallel = omega arith
-below_rank below_choosing = omega arith
+pub below_rank : {l m : Level} → BindsTighter l m → level_rank l < level_rank m
+below_rank tighter_than_enabling = omega arith
+below_rank tighter_than_disabling = omega arith
+below_rank tighter_than_parallel = omega arith
+below_rank tighter_than_choosing = omega arith
 
 -- what is whole at a level is whole at the next tighter one
-pub bound_below : {l m : Level} (o : Bool) → Below l m → bound l o ≤ bound m o
+pub bound_below : {l m : Level} (o : Bool) → BindsTighter l m → bound l o ≤ bound m o
 bound_below true b = omega arith
 bound_below false b = let h = below_rank b in omega (arith, h)
 
@@ -63,7 +63,7 @@ module _ (text : List ℕ) where
   operator_rank r (choice_sign i) = rank_is r i
 
   -- below an operator's level the operands bind tighter
-  pub operator_below : {l m : Level} {op : List Token} {how : Operator} → Below l m → Operates text l op how →
+  pub operator_below : {l m : Level} {op : List Token} {how : Operator} → BindsTighter l m → Operates text l op how →
       level_rank l < level_rank m
   operator_below b i = below_rank b
 
@@ -117,18 +117,18 @@ module _ (text : List ℕ) where
         Spells text m false nl left x → Operates text l op how → Spells text l o nr right y →
         Levelled l m o (max nl (nr + 1)) (left ++ op ++ right) (join how x y)
 
-  below_same : {l m k : Level} → Below l m → Below l k → m ≡ k
-  below_same below_enabling below_enabling = refl
-  below_same below_disabling below_disabling = refl
-  below_same below_parallel below_parallel = refl
-  below_same below_choosing below_choosing = refl
+  below_same : {l m k : Level} → BindsTighter l m → BindsTighter l k → m ≡ k
+  below_same tighter_than_enabling tighter_than_enabling = refl
+  below_same tighter_than_disabling tighter_than_disabling = refl
+  below_same tighter_than_parallel tighter_than_parallel = refl
+  below_same tighter_than_choosing tighter_than_choosing = refl
 
   -- a spelling of the looser level is one of the next tighter, or an operation
-  pub taken_level : {l m : Level} {o : Bool} {n : ℕ} {own : List Token} {x : Tree} → Below l m → Spells text l o n own x →
+  pub taken_level : {l m : Level} {o : Bool} {n : ℕ} {own : List Token} {x : Tree} → BindsTighter l m → Spells text l o n own x →
       Levelled l m o n own x
   taken_level b (stop i) = elim b [ ]
   taken_level b (exit i) = elim b [ ]
-  taken_level b (brackets i d j) = elim b [ ]
+  taken_level b (parentheses i d j) = elim b [ ]
   taken_level b (call i g) = elim b [ ]
   taken_level b (prefix i j d) = elim b [ ]
   taken_level b (tighter {o = o} {n = n} {ts = own} {x = x} c d) =

@@ -21,7 +21,7 @@ pub mod Openings
 pub mod Stops
 pub mod Limits
 pub mod Ends
-pub mod Bracketed
+pub mod Parenthesized
 pub mod Prefixes
 pub mod Calls
 pub mod Hidings

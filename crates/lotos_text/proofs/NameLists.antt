@@ -1,8 +1,8 @@
 -- Lists of names: what the loop over names finds and loses, and that a list of names is the only one.
 use Rattle.std.proofs.Common.{◌≡◌, ℕ, List, [], ◌∷◌, ◌++◌, refl, sym, ◌∙◌, ap, append_assoc, subst}
 use Rattle.lotos_text.specs.Grammar.{Is, placed, Names, one_name, more_names, GateList, no_gates, gates}
-use Rattle.lotos_text.specs.Parsing.{Part, NotFirst, Found, Lost}
-use Rattle.lotos_text.specs.Parts.{One, Behind, Before, NameList, Gates, SyncList, no_sync, some_sync}
+use Rattle.lotos_text.specs.Parsing.{Phrase, NotFirst, Found, Lost}
+use Rattle.lotos_text.specs.Phrases.{One, Behind, Before, NameList, Gates, SyncList, no_sync, some_sync}
 use Rattle.lotos_text.specs.declared.token.Token.{Token}
 use Rattle.lotos_text.specs.declared.token.TokenKind.{TokenKind}
 use Rattle.lotos_text.specs.declared.token.TokenKind.TheVariants.{Identifier, Sign}
@@ -138,10 +138,10 @@ module _ (text : List ℕ) where
 
   -- names in brackets, as three parts
 
-  abbrev Opened : Part (List Placed)
+  abbrev Opened : Phrase (List Placed)
   Opened = Behind (Sign s.LeftBracket) (NameList text)
 
-  abbrev InBrackets : Part (List Placed)
+  abbrev InBrackets : Phrase (List Placed)
   InBrackets = Before Opened (Sign s.RightBracket)
 
   -- where no bracket stands, there are no gates

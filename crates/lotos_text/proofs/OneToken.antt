@@ -1,8 +1,8 @@
--- Parts of one token, and of none: what is found and lost, and that each is the only one.
+-- Phrases of one token, and of none: what is found and lost, and that each is the only one.
 use Rattle.std.proofs.Common.{◌≡◌, ℕ, List, [], ◌∷◌, ◌++◌, refl, sym, ◌∙◌, ap, subst}
 use Rattle.lotos_text.specs.Grammar.{Is, placed, Declares, exits, never_exits}
-use Rattle.lotos_text.specs.Parsing.{Part, NotFirst, Found, Lost, Starts}
-use Rattle.lotos_text.specs.Parts.{One, Behind, Before, Name, Declared, Nothing}
+use Rattle.lotos_text.specs.Parsing.{Phrase, NotFirst, Found, Lost, Starts}
+use Rattle.lotos_text.specs.Phrases.{One, Behind, Before, Name, Declared, Nothing}
 use Rattle.lotos_text.specs.declared.token.Token.{Token}
 use Rattle.lotos_text.specs.declared.token.TokenKind.{TokenKind}
 use Rattle.lotos_text.specs.declared.token.TokenKind.TheVariants.{Identifier, Reserved}
@@ -97,7 +97,7 @@ lost_end (n ∷ ts) h = lost_nothing n ts
 
 -- a part behind a token
 
-module _ {A : Type 0} (k : TokenKind) (P : Part A) where
+module _ {A : Type 0} (k : TokenKind) (P : Phrase A) where
   -- the token, and behind it the part
   pub found_behind : (ts between rest : List Token) (n : Token) (x : A) → ts ≡ n ∷ between → Is n k → Found P between x rest →
       Found (Behind k P) ts x rest
@@ -149,7 +149,7 @@ module _ {A : Type 0} (k : TokenKind) (P : Part A) where
 
 -- a part before a token
 
-module _ {A : Type 0} (P : Part A) (k : TokenKind) where
+module _ {A : Type 0} (P : Phrase A) (k : TokenKind) where
   -- the part, and behind it the token
   pub found_before : (ts between rest : List Token) (n : Token) (x : A) → Found P ts x between → between ≡ n ∷ rest → Is n k →
       Found (Before P k) ts x rest

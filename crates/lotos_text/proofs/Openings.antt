@@ -16,7 +16,7 @@ Means k o.Stop = k ≡ Reserved w.StopWord
 Means k o.Exit = k ≡ Reserved w.ExitWord
 Means k o.Internal = k ≡ Reserved w.IWord
 Means k o.Name = k ≡ Identifier
-Means k o.Bracket = k ≡ Sign s.LeftParenthesis
+Means k o.Parenthesis = k ≡ Sign s.LeftParenthesis
 Means k o.Nothing = Unit {0}
 
 means : (k : TokenKind) → Means k (opening k)

@@ -2,7 +2,7 @@
 use Rattle.std.proofs.Common.{◌≡◌, ℕ, ◌+◌, ◌<◌, Bool, true, false, List, [], ◌∷◌, ◌++◌, ◌⊎◌, inl, inr, refl, sym, ◌∙◌, ap, append_assoc, arith}
 use Rattle.lotos_text.specs.Tree as t
 use Rattle.lotos_text.specs.Tree.{Tree}
-use Rattle.lotos_text.specs.Grammar.{Is, placed, Names, GateList, no_gates, gates, Acts, gate, internal, Level, enabling, prefixing, Spells, stop, exit, brackets, call, prefix, tighter, operation, hide}
+use Rattle.lotos_text.specs.Grammar.{Is, placed, Names, GateList, no_gates, gates, Acts, gate, internal, Level, enabling, prefixing, Spells, stop, exit, parentheses, call, prefix, tighter, operation, hide}
 use Rattle.lotos_text.specs.Follow.{rank, bound}
 use Rattle.lotos_text.specs.Parsing.{NotFirst}
 use Rattle.lotos_text.specs.declared.token.Token.{Token}
@@ -33,8 +33,8 @@ pub record Leaf (n : Token) (z : Tree) (o : Bool) (m : ℕ) (own : List Token) (
   pub tree : x ≡ z
 
 module _ (text : List ℕ) where
-  -- a behaviour expression in brackets, the first of which is the token
-  pub record Bracketed (n : Token) (o : Bool) (m : ℕ) (own : List Token) (x : Tree) (behind ts : List Token) : Type 0 where
+  -- a behaviour expression in parentheses, the first of which is the token
+  pub record Parenthesized (n : Token) (o : Bool) (m : ℕ) (own : List Token) (x : Tree) (behind ts : List Token) : Type 0 where
     pub inner : List Token
     pub right : Token
     pub within : Bool
@@ -95,7 +95,7 @@ module _ (text : List ℕ) where
       Spells text prefixing o m own x → own ++ behind ≡ n ∷ ts → Leaf n t.stop o m own x
   taken_stop behind ts i (stop j) e = record { tokens = ap (λ m. m ∷ []) (head_same e); shut = refl; nesting = refl; tree = refl }
   taken_stop behind ts i (exit j) e = absurd (apart j i (head_same e) (λ e. cc))
-  taken_stop behind ts i (brackets j d k) e = absurd (apart j i (head_same e) (λ e. cc))
+  taken_stop behind ts i (parentheses j d k) e = absurd (apart j i (head_same e) (λ e. cc))
   taken_stop behind ts i (call j g) e = absurd (apart j i (head_same e) (λ e. cc))
   taken_stop behind ts i (prefix (gate j) k d) e = absurd (apart j i (head_same e) (λ e. cc))
   taken_stop behind ts i (prefix (internal j) k d) e = absurd (apart j i (head_same e) (λ e. cc))
@@ -109,7 +109,7 @@ module _ (text : List ℕ) where
       Spells text prefixing o m own x → own ++ behind ≡ n ∷ ts → Leaf n t.exit o m own x
   taken_exit behind ts i (stop j) e = absurd (apart j i (head_same e) (λ e. cc))
   taken_exit behind ts i (exit j) e = record { tokens = ap (λ m. m ∷ []) (head_same e); shut = refl; nesting = refl; tree = refl }
-  taken_exit behind ts i (brackets j d k) e = absurd (apart j i (head_same e) (λ e. cc))
+  taken_exit behind ts i (parentheses j d k) e = absurd (apart j i (head_same e) (λ e. cc))
   taken_exit behind ts i (call j g) e = absurd (apart j i (head_same e) (λ e. cc))
   taken_exit behind ts i (prefix (gate j) k d) e = absurd (apart j i (head_same e) (λ e. cc))
   taken_exit behind ts i (prefix (internal j) k d) e = absurd (apart j i (head_same e) (λ e. cc))
@@ -117,13 +117,13 @@ module _ (text : List ℕ) where
   taken_exit behind ts i (tighter b d) e = elim b [ ]
   taken_exit behind ts i (operation b d j f) e = elim b [ ]
 
-  -- what begins with a left parenthesis is in brackets
-  pub taken_brackets : {n : Token} {o : Bool} {m : ℕ} {own : List Token} {x : Tree} (behind ts : List Token) →
+  -- what begins with a left parenthesis is in parentheses
+  pub taken_parentheses : {n : Token} {o : Bool} {m : ℕ} {own : List Token} {x : Tree} (behind ts : List Token) →
       Is n (Sign s.LeftParenthesis) →
-      Spells text prefixing o m own x → own ++ behind ≡ n ∷ ts → Bracketed n o m own x behind ts
-  taken_brackets behind ts i (stop j) e = absurd (apart j i (head_same e) (λ e. cc))
-  taken_brackets behind ts i (exit j) e = absurd (apart j i (head_same e) (λ e. cc))
-  taken_brackets behind ts i (brackets {right = right} {o = within} {n = depth} {ts = inner} j d k) e = record {
+      Spells text prefixing o m own x → own ++ behind ≡ n ∷ ts → Parenthesized n o m own x behind ts
+  taken_parentheses behind ts i (stop j) e = absurd (apart j i (head_same e) (λ e. cc))
+  taken_parentheses behind ts i (exit j) e = absurd (apart j i (head_same e) (λ e. cc))
+  taken_parentheses behind ts i (parentheses {right = right} {o = within} {n = depth} {ts = inner} j d k) e = record {
     inner = inner;
     right = right;
     within = within;
@@ -135,12 +135,12 @@ module _ (text : List ℕ) where
     closes = k;
     rest = sym (append_assoc inner (right ∷ []) behind) ∙ tail_same e;
   }
-  taken_brackets behind ts i (call j g) e = absurd (apart j i (head_same e) (λ e. cc))
-  taken_brackets behind ts i (prefix (gate j) k d) e = absurd (apart j i (head_same e) (λ e. cc))
-  taken_brackets behind ts i (prefix (internal j) k d) e = absurd (apart j i (head_same e) (λ e. cc))
-  taken_brackets behind ts i (hide j g k d) e = absurd (apart j i (head_same e) (λ e. cc))
-  taken_brackets behind ts i (tighter b d) e = elim b [ ]
-  taken_brackets behind ts i (operation b d j f) e = elim b [ ]
+  taken_parentheses behind ts i (call j g) e = absurd (apart j i (head_same e) (λ e. cc))
+  taken_parentheses behind ts i (prefix (gate j) k d) e = absurd (apart j i (head_same e) (λ e. cc))
+  taken_parentheses behind ts i (prefix (internal j) k d) e = absurd (apart j i (head_same e) (λ e. cc))
+  taken_parentheses behind ts i (hide j g k d) e = absurd (apart j i (head_same e) (λ e. cc))
+  taken_parentheses behind ts i (tighter b d) e = elim b [ ]
+  taken_parentheses behind ts i (operation b d j f) e = elim b [ ]
 
   -- what begins with `i` is a prefix of the internal action
   pub taken_internal : {n : Token} {o : Bool} {m : ℕ} {own : List Token} {x : Tree} (behind ts : List Token) →
@@ -148,7 +148,7 @@ module _ (text : List ℕ) where
       Spells text prefixing o m own x → own ++ behind ≡ n ∷ ts → Prefixed n Internal o m own x behind ts
   taken_internal behind ts i (stop j) e = absurd (apart j i (head_same e) (λ e. cc))
   taken_internal behind ts i (exit j) e = absurd (apart j i (head_same e) (λ e. cc))
-  taken_internal behind ts i (brackets j d k) e = absurd (apart j i (head_same e) (λ e. cc))
+  taken_internal behind ts i (parentheses j d k) e = absurd (apart j i (head_same e) (λ e. cc))
   taken_internal behind ts i (call j g) e = absurd (apart j i (head_same e) (λ e. cc))
   taken_internal behind ts i (prefix (gate j) k d) e = absurd (apart j i (head_same e) (λ e. cc))
   taken_internal behind ts i (prefix {semicolon = semicolon} {n = depth} {ts = body} {x = after} (internal j) k d) e = record {
@@ -173,7 +173,7 @@ module _ (text : List ℕ) where
       own ++ behind ≡ n ∷ ts → Called n o m own x behind ts ⊎ Prefixed n (Gate (placed text n)) o m own x behind ts
   taken_name behind ts i (stop j) e = absurd (apart j i (head_same e) (λ e. cc))
   taken_name behind ts i (exit j) e = absurd (apart j i (head_same e) (λ e. cc))
-  taken_name behind ts i (brackets j d k) e = absurd (apart j i (head_same e) (λ e. cc))
+  taken_name behind ts i (parentheses j d k) e = absurd (apart j i (head_same e) (λ e. cc))
   taken_name behind ts i (call {ts = listed} {names = names} j g) e = inl (record {
     listed = listed;
     names = names;
@@ -227,7 +227,7 @@ module _ (text : List ℕ) where
       Spells text l o m own x → own ++ behind ≡ n ∷ ts → Hidden n o m own x behind ts
   taken_hide behind ts i (stop j) e = absurd (apart j i (head_same e) (λ e. cc))
   taken_hide behind ts i (exit j) e = absurd (apart j i (head_same e) (λ e. cc))
-  taken_hide behind ts i (brackets j d k) e = absurd (apart j i (head_same e) (λ e. cc))
+  taken_hide behind ts i (parentheses j d k) e = absurd (apart j i (head_same e) (λ e. cc))
   taken_hide behind ts i (call j g) e = absurd (apart j i (head_same e) (λ e. cc))
   taken_hide behind ts i (prefix (gate j) k d) e = absurd (apart j i (head_same e) (λ e. cc))
   taken_hide behind ts i (prefix (internal j) k d) e = absurd (apart j i (head_same e) (λ e. cc))

@@ -1,12 +1,12 @@
 -- Operations of a level: what is found and lost in a left operand, an operator and a right operand.
 use Rattle.std.proofs.Common.{◌≡◌, ℕ, ◌+◌, ◌-◌, ◌<◌, ◌≤◌, max, Bool, true, false, List, [], ◌∷◌, ◌++◌, Some, None, refl, sym, ◌∙◌, ap, append_assoc, arith, subst}
 use Rattle.lotos_text.specs.Tree.{Tree}
-use Rattle.lotos_text.specs.Grammar.{Level, enabling, disabling, parallel, choosing, prefixing, Below, below_enabling, below_disabling, below_parallel, below_choosing, Operator, join, Operates, enable_sign, disable_sign, interleave_sign, full_sign, sync_on_none, sync_on, choice_sign, Spells, tighter, operation}
+use Rattle.lotos_text.specs.Grammar.{Level, enabling, disabling, parallel, choosing, prefixing, BindsTighter, tighter_than_enabling, tighter_than_disabling, tighter_than_parallel, tighter_than_choosing, Operator, join, Operates, enable_sign, disable_sign, interleave_sign, full_sign, sync_on_none, sync_on, choice_sign, Spells, tighter, operation}
 use Rattle.lotos_text.specs.Follow.{rank, level_rank, bound}
 use Rattle.lotos_text.specs.Kinds.{opens, openings}
 use Rattle.lotos_text.specs.Opens.{mark, mark_level}
-use Rattle.lotos_text.specs.Parsing.{Part, Limit, Within, Found, Starts, Lost, Deeper}
-use Rattle.lotos_text.specs.Parts.{Then, Operation, Expression}
+use Rattle.lotos_text.specs.Parsing.{Phrase, Limit, Within, Found, Starts, Lost, Deeper}
+use Rattle.lotos_text.specs.Phrases.{Then, Operation, Expression}
 use Rattle.lotos_text.specs.declared.expression.Infix.{Infix}
 use Rattle.lotos_text.specs.declared.expression.Infix.TheVariants as i
 use Rattle.lotos_text.specs.declared.token.Token.{Token}
@@ -20,21 +20,21 @@ use Rattle.lotos_text.proofs.SyncLists.{is_mark}
 use Rattle.lotos_text.proofs.Unique.{unique, join_assoc}
 
 -- the next tighter level ranks one higher
-pub next_rank : {l m : Level} → Below l m → level_rank m ≡ level_rank l + 1
-next_rank below_enabling = refl
-next_rank below_disabling = refl
-next_rank below_parallel = refl
-next_rank below_choosing = refl
+pub next_rank : {l m : Level} → BindsTighter l m → level_rank m ≡ level_rank l + 1
+next_rank tighter_than_enabling = refl
+next_rank tighter_than_disabling = refl
+next_rank tighter_than_parallel = refl
+next_rank tighter_than_choosing = refl
 
 -- a level with operators is not that of operands
-pub not_prefixing : {l m : Level} → Below l m → l ≡ prefixing → ⊥
-not_prefixing below_enabling e = cc
-not_prefixing below_disabling e = cc
-not_prefixing below_parallel e = cc
-not_prefixing below_choosing e = cc
+pub not_prefixing : {l m : Level} → BindsTighter l m → l ≡ prefixing → ⊥
+not_prefixing tighter_than_enabling e = cc
+not_prefixing tighter_than_disabling e = cc
+not_prefixing tighter_than_parallel e = cc
+not_prefixing tighter_than_choosing e = cc
 
 -- what is whole at the tighter level, and goes on with no operator of this one, is whole at this one
-quits_looser : {l m : Level} (ends : Bool) (ts : List Token) → Below l m → (rank ts ≡ level_rank l → ⊥) → rank ts < bound m ends →
+quits_looser : {l m : Level} (ends : Bool) (ts : List Token) → BindsTighter l m → (rank ts ≡ level_rank l → ⊥) → rank ts < bound m ends →
     rank ts < bound l ends
 quits_looser true ts b without h = h
 quits_looser false ts b without h = let e = next_rank b in smaller _ _ _ e without h
@@ -82,7 +82,7 @@ right_within limit nl nr h = within_inside limit nr (nr + 1) refl (within_less l
 
 module _ (text : List ℕ) where
   -- the left operand alone, with which no operator of the level goes on
-  pub found_alone : {l m : Level} (room : ℕ) (ts rest : List Token) (x : Tree) → Below l m →
+  pub found_alone : {l m : Level} (room : ℕ) (ts rest : List Token) (x : Tree) → BindsTighter l m →
       Found (Expression text m (Some room)) ts x rest → (rank rest ≡ level_rank l → l ≡ prefixing) →
       Found (Expression text l (Some room)) ts x rest
   found_alone room ts rest x b f without = record {
@@ -99,7 +99,7 @@ module _ (text : List ℕ) where
 
   -- a left operand, an operator and a right operand
   pub found_operation : {l m : Level} (room : ℕ) (ts between after rest : List Token) (how : Operator) (x y z : Tree) → 0 < room →
-      Below l m → Found (Expression text m (Some room)) ts x between → Found (Operation text l) between how after →
+      BindsTighter l m → Found (Expression text m (Some room)) ts x between → Found (Operation text l) between how after →
       Found (Expression text l (Some (room - 1))) after y rest → z ≡ join how x y →
       Found (Expression text l (Some room)) ts z rest
   found_operation {l} {m} room ts between after rest how x y z h b f o g e =
@@ -124,7 +124,7 @@ module _ (text : List ℕ) where
 
   -- the left operand
 
-  never_left : {l m : Level} (limit : Limit) (ts own behind : List Token) (ends : Bool) (nesting : ℕ) (x : Tree) → Below l m →
+  never_left : {l m : Level} (limit : Limit) (ts own behind : List Token) (ends : Bool) (nesting : ℕ) (x : Tree) → BindsTighter l m →
       ((a r : List Token) (y : Tree) → ts ≡ a ++ r → Expression text m limit a y r → ⊥) →
       ts ≡ own ++ behind → Levelled text l m ends nesting own x → rank behind < bound l ends → Within limit nesting → ⊥
   never_left limit ts own behind ends nesting x b h e (alone d) q u = h own behind x e
@@ -145,7 +145,7 @@ module _ (text : List ℕ) where
         within = left_within limit nl nr u;
       })
 
-  lost_left : {l m : Level} (limit : Limit) (ts rest : List Token) → Below l m → Lost (Expression text m limit) ts rest →
+  lost_left : {l m : Level} (limit : Limit) (ts rest : List Token) → BindsTighter l m → Lost (Expression text m limit) ts rest →
       Lost (Expression text l limit) ts rest
   lost_left limit ts rest b l = record {
     front = l.front;
@@ -156,7 +156,7 @@ module _ (text : List ℕ) where
   }
 
   -- where the left operand is lost, so is the whole
-  pub carries_left : {l m : Level} (room : ℕ) (ts : List Token) → Below l m →
+  pub carries_left : {l m : Level} (room : ℕ) (ts : List Token) → BindsTighter l m →
       Carries (Expression text m) room ts (Expression text l) room ts
   carries_left room ts b = record {
     free = λ rest. lost_left None ts rest b;
@@ -172,11 +172,11 @@ module _ (text : List ℕ) where
   paired how y = (how, y)
 
   -- the operator and the right operand
-  abbrev Behind : Level → Limit → Part (Operator × Tree)
+  abbrev Behind : Level → Limit → Phrase (Operator × Tree)
   Behind l limit = Then paired (Operation text l) (Expression text l limit)
 
   never_behind : {l m : Level} (limit : Limit) (front more own behind : List Token) (o ends : Bool) (n nesting : ℕ) (x z : Tree) →
-      Below l m → Spells text m o n front x → rank more ≡ level_rank l → rank more < bound m o →
+      BindsTighter l m → Spells text m o n front x → rank more ≡ level_rank l → rank more < bound m o →
       ((a r : List Token) (said : Operator × Tree) → more ≡ a ++ r → Behind l (inside limit) a said r → ⊥) →
       front ++ more ≡ own ++ behind → Levelled text l m ends nesting own z → rank behind < bound l ends → Within limit nesting → ⊥
   never_behind {l = l} limit front more own behind o ends n nesting x z b c ranks quits none e (alone d) q u =
@@ -200,7 +200,7 @@ module _ (text : List ℕ) where
       })
 
   -- where an operator of the level goes on, and it or its right operand is lost, so is the whole
-  lost_behind : {l m : Level} (limit within : Limit) (ts between rest : List Token) (x : Tree) → Below l m →
+  lost_behind : {l m : Level} (limit within : Limit) (ts between rest : List Token) (x : Tree) → BindsTighter l m →
       Found (Expression text m within) ts x between → rank between ≡ level_rank l → Lost (Behind l (inside limit)) between rest →
       Lost (Expression text l limit) ts rest
   lost_behind limit within ts between rest x b f ranks l = record {
@@ -229,14 +229,14 @@ module _ (text : List ℕ) where
       subst (λ m. Lost (Operation text m) between rest) h (subst (λ ts. Lost (Operation text k) ts rest) (sym e) f)
 
   -- where the operator is lost, so is the whole
-  pub lost_operator : {l m : Level} (within : Limit) (ts between rest : List Token) (x : Tree) → Below l m →
+  pub lost_operator : {l m : Level} (within : Limit) (ts between rest : List Token) (x : Tree) → BindsTighter l m →
       Found (Expression text m within) ts x between → rank between ≡ level_rank l → Lost (Operation text l) between rest →
       Lost (Expression text l None) ts rest
   lost_operator {l} within ts between rest x b f ranks lost =
       lost_behind None within ts between rest x b f ranks
       (lost_first paired (Operation text l) (Expression text l None) between rest lost)
 
-  lost_right : {l m : Level} (limit within : Limit) (ts between after rest : List Token) (how : Operator) (x : Tree) → Below l m →
+  lost_right : {l m : Level} (limit within : Limit) (ts between after rest : List Token) (how : Operator) (x : Tree) → BindsTighter l m →
       Found (Expression text m within) ts x between → rank between ≡ level_rank l → Found (Operation text l) between how after →
       Lost (Expression text l (inside limit)) after rest → Lost (Expression text l limit) ts rest
   lost_right {l} limit within ts between after rest how x b f ranks o lost =
@@ -256,7 +256,7 @@ module _ (text : List ℕ) where
   operator_opens front _ how (choice_sign {o = o} i) = opens_among front [] o (opens_is i refl)
 
   -- where the right operand is lost, so is the whole
-  pub carries_right : {l m : Level} (room : ℕ) (ts between after : List Token) (how : Operator) (x : Tree) → Below l m →
+  pub carries_right : {l m : Level} (room : ℕ) (ts between after : List Token) (how : Operator) (x : Tree) → BindsTighter l m →
       Found (Expression text m (Some room)) ts x between → rank between ≡ level_rank l →
       Found (Operation text l) between how after →
       Carries (Expression text l) (room - 1) after (Expression text l) room ts
@@ -270,7 +270,7 @@ module _ (text : List ℕ) where
 
   -- with no room left, an operator that goes on begins nothing
   pub deep_operation : {l m : Level} (room : ℕ) (ts between after : List Token) (n : Token) (which : Infix) (x : Tree) →
-      room ≡ 0 → Below l m → Found (Expression text m (Some room)) ts x between → between ≡ n ∷ after →
+      room ≡ 0 → BindsTighter l m → Found (Expression text m (Some room)) ts x between → between ≡ n ∷ after →
       mark n.kind ≡ Some which → mark_level which ≡ l → Deeper (Expression text l) room ts n
   deep_operation {l} room ts between after n which x h b f e i j = record {
     after = after;
@@ -288,7 +288,7 @@ module _ (text : List ℕ) where
   }
     where
       never_deep : {l m : Level} (front more own behind : List Token) (o ends : Bool) (n nesting : ℕ) (x z : Tree) →
-          Below l m → Spells text m o n front x → rank more ≡ level_rank l → rank more < bound m o →
+          BindsTighter l m → Spells text m o n front x → rank more ≡ level_rank l → rank more < bound m o →
           front ++ more ≡ own ++ behind → Levelled text l m ends nesting own z → rank behind < bound l ends → nesting ≤ 0 → ⊥
       never_deep {l = l} front more own behind o ends n nesting x z b c ranks quits e (alone d) q u =
           let h = unique text more behind c d e quits (let g = bound_below ends b in omega (arith, g, q)) in

@@ -4,7 +4,7 @@ use Rattle.lotos_text.specs.Tree as t
 use Rattle.lotos_text.specs.Tree.{Tree}
 use Rattle.lotos_text.specs.Grammar.{Is, Acts, prefixing, Spells, prefix}
 use Rattle.lotos_text.specs.Parsing.{NotFirst, Limit, Found, Lost, Deeper}
-use Rattle.lotos_text.specs.Parts.{One, Expression}
+use Rattle.lotos_text.specs.Phrases.{One, Expression}
 use Rattle.lotos_text.specs.declared.token.Sign.TheVariants as s
 use Rattle.lotos_text.specs.declared.token.Token.{Token}
 use Rattle.lotos_text.specs.declared.token.TokenKind.{TokenKind}

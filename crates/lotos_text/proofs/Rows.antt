@@ -3,7 +3,7 @@ use Rattle.std.proofs.Common.{◌≡◌, ℕ, ◌+◌, ◌≤◌, List, [], ◌�
 use Rattle.lotos_text.specs.Grammar.{Is, a_process, Defines, definition, Several, last, another}
 use Rattle.lotos_text.specs.Kinds.{opens, openings}
 use Rattle.lotos_text.specs.Parsing.{Limit, Within, NotFirst, Starts, Found, Lost, Deeper}
-use Rattle.lotos_text.specs.Parts.{One, Row, Inner, no_inner, some_inner, Contents, Definition}
+use Rattle.lotos_text.specs.Phrases.{One, Row, Inner, no_inner, some_inner, Contents, Definition}
 use Rattle.lotos_text.specs.Tree.{Def, Defs, no_defs, more_defs}
 use Rattle.lotos_text.specs.declared.token.Token.{Token}
 use Rattle.lotos_text.specs.declared.token.TokenKind.TheVariants.{Reserved}

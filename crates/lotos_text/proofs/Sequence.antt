@@ -1,8 +1,8 @@
 -- What two parts in a row find and lose, from what each of them does.
 use Rattle.std.proofs.Common.{◌≡◌, List, [], ◌∷◌, ◌++◌, refl, sym, ◌∙◌, ap, append_assoc, subst}
 use Rattle.lotos_text.specs.Grammar.{Is}
-use Rattle.lotos_text.specs.Parsing.{Part, Found, Starts, Lost}
-use Rattle.lotos_text.specs.Parts.{Then, Behind, Before}
+use Rattle.lotos_text.specs.Parsing.{Phrase, Found, Starts, Lost}
+use Rattle.lotos_text.specs.Phrases.{Then, Behind, Before}
 use Rattle.lotos_text.specs.declared.token.Token.{Token}
 use Rattle.lotos_text.specs.declared.token.TokenKind.{TokenKind}
 use Rattle.lotos_text.proofs.FirstToken.{starts_behind}
@@ -13,11 +13,11 @@ pub record Same {A : Type 0} (a b : List Token) (x y : A) (r q : List Token) : T
   pub rest : r ≡ q
 
 -- A part that is whole before one list stays the only one before each list that starts alike.
-abbrev pub Firm : {A : Type 0} → Part A → Type 0
+abbrev pub Firm : {A : Type 0} → Phrase A → Type 0
 Firm {A} P = (a b r more q : List Token) (x y : A) → P a x r → Starts r more → P b y q → a ++ more ≡ b ++ q → Same a b x y more q
 
 -- Of tokens that begin with the one, what is lost as one part is lost as each part that comes down to it.
-pub lost_as : {A B : Type 0} (P : Part A) (Q : Part B) (n : Token) (ts others rest : List Token) → ts ≡ n ∷ others →
+pub lost_as : {A B : Type 0} (P : Phrase A) (Q : Phrase B) (n : Token) (ts others rest : List Token) → ts ≡ n ∷ others →
     ((own behind more : List Token) (x : A) → own ++ behind ≡ n ∷ more → P own x behind → (y : B) × Q own y behind) →
     Lost Q ts rest → Lost P ts rest
 lost_as P Q n ts others rest begins down l = record {
@@ -30,7 +30,7 @@ lost_as P Q n ts others rest begins down l = record {
       l.never more own behind q.0 st e q.1;
 }
 
-module _ {A B C : Type 0} (together : A → B → C) (P : Part A) (Q : Part B) where
+module _ {A B C : Type 0} (together : A → B → C) (P : Phrase A) (Q : Phrase B) where
   -- both parts are found
   pub found_then : (ts between rest : List Token) (x : A) (y : B) (z : C) → Found P ts x between → Found Q between y rest →
       z ≡ together x y → Found (Then together P Q) ts z rest
@@ -88,7 +88,7 @@ module _ {A B C : Type 0} (together : A → B → C) (P : Part A) (Q : Part B) w
       }
 
 -- a part between two tokens, as tokens in a row
-pub record Between {A : Type 0} (opens closes : TokenKind) (P : Part A) (own : List Token) (said : A)
+pub record Between {A : Type 0} (opens closes : TokenKind) (P : Phrase A) (own : List Token) (said : A)
     (behind : List Token) : Type 0 where
   pub left : Token
   pub inner : List Token
@@ -99,7 +99,7 @@ pub record Between {A : Type 0} (opens closes : TokenKind) (P : Part A) (own : L
   pub ends : Is right closes
 
 -- the part between two tokens, taken apart
-pub between : {A : Type 0} (opens closes : TokenKind) (P : Part A) (own behind : List Token) (said : A) →
+pub between : {A : Type 0} (opens closes : TokenKind) (P : Phrase A) (own behind : List Token) (said : A) →
     Before (Behind opens P) closes own said behind → Between opens closes P own said behind
 between opens closes P own behind said t = record {
   left = t.first.one;
@@ -114,7 +114,7 @@ between opens closes P own behind said t = record {
 }
 
 -- the part between two tokens, put together
-pub as_between : {A : Type 0} (opens closes : TokenKind) (P : Part A) (left right : Token) (inner behind : List Token) (said : A) →
+pub as_between : {A : Type 0} (opens closes : TokenKind) (P : Phrase A) (left right : Token) (inner behind : List Token) (said : A) →
     Is left opens → P inner said (right ∷ behind) → Is right closes → Before (Behind opens P) closes
     (left ∷ inner ++ right ∷ []) said behind
 as_between opens closes P left right inner behind said i p j = record {

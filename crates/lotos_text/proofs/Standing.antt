@@ -2,7 +2,7 @@
 use Rattle.std.proofs.Common.{◌≡◌, ℕ, ◌+◌, ◌-◌, ◌≤◌, List, [], ◌∷◌, ◌++◌, length, take, drop, refl, sym, ap, ◌∙◌, subst, arith}
 use Rattle.std.proofs.Math.Seq.{take-append_seam}
 use Rattle.std.specs.List.{AllByRecursion}
-use Rattle.lotos_text.specs.Cut.{Cuts, nothing, blank, comment, word, mark, Cut, Stands, AllStand, IsWord, spelled}
+use Rattle.lotos_text.specs.Cut.{Cuts, nothing, blank, comment, word, mark, Cut, LiesIn, AllLieIn, IsWord, spelled}
 use Rattle.lotos_text.specs.declared.token.Token.{Token}
 use Rattle.lotos_text.proofs.Cutting.{behind, fits}
 
@@ -14,7 +14,7 @@ slice_is whole at found rest e =
 
 -- the tokens of a cut from an offset on stand in the text
 stand_from : {at end : ℕ} {text rest : List ℕ} {ts : List Token} → Cuts at text ts end rest → (whole : List ℕ) → at ≤ length whole → drop at whole ≡ text →
-    AllByRecursion (Stands whole) ts
+    AllByRecursion (LiesIn whole) ts
 stand_from nothing whole h e = tt
 stand_from (blank {at} {b = b} {text = text} i c) whole h e = stand_from c whole (fits whole at (b ∷ []) text h e) (behind whole at (b ∷ []) text e)
 stand_from (comment {at} piece {text} i c) whole h e = stand_from c whole (fits whole at piece text h e) (behind whole at piece text e)
@@ -28,5 +28,5 @@ stand_from (mark {at} sign {text} i c) whole h e =
     (record { ordered = omega arith; inside = inside; word = λ k. absurd (cc) }, stand_from c whole inside (behind whole at (spelled sign) text e))
 
 -- the tokens of the whole cut stand in the text
-pub all_stand : (text : List ℕ) (ts : List Token) → Cut text ts → AllStand text ts
+pub all_stand : (text : List ℕ) (ts : List Token) → Cut text ts → AllLieIn text ts
 all_stand text ts c = stand_from c text (omega arith) refl

@@ -3,8 +3,8 @@ use Rattle.std.proofs.Common.{◌≡◌, ℕ, List, [], ◌∷◌, ◌++◌, Opt
 use Rattle.lotos_text.specs.Tree as t
 use Rattle.lotos_text.specs.Grammar.{Is, Names, one_name, more_names, Level, parallel, Operator, synchronizes, Operates, interleave_sign, full_sign, sync_on_none, sync_on}
 use Rattle.lotos_text.specs.Opens.{mark}
-use Rattle.lotos_text.specs.Parsing.{Part, NotFirst, Found, Starts, Lost}
-use Rattle.lotos_text.specs.Parts.{One, Before, NameList, Operation, SyncList, no_sync, some_sync}
+use Rattle.lotos_text.specs.Parsing.{Phrase, NotFirst, Found, Starts, Lost}
+use Rattle.lotos_text.specs.Phrases.{One, Before, NameList, Operation, SyncList, no_sync, some_sync}
 use Rattle.lotos_text.specs.declared.expression.Infix.{Infix}
 use Rattle.lotos_text.specs.declared.expression.Infix.TheVariants as i
 use Rattle.lotos_text.specs.declared.token.Sign.{Sign as SignKind}
@@ -150,10 +150,10 @@ module _ (text : List ℕ) where
 
   -- the three parts of a list that is not empty
 
-  abbrev Closed : Part (List Placed)
+  abbrev Closed : Phrase (List Placed)
   Closed = Before (NameList text) (Sign s.RightBracket)
 
-  abbrev Barred : Part (List Placed)
+  abbrev Barred : Phrase (List Placed)
   Barred = Before Closed (Sign s.Bar)
 
   lost_barred : (ts rest : List Token) → NotFirst (Sign s.RightBracket) ts → Lost Barred ts rest → Lost (SyncList text) ts rest

@@ -2,7 +2,7 @@
 use Rattle.std.proofs.Common.{◌≡◌, ℕ, ◌+◌, ◌<◌, max, Bool, true, false, List, [], ◌∷◌, ◌++◌, ◌⊎◌, inl, inr, refl, sym, ◌∙◌, ap, append_assoc, arith}
 use Rattle.lotos_text.specs.Tree as t
 use Rattle.lotos_text.specs.Tree.{Tree}
-use Rattle.lotos_text.specs.Grammar.{Is, placed, GateList, gate, internal, Level, enabling, prefixing, Below, Operator, join, Operates, Spells, stop, exit, brackets, call, prefix, tighter, operation, hide}
+use Rattle.lotos_text.specs.Grammar.{Is, placed, GateList, gate, internal, Level, enabling, prefixing, BindsTighter, Operator, join, Operates, Spells, stop, exit, parentheses, call, prefix, tighter, operation, hide}
 use Rattle.lotos_text.specs.Follow.{rank, bound}
 use Rattle.lotos_text.specs.declared.token.Token.{Token}
 use Rattle.lotos_text.specs.declared.token.TokenKind.TheVariants.{Sign}
@@ -13,7 +13,7 @@ use Rattle.lotos_text.specs.declared.tree.Placed.{Placed}
 use Rattle.lotos_text.proofs.FirstToken.{head_same, tail_same, is_first}
 use Rattle.lotos_text.proofs.Levels.{bound_below, bound_most, rank_none, rank_open, rank_is, operator_rank, operator_below, unique_operator, Levelled, alone, operated, taken_level}
 use Rattle.lotos_text.proofs.NameLists.{unique_names, unique_gates}
-use Rattle.lotos_text.proofs.Operands.{Leaf, Called, Prefixed, taken_stop, taken_exit, taken_brackets, taken_name, taken_internal, taken_hide, not_listed, not_bracket, below_calls}
+use Rattle.lotos_text.proofs.Operands.{Leaf, Called, Prefixed, taken_stop, taken_exit, taken_parentheses, taken_name, taken_internal, taken_hide, not_listed, not_bracket, below_calls}
 
 pub record SameSpelling (a b : List Token) (o p : Bool) (n m : ℕ) (x y : Tree) (r q : List Token) : Type 0 where
   pub tokens : a ≡ b
@@ -85,7 +85,7 @@ module _ (text : List ℕ) where
   same_gate {p = p} {ts = ts} r q i one (inl f) hq = absurd (not_listed text q (ts ++ r) f.gates f.rest i (below_calls p q hq))
   same_gate r q i one (inr f) hq = same_prefix r q one f hq
 
-  same_alone : {l m : Level} {o p : Bool} {n k : ℕ} {a b : List Token} {x y : Tree} (r q : List Token) → Below l m →
+  same_alone : {l m : Level} {o p : Bool} {n k : ℕ} {a b : List Token} {x y : Tree} (r q : List Token) → BindsTighter l m →
       One m o n a x r → Levelled text l m p k b y →
       a ++ r ≡ b ++ q → rank r < bound l o → rank q < bound l p → SameSpelling a b o p n k x y r q
   same_alone {p = p} r q u one (alone {n = k} {own = b} {x = y} d) e hr hq = one q b p k y d e
@@ -97,7 +97,7 @@ module _ (text : List ℕ) where
       (arith, f, g, k, hr))
 
   same_operated : {l m : Level} {o p : Bool} {nl nr k : ℕ} {left op right b : List Token} {x y z : Tree} {how : Operator}
-      (r q : List Token) → Below l m →
+      (r q : List Token) → BindsTighter l m →
       One m false nl left x (op ++ (right ++ r)) → Operates text l op how → One l o nr right y r → Levelled text l m p k b z →
       (left ++ op ++ right) ++ r ≡ b ++ q → rank q < bound l p →
       SameSpelling (left ++ op ++ right) b o p (max nl (nr + 1)) k (join how x y) z r q
@@ -127,8 +127,8 @@ module _ (text : List ℕ) where
       rank r < bound l o → rank q < bound l p → SameSpelling a b o p n m x y r q
   unique r q (stop i) d e hr hq = same_leaf r q (taken_stop text q r i d (sym e)) e
   unique r q (exit i) d e hr hq = same_leaf r q (taken_exit text q r i d (sym e)) e
-  unique r q (brackets {right = right} {o = o} {ts = inner} i c j) d e hr hq =
-      let f = taken_brackets text q ((inner ++ right ∷ []) ++ r) i d (sym e) in
+  unique r q (parentheses {right = right} {o = o} {ts = inner} i c j) d e hr hq =
+      let f = taken_parentheses text q ((inner ++ right ∷ []) ++ r) i d (sym e) in
       let h = unique (right ∷ r) (f.right ∷ q) c f.spells (sym (f.rest ∙ append_assoc inner (right ∷ []) r))
       (rank_none enabling o (right ∷ r) (rank_is r j)) (rank_none enabling f.within (f.right ∷ q) (rank_is q f.closes)) in
       record {

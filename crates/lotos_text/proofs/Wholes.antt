@@ -2,8 +2,8 @@
 use Rattle.std.proofs.Common.{◌≡◌, ℕ, List, [], ◌∷◌, ◌++◌, Some, None, refl, sym, ◌∙◌, ap, arith, subst}
 use Rattle.std.proofs.lemmas.List.{append-nil}
 use Rattle.lotos_text.specs.Grammar.{Is, a_specification, Specifies}
-use Rattle.lotos_text.specs.Parsing.{Part, Limit, Within, Found, Lost}
-use Rattle.lotos_text.specs.Parts.{One, Nothing, Contents, Definition, Whole}
+use Rattle.lotos_text.specs.Parsing.{Phrase, Limit, Within, Found, Lost}
+use Rattle.lotos_text.specs.Phrases.{One, Nothing, Contents, Definition, Whole}
 use Rattle.lotos_text.specs.Tree.{Def}
 use Rattle.lotos_text.specs.declared.token.Token.{Token}
 use Rattle.lotos_text.specs.declared.token.TokenKind.TheVariants.{Reserved}
@@ -18,7 +18,7 @@ abbrev closed : Def → Unit {0} → Def
 closed whole end = whole
 
 module _ (text : List ℕ) where
-  abbrev Specification : Limit → Part Def
+  abbrev Specification : Limit → Phrase Def
   Specification = Definition text a_specification
 
   -- the first word and the contents, with nothing behind them, are the whole

@@ -154,10 +154,10 @@ pub data Sticks (text : List ℕ) (at : ℕ) : Type 0 where
   at_comment : SticksAtComment text at → Sticks text at
 
 -- the token's bytes stand in the text, and those of an identifier are a word
-pub record Stands (text : List ℕ) (t : Token) : Type 0 where
+pub record LiesIn (text : List ℕ) (t : Token) : Type 0 where
   pub ordered : t.at ≤ t.end
   pub inside : t.end ≤ length text
   pub word : t.kind ≡ Identifier → IsWord (slice_range text t.at t.end)
 
-abbrev pub AllStand : List ℕ → List Token → Type 0
-AllStand text ts = AllByRecursion (Stands text) ts
+abbrev pub AllLieIn : List ℕ → List Token → Type 0
+AllLieIn text ts = AllByRecursion (LiesIn text) ts

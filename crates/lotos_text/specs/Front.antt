@@ -11,8 +11,8 @@ use Rattle.lotos_text.specs.declared.token.Sign.TheVariants as s
 -- all marks, a longer one before each shorter one
 abbrev pub marks : List Sign
 marks =
-    s.Interleave ∷ s.Define ∷ s.Choice ∷ s.Disable ∷ s.Enable ∷ s.LeftSync ∷ s.Full ∷ s.Semicolon ∷ s.Colon ∷ s.Comma ∷ s.LeftParenthesis ∷
-    s.RightParenthesis ∷ s.LeftBracket ∷ s.RightBracket ∷ s.Bar ∷ []
+    s.Interleave ∷ s.Define ∷ s.Choice ∷ s.Disable ∷ s.Enable ∷ s.LeftSync ∷ s.Full ∷ s.Semicolon ∷ s.Colon ∷
+    s.Comma ∷ s.LeftParenthesis ∷ s.RightParenthesis ∷ s.LeftBracket ∷ s.RightBracket ∷ s.Bar ∷ []
 
 -- the longest mark at the front of the text
 abbrev pub mark_of : List ℕ → Option Sign
@@ -22,7 +22,8 @@ mark_of text = find (λ sign. starts_with nat_eq text (spelled sign)) marks
 pub data Front (text : List ℕ) : Piece → Type 0 where
   a_blank : (b : ℕ) (rest : List ℕ) → text ≡ b ∷ rest → IsTrue (is_blank b) → Front text Blank
   a_comment : (piece rest : List ℕ) → text ≡ piece ++ rest → IsComment piece → Front text (Comment (length piece))
-  a_word : (found rest : List ℕ) → text ≡ found ++ rest → IsWord found → EndsWord rest → Front text (Token (length found) (word_kind found))
+  a_word : (found rest : List ℕ) → text ≡ found ++ rest → IsWord found → EndsWord rest →
+      Front text (Token (length found) (word_kind found))
   a_mark : (sign : Sign) (rest : List ℕ) → text ≡ spelled sign ++ rest → IsMark sign rest →
       Front text (Token (length (spelled sign)) (of_sign sign))
   no_end : Unclosed text → Front text Unended

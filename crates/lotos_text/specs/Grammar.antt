@@ -32,7 +32,8 @@ pub data Names (text : List ℕ) : List Token → List Placed → Type 0 where
 pub data GateList (text : List ℕ) : List Token → List Placed → Type 0 where
   no_gates : GateList text [] []
   gates : {left right : Token} {ts : List Token} {names : List Placed} →
-      Is left (Sign s.LeftBracket) → Names text ts names → Is right (Sign s.RightBracket) → GateList text (left ∷ ts ++ right ∷ []) names
+      Is left (Sign s.LeftBracket) → Names text ts names → Is right (Sign s.RightBracket) →
+      GateList text (left ∷ ts ++ right ∷ []) names
 
 -- the levels of behaviour expressions, from the loosest to the tightest
 pub data Level : Type 0 where
@@ -43,11 +44,11 @@ pub data Level : Type 0 where
   prefixing : Level
 
 -- the next tighter level, that of an operator's left operand
-pub data Below : Level → Level → Type 0 where
-  below_enabling : Below enabling disabling
-  below_disabling : Below disabling parallel
-  below_parallel : Below parallel choosing
-  below_choosing : Below choosing prefixing
+pub data BindsTighter : Level → Level → Type 0 where
+  tighter_than_enabling : BindsTighter enabling disabling
+  tighter_than_disabling : BindsTighter disabling parallel
+  tighter_than_parallel : BindsTighter parallel choosing
+  tighter_than_choosing : BindsTighter choosing prefixing
 
 -- a binary operator; the number of `>>` is its offset
 pub data Operator : Type 0 where
@@ -86,7 +87,7 @@ pub data Acts (text : List ℕ) : Token → Action → Type 0 where
 pub data Spells (text : List ℕ) : Level → Bool → ℕ → List Token → Tree → Type 0 where
   stop : {n : Token} → Is n (Reserved w.StopWord) → Spells text prefixing false 0 (n ∷ []) t.stop
   exit : {n : Token} → Is n (Reserved w.ExitWord) → Spells text prefixing false 0 (n ∷ []) t.exit
-  brackets : {left right : Token} {o : Bool} {n : ℕ} {ts : List Token} {x : Tree} →
+  parentheses : {left right : Token} {o : Bool} {n : ℕ} {ts : List Token} {x : Tree} →
       Is left (Sign s.LeftParenthesis) → Spells text enabling o n ts x → Is right (Sign s.RightParenthesis) →
       Spells text prefixing false (n + 1) (left ∷ ts ++ right ∷ []) x
   call : {name : Token} {ts : List Token} {names : List Placed} →
@@ -95,9 +96,9 @@ pub data Spells (text : List ℕ) : Level → Bool → ℕ → List Token → Tr
       Acts text act a → Is semicolon (Sign s.Semicolon) → Spells text prefixing o n ts x →
       Spells text prefixing o (n + 1) (act ∷ semicolon ∷ ts) (t.prefix a x)
   tighter : {l m : Level} {o : Bool} {n : ℕ} {ts : List Token} {x : Tree} →
-      Below l m → Spells text m o n ts x → Spells text l o n ts x
+      BindsTighter l m → Spells text m o n ts x → Spells text l o n ts x
   operation : {l m : Level} {o : Bool} {nl nr : ℕ} {left op right : List Token} {x y : Tree} {how : Operator} →
-      Below l m → Spells text m false nl left x → Operates text l op how → Spells text l o nr right y →
+      BindsTighter l m → Spells text m false nl left x → Operates text l op how → Spells text l o nr right y →
       Spells text l o (max nl (nr + 1)) (left ++ op ++ right) (join how x y)
   hide : {l : Level} {word within : Token} {o : Bool} {n : ℕ} {gates ts : List Token} {names : List Placed} {x : Tree} →
       Is word (Reserved w.HideWord) → Names text gates names → Is within (Reserved w.InWord) → Spells text enabling o n ts x →
@@ -131,8 +132,8 @@ closing_word a_process = Reserved w.EndprocWord
 mutual
   -- the tokens define a specification or a process, with their nesting
   pub data Defines (text : List ℕ) : Defined → ℕ → List Token → Def → Type 0 where
-    definition : {what : Defined} {word name colon returns define end : Token} {gates body rest : List Token} {formals : List Placed}
-        {func : Functionality} {o : Bool} {n m : ℕ} {x : Tree} {inner : Defs} →
+    definition : {what : Defined} {word name colon returns define end : Token} {gates body rest : List Token}
+        {formals : List Placed} {func : Functionality} {o : Bool} {n m : ℕ} {x : Tree} {inner : Defs} →
         Is word (opening_word what) → Is name Identifier → GateList text gates formals → Is colon (Sign s.Colon) →
         Declares returns func → Is define (defining_sign what) → Spells text enabling o n body x → Rest text m rest inner →
         Is end (closing_word what) →

@@ -43,7 +43,8 @@ IsTreeInside n (call name names) = (name.at ≤ n) × AreNamesInside n names
 -- the offset of each name in a definition, its inner ones among them
 abbrev mutual
   pub IsInside : ℕ → Def → Type 0
-  IsInside n (def name formals declared body inner) = (name.at ≤ n) × AreNamesInside n formals × IsTreeInside n body × AreInside n inner
+  IsInside n (def name formals declared body inner) =
+      (name.at ≤ n) × AreNamesInside n formals × IsTreeInside n body × AreInside n inner
 
   pub AreInside : ℕ → Defs → Type 0
   AreInside n no_defs = Unit {0}

@@ -14,7 +14,7 @@ word_opens w.HideWord = true
 word_opens w.ProcessWord = true
 word_opens _ = false
 
--- the marks that open a construct: a bracket, the semicolon of a prefix, and the first token of each binary operator
+-- the marks that open a construct: a left parenthesis, the semicolon of a prefix, and the first token of each binary operator
 abbrev pub sign_opens : Sign → Bool
 sign_opens s.LeftParenthesis = true
 sign_opens s.Semicolon = true

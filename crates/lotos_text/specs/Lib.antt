@@ -1,3 +1,4 @@
+pub mod Profile
 pub mod Names
 pub mod Tree
 pub mod View
@@ -11,5 +12,5 @@ pub mod Inside
 pub mod Follow
 pub mod Kinds
 pub mod Parsing
-pub mod Parts
+pub mod Phrases
 pub mod Opens

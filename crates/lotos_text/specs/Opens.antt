@@ -21,7 +21,7 @@ word_opening _ = o.Nothing
 
 -- what a mark begins
 abbrev pub sign_opening : Sign → Opening
-sign_opening s.LeftParenthesis = o.Bracket
+sign_opening s.LeftParenthesis = o.Parenthesis
 sign_opening _ = o.Nothing
 
 -- what a token of the kind begins

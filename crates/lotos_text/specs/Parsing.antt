@@ -10,8 +10,8 @@ use Rattle.lotos_text.specs.declared.token.Token.{Token}
 use Rattle.lotos_text.specs.declared.token.TokenKind.{TokenKind}
 
 -- A part of the grammar: its own tokens, what they say, and the tokens behind them, before which the part is whole.
-abbrev pub Part : Type 0 → Type 1
-Part A = List Token → A → List Token → Type 0
+abbrev pub Phrase : Type 0 → Type 1
+Phrase A = List Token → A → List Token → Type 0
 
 -- a limit of nesting, or none
 abbrev pub Limit : Type 0
@@ -23,7 +23,7 @@ Within None n = Unit {0}
 Within (Some limit) n = n ≤ limit
 
 -- the tokens begin with the part, which is whole before the rest
-pub record Found {A : Type 0} (P : Part A) (ts : List Token) (said : A) (rest : List Token) : Type 0 where
+pub record Found {A : Type 0} (P : Phrase A) (ts : List Token) (said : A) (rest : List Token) : Type 0 where
   pub front : List Token
   pub joined : ts ≡ front ++ rest
   pub whole : P front said rest
@@ -35,7 +35,7 @@ Starts (t ∷ ts) more = (others : List Token) × (more ≡ t ∷ others)
 
 -- The tokens up to and with the first of the rest begin no list that begins with the part; where the rest is empty, the
 -- tokens themselves are no such list.
-pub record Lost {A : Type 0} (P : Part A) (ts rest : List Token) : Type 0 where
+pub record Lost {A : Type 0} (P : Phrase A) (ts rest : List Token) : Type 0 where
   pub front : List Token
   pub joined : ts ≡ front ++ rest
   pub never : (more own behind : List Token) (said : A) → Starts rest more → front ++ more ≡ own ++ behind → P own said behind → ⊥
@@ -47,26 +47,26 @@ pub record Crowded (room : ℕ) (ts : List Token) (token : Token) (after : List 
   pub many : room < openings (front ++ token ∷ [])
 
 -- the token opens a construct where there is room for so many and all are open, and no part within that room begins so
-pub record Deeper {A : Type 0} (P : Limit → Part A) (room : ℕ) (ts : List Token) (token : Token) : Type 0 where
+pub record Deeper {A : Type 0} (P : Limit → Phrase A) (room : ℕ) (ts : List Token) (token : Token) : Type 0 where
   pub after : List Token
   pub lost : Lost (P (Some room)) ts (token ∷ after)
   pub crowded : Crowded room ts token after
   pub opens : opens token.kind ≡ true
 
 -- the part is lost where the parser stopped, and no memory was wanted
-abbrev pub IsMissed : {A : Type 0} → Part A → List Token → Stop → Type 0
+abbrev pub IsMissed : {A : Type 0} → Phrase A → List Token → Stop → Type 0
 IsMissed P ts (At rest) = Lost P ts rest.now
 IsMissed P ts (Deep token) = ⊥
 IsMissed P ts (Memory e) = ⊥
 
 -- the part is lost where the parser stopped, but for want of memory
-abbrev pub IsLost : {A : Type 0} → Part A → List Token → Stop → Type 0
+abbrev pub IsLost : {A : Type 0} → Phrase A → List Token → Stop → Type 0
 IsLost P ts (At rest) = Lost P ts rest.now
 IsLost P ts (Deep token) = ⊥
 IsLost P ts (Memory e) = Unit {0}
 
 -- the part is lost where the parser stopped: with any nesting, or with so much room, but for want of memory
-abbrev pub IsLostWithin : {A : Type 0} → (Limit → Part A) → ℕ → List Token → Stop → Type 0
+abbrev pub IsLostWithin : {A : Type 0} → (Limit → Phrase A) → ℕ → List Token → Stop → Type 0
 IsLostWithin P room ts (At rest) = Lost (P None) ts rest.now
 IsLostWithin P room ts (Deep token) = Deeper P room ts token
 IsLostWithin P room ts (Memory e) = Unit {0}

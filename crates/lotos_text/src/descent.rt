@@ -4,9 +4,9 @@
 //! stopped.
 ghost use Rattle.std.specs.Prelude.{◌≡◌, [], ◌∷◌, alloc_error, IfOk, IfErr, IfSome, IfNone, MatchOption};
 ghost use Rattle.lotos_text.specs.Grammar.{Is, placed as placed_at};
-ghost use Rattle.lotos_text.specs.Cut.{Stands, AllStand};
+ghost use Rattle.lotos_text.specs.Cut.{LiesIn, AllLieIn};
 ghost use Rattle.lotos_text.specs.Parsing.{NotFirst, Found, IsLost, IsMissed};
-ghost use Rattle.lotos_text.specs.Parts.{One, NameList, Gates, Returns};
+ghost use Rattle.lotos_text.specs.Phrases.{One, NameList, Gates, Returns};
 ghost use Rattle.lotos_text.specs.declared.token.TokenKind.TheVariants.{Identifier};
 ghost use Rattle.lotos_text.specs.declared.descent.Stop.TheVariants.{Memory};
 
@@ -47,9 +47,9 @@ pub(crate) fn gate_list<'a>(
     text: &[u8],
     tokens: &'a [Token],
 ) -> Result<(Vec<Placed>, &'a [Token]), Stop<'a>>
-    requires { AllStand text.now tokens.now }
+    requires { AllLieIn text.now tokens.now }
     ensures found { IfOk result (λ p. Found (Gates text.now) tokens.now p.0.items p.1.now) }
-    ensures rest { IfOk result (λ p. AllStand text.now p.1.now) }
+    ensures rest { IfOk result (λ p. AllLieIn text.now p.1.now) }
     ensures lost { IfErr result (IsLost (Gates text.now) tokens.now) }
 {
     let Some((_, inside)) = eat(tokens, TokenKind::Sign(Sign::LeftBracket)) else {
@@ -66,9 +66,9 @@ pub(crate) fn names<'a>(
     text: &[u8],
     tokens: &'a [Token],
 ) -> Result<(Vec<Placed>, &'a [Token]), Stop<'a>>
-    requires { AllStand text.now tokens.now }
+    requires { AllLieIn text.now tokens.now }
     ensures found { IfOk result (λ p. Found (NameList text.now) tokens.now p.0.items p.1.now) }
-    ensures rest { IfOk result (λ p. AllStand text.now p.1.now) }
+    ensures rest { IfOk result (λ p. AllLieIn text.now p.1.now) }
     ensures lost { IfErr result (IsLost (NameList text.now) tokens.now) }
 {
     let mut found = Vec::new(alloc);
@@ -101,7 +101,7 @@ pub(crate) fn functionality<'a>(
 
 /// The name that an identifier spells.
 pub(crate) fn placed(alloc: Global, text: &[u8], token: Token) -> Result<Placed, AllocError>
-    requires stands { Stands text.now token }
+    requires stands { LiesIn text.now token }
     requires named { Is token Identifier }
     ensures { IfOk result (λ p. p ≡ placed_at text.now token) }
 {

@@ -4,11 +4,11 @@
 //! parser at the token that opens it.
 ghost use Rattle.std.specs.Prelude.{◌≡◌, ◌<◌, ◌≤◌, ◌∷◌, ℕ, Some, None, length, IfOk, IfErr, IfSome, IfNone, MatchOption, MatchBool};
 ghost use Rattle.lotos_text.specs.View.{tree_of, level_of, operator_of};
-ghost use Rattle.lotos_text.specs.Grammar.{Is, Acts, Below, Level as AnyLevel, prefixing, placed as placed_at};
-ghost use Rattle.lotos_text.specs.Cut.{Stands, AllStand};
+ghost use Rattle.lotos_text.specs.Grammar.{Is, Acts, BindsTighter, Level as AnyLevel, prefixing, placed as placed_at};
+ghost use Rattle.lotos_text.specs.Cut.{LiesIn, AllLieIn};
 ghost use Rattle.lotos_text.specs.Follow.{rank, level_rank};
 ghost use Rattle.lotos_text.specs.Parsing.{NotFirst, Found, IsLost, IsLostWithin, StopsAt};
-ghost use Rattle.lotos_text.specs.Parts.{Expression, Operation, SyncList};
+ghost use Rattle.lotos_text.specs.Phrases.{Expression, Operation, SyncList};
 ghost use Rattle.lotos_text.specs.Opens as opens;
 ghost use Rattle.lotos_text.specs.declared.token.TokenKind.TheVariants.{Identifier, Reserved, Sign as of_sign};
 ghost use Rattle.lotos_text.specs.declared.token.Sign.TheVariants.{LeftParenthesis, Semicolon};
@@ -32,7 +32,8 @@ pub(crate) enum Level {
 
 /// The next tighter level, that of the operators' left operands.
 fn tighter(level: Level) -> Option<Level>
-    ensures { MatchOption result (level_of level ≡ prefixing) (λ m. Below (level_of level) (level_of m)) }
+    ensures { MatchOption result (level_of level ≡ prefixing)
+        (λ m. BindsTighter (level_of level) (level_of m)) }
 {
     match level {
         Level::Enabling => Some(Level::Disabling),
@@ -52,9 +53,10 @@ pub(crate) fn behaviour<'a>(
     level: Level,
     tokens: &'a [Token],
 ) -> Result<(Behaviour, &'a [Token]), Stop<'a>>
-    requires { AllStand text.now tokens.now }
-    ensures found { IfOk result (λ p. Found (Expression text.now (level_of level) (Some room)) tokens.now (tree_of p.0) p.1.now) }
-    ensures rest { IfOk result (λ p. AllStand text.now p.1.now) }
+    requires { AllLieIn text.now tokens.now }
+    ensures found { IfOk result
+        (λ p. Found (Expression text.now (level_of level) (Some room)) tokens.now (tree_of p.0) p.1.now) }
+    ensures rest { IfOk result (λ p. AllLieIn text.now p.1.now) }
     ensures shorter { IfOk result (λ p. length p.1.now < length tokens.now) }
     ensures lost { IfErr result (IsLostWithin (Expression text.now (level_of level)) room tokens.now) }
 {
@@ -74,11 +76,13 @@ fn hiding<'a>(
     tokens: &'a [Token],
 ) -> Result<(Behaviour, &'a [Token]), Stop<'a>>
     requires opens { Is first (Reserved HideWord) }
-    requires stand { AllStand text.now tokens.now }
-    ensures found { IfOk result (λ p. (level : AnyLevel) → Found (Expression text.now level (Some room)) (first ∷ tokens.now) (tree_of p.0) p.1.now) }
-    ensures rest { IfOk result (λ p. AllStand text.now p.1.now) }
+    requires stand { AllLieIn text.now tokens.now }
+    ensures found { IfOk result (λ p. (level : AnyLevel) →
+        Found (Expression text.now level (Some room)) (first ∷ tokens.now) (tree_of p.0) p.1.now) }
+    ensures rest { IfOk result (λ p. AllLieIn text.now p.1.now) }
     ensures shorter { IfOk result (λ p. length p.1.now < length tokens.now) }
-    ensures lost { IfErr result (λ stop. (level : AnyLevel) → IsLostWithin (Expression text.now level) room (first ∷ tokens.now) stop) }
+    ensures lost { IfErr result (λ stop. (level : AnyLevel) →
+        IsLostWithin (Expression text.now level) room (first ∷ tokens.now) stop) }
 {
     if room == 0 {
         return Err(Stop::Deep(first));
@@ -100,9 +104,10 @@ fn joined<'a>(
     tokens: &'a [Token],
 ) -> Result<(Behaviour, &'a [Token]), Stop<'a>>
     requires shown { NotFirst (Reserved HideWord) tokens.now }
-    requires stand { AllStand text.now tokens.now }
-    ensures found { IfOk result (λ p. Found (Expression text.now (level_of level) (Some room)) tokens.now (tree_of p.0) p.1.now) }
-    ensures rest { IfOk result (λ p. AllStand text.now p.1.now) }
+    requires stand { AllLieIn text.now tokens.now }
+    ensures found { IfOk result
+        (λ p. Found (Expression text.now (level_of level) (Some room)) tokens.now (tree_of p.0) p.1.now) }
+    ensures rest { IfOk result (λ p. AllLieIn text.now p.1.now) }
     ensures shorter { IfOk result (λ p. length p.1.now < length tokens.now) }
     ensures lost { IfErr result (IsLostWithin (Expression text.now (level_of level)) room tokens.now) }
 {
@@ -122,11 +127,12 @@ fn operation<'a>(
     below: Level,
     tokens: &'a [Token],
 ) -> Result<(Behaviour, &'a [Token]), Stop<'a>>
-    requires below { Below (level_of level) (level_of below) }
+    requires below { BindsTighter (level_of level) (level_of below) }
     requires shown { NotFirst (Reserved HideWord) tokens.now }
-    requires stand { AllStand text.now tokens.now }
-    ensures found { IfOk result (λ p. Found (Expression text.now (level_of level) (Some room)) tokens.now (tree_of p.0) p.1.now) }
-    ensures rest { IfOk result (λ p. AllStand text.now p.1.now) }
+    requires stand { AllLieIn text.now tokens.now }
+    ensures found { IfOk result
+        (λ p. Found (Expression text.now (level_of level) (Some room)) tokens.now (tree_of p.0) p.1.now) }
+    ensures rest { IfOk result (λ p. AllLieIn text.now p.1.now) }
     ensures shorter { IfOk result (λ p. length p.1.now < length tokens.now) }
     ensures lost { IfErr result (IsLostWithin (Expression text.now (level_of level)) room tokens.now) }
 {
@@ -171,8 +177,10 @@ fn infix_of(kind: TokenKind) -> Option<Infix>
 
 /// The operator's mark of the level at the front, its token, and the tokens behind it.
 fn going_on(tokens: &[Token], level: Level) -> Option<(Infix, Token, &[Token])>
-    ensures some { IfSome result (λ p. (tokens.now ≡ p.1 ∷ p.2.now) × (opens.mark p.1.kind ≡ Some p.0) × (opens.mark_level p.0 ≡ level_of level)) }
-    ensures none { IfNone result (rank tokens.now ≡ level_rank (level_of level) → level_of level ≡ prefixing) }
+    ensures some { IfSome result (λ p. (tokens.now ≡ p.1 ∷ p.2.now)
+        × (opens.mark p.1.kind ≡ Some p.0) × (opens.mark_level p.0 ≡ level_of level)) }
+    ensures none { IfNone result (rank tokens.now ≡ level_rank (level_of level) →
+        level_of level ≡ prefixing) }
 {
     let (first, rest) = split(tokens)?;
     let mark = infix_of(first.kind)?;
@@ -184,7 +192,8 @@ fn going_on(tokens: &[Token], level: Level) -> Option<(Infix, Token, &[Token])>
 }
 
 fn is_of_level(mark: Infix, level: Level) -> bool
-    ensures { MatchBool result (opens.mark_level mark ≡ level_of level) (opens.mark_level mark ≡ level_of level → ⊥) }
+    ensures { MatchBool result (opens.mark_level mark ≡ level_of level) (opens.mark_level mark
+        ≡ level_of level → ⊥) }
 {
     match mark {
         Infix::Enable => matches!(level, Level::Enabling),
@@ -203,9 +212,10 @@ fn operator<'a>(
     tokens: &'a [Token],
 ) -> Result<(Operator, &'a [Token]), Stop<'a>>
     requires begins { opens.mark first.kind ≡ Some mark }
-    requires stand { AllStand text.now tokens.now }
-    ensures found { IfOk result (λ p. Found (Operation text.now (opens.mark_level mark)) (first ∷ tokens.now) (operator_of p.0) p.1.now) }
-    ensures rest { IfOk result (λ p. AllStand text.now p.1.now) }
+    requires stand { AllLieIn text.now tokens.now }
+    ensures found { IfOk result
+        (λ p. Found (Operation text.now (opens.mark_level mark)) (first ∷ tokens.now) (operator_of p.0) p.1.now) }
+    ensures rest { IfOk result (λ p. AllLieIn text.now p.1.now) }
     ensures shorter { IfOk result (λ p. length p.1.now ≤ length tokens.now) }
     ensures lost { IfErr result (IsLost (Operation text.now (opens.mark_level mark)) (first ∷ tokens.now)) }
 {
@@ -231,9 +241,9 @@ fn sync_list<'a>(
     text: &[u8],
     tokens: &'a [Token],
 ) -> Result<(Vec<Placed>, &'a [Token]), Stop<'a>>
-    requires { AllStand text.now tokens.now }
+    requires { AllLieIn text.now tokens.now }
     ensures found { IfOk result (λ p. Found (SyncList text.now) tokens.now p.0.items p.1.now) }
-    ensures rest { IfOk result (λ p. AllStand text.now p.1.now) }
+    ensures rest { IfOk result (λ p. AllLieIn text.now p.1.now) }
     ensures shorter { IfOk result (λ p. length p.1.now ≤ length tokens.now) }
     ensures lost { IfErr result (IsLost (SyncList text.now) tokens.now) }
 {
@@ -251,7 +261,7 @@ fn sync_list<'a>(
     }
 }
 
-/// An operand: `stop`, `exit`, a behaviour expression in brackets, a prefix or a call.
+/// An operand: `stop`, `exit`, a behaviour expression in parentheses, a prefix or a call.
 #[cycle(expressions)]
 fn operand<'a>(
     alloc: Global,
@@ -260,9 +270,10 @@ fn operand<'a>(
     tokens: &'a [Token],
 ) -> Result<(Behaviour, &'a [Token]), Stop<'a>>
     requires shown { NotFirst (Reserved HideWord) tokens.now }
-    requires stand { AllStand text.now tokens.now }
-    ensures found { IfOk result (λ p. Found (Expression text.now prefixing (Some room)) tokens.now (tree_of p.0) p.1.now) }
-    ensures rest { IfOk result (λ p. AllStand text.now p.1.now) }
+    requires stand { AllLieIn text.now tokens.now }
+    ensures found { IfOk result
+        (λ p. Found (Expression text.now prefixing (Some room)) tokens.now (tree_of p.0) p.1.now) }
+    ensures rest { IfOk result (λ p. AllLieIn text.now p.1.now) }
     ensures shorter { IfOk result (λ p. length p.1.now < length tokens.now) }
     ensures lost { IfErr result (IsLostWithin (Expression text.now prefixing) room tokens.now) }
 {
@@ -278,7 +289,7 @@ fn operand<'a>(
             whole(rest)?;
             Ok((Behaviour::Exit, rest))
         }
-        Opening::Bracket => bracketed(alloc, text, room, first, rest),
+        Opening::Parenthesis => parenthesized(alloc, text, room, first, rest),
         Opening::Internal => prefixed(alloc, text, room, first, Action::Internal, rest),
         Opening::Name => named(alloc, text, room, first, rest),
         Opening::Nothing => Err(Stop::At(tokens)),
@@ -287,7 +298,7 @@ fn operand<'a>(
 
 /// What follows a left parenthesis, the first token.
 #[cycle(expressions)]
-fn bracketed<'a>(
+fn parenthesized<'a>(
     alloc: Global,
     text: &[u8],
     room: usize,
@@ -295,9 +306,10 @@ fn bracketed<'a>(
     tokens: &'a [Token],
 ) -> Result<(Behaviour, &'a [Token]), Stop<'a>>
     requires opens { Is first (of_sign LeftParenthesis) }
-    requires stand { AllStand text.now tokens.now }
-    ensures found { IfOk result (λ p. Found (Expression text.now prefixing (Some room)) (first ∷ tokens.now) (tree_of p.0) p.1.now) }
-    ensures rest { IfOk result (λ p. AllStand text.now p.1.now) }
+    requires stand { AllLieIn text.now tokens.now }
+    ensures found { IfOk result
+        (λ p. Found (Expression text.now prefixing (Some room)) (first ∷ tokens.now) (tree_of p.0) p.1.now) }
+    ensures rest { IfOk result (λ p. AllLieIn text.now p.1.now) }
     ensures shorter { IfOk result (λ p. length p.1.now < length tokens.now) }
     ensures lost { IfErr result (IsLostWithin (Expression text.now prefixing) room (first ∷ tokens.now)) }
 {
@@ -320,10 +332,11 @@ fn named<'a>(
     tokens: &'a [Token],
 ) -> Result<(Behaviour, &'a [Token]), Stop<'a>>
     requires named { Is first Identifier }
-    requires stands { Stands text.now first }
-    requires stand { AllStand text.now tokens.now }
-    ensures found { IfOk result (λ p. Found (Expression text.now prefixing (Some room)) (first ∷ tokens.now) (tree_of p.0) p.1.now) }
-    ensures rest { IfOk result (λ p. AllStand text.now p.1.now) }
+    requires stands { LiesIn text.now first }
+    requires stand { AllLieIn text.now tokens.now }
+    ensures found { IfOk result
+        (λ p. Found (Expression text.now prefixing (Some room)) (first ∷ tokens.now) (tree_of p.0) p.1.now) }
+    ensures rest { IfOk result (λ p. AllLieIn text.now p.1.now) }
     ensures shorter { IfOk result (λ p. length p.1.now ≤ length tokens.now) }
     ensures lost { IfErr result (IsLostWithin (Expression text.now prefixing) room (first ∷ tokens.now)) }
 {
@@ -346,9 +359,10 @@ fn prefixed<'a>(
 ) -> Result<(Behaviour, &'a [Token]), Stop<'a>>
     requires acts { Acts text.now first action }
     requires begins { NotFirst (of_sign Semicolon) tokens.now → Is first (Reserved IWord) }
-    requires stand { AllStand text.now tokens.now }
-    ensures found { IfOk result (λ p. Found (Expression text.now prefixing (Some room)) (first ∷ tokens.now) (tree_of p.0) p.1.now) }
-    ensures rest { IfOk result (λ p. AllStand text.now p.1.now) }
+    requires stand { AllLieIn text.now tokens.now }
+    ensures found { IfOk result
+        (λ p. Found (Expression text.now prefixing (Some room)) (first ∷ tokens.now) (tree_of p.0) p.1.now) }
+    ensures rest { IfOk result (λ p. AllLieIn text.now p.1.now) }
     ensures shorter { IfOk result (λ p. length p.1.now < length tokens.now) }
     ensures lost { IfErr result (IsLostWithin (Expression text.now prefixing) room (first ∷ tokens.now)) }
 {
@@ -372,9 +386,11 @@ fn called<'a>(
     requires named { Is first Identifier }
     requires placed { name ≡ placed_at text.now first }
     requires calls { NotFirst (of_sign Semicolon) tokens.now }
-    requires stand { AllStand text.now tokens.now }
-    ensures found { IfOk result (λ p. (room : ℕ) → Found (Expression text.now prefixing (Some room)) (first ∷ tokens.now) (tree_of p.0) p.1.now) }
-    ensures rest { IfOk result (λ p. AllStand text.now p.1.now) }
+    requires stand { AllLieIn text.now tokens.now }
+    ensures found { IfOk result
+        (λ p. (room : ℕ) →
+        Found (Expression text.now prefixing (Some room)) (first ∷ tokens.now) (tree_of p.0) p.1.now) }
+    ensures rest { IfOk result (λ p. AllLieIn text.now p.1.now) }
     ensures shorter { IfOk result (λ p. length p.1.now ≤ length tokens.now) }
     ensures lost { IfErr result (IsLost (Expression text.now prefixing None) (first ∷ tokens.now)) }
 {
@@ -407,7 +423,7 @@ enum Opening {
     Internal,
     /// A prefix of a gate, or a call.
     Name,
-    Bracket,
+    Parenthesis,
     Nothing,
 }
 
@@ -436,7 +452,7 @@ fn sign_opening(sign: Sign) -> Opening
     ensures { result ≡ opens.sign_opening sign }
 {
     match sign {
-        Sign::LeftParenthesis => Opening::Bracket,
+        Sign::LeftParenthesis => Opening::Parenthesis,
         _ => Opening::Nothing,
     }
 }

@@ -1,7 +1,8 @@
 //! Cuts a text into tokens.
 ghost use Rattle.std.specs.Prelude.{◌≡◌, ◌<◌, ◌≤◌, length, take, IfOk, IfErr, IfSome, IfNone};
-ghost use Rattle.lotos_text.specs.Cut.{Cut, AllStand, Begins, IsComment, Unclosed, opening, is_blank, is_word_byte, spelled, word_kind};
+ghost use Rattle.lotos_text.specs.Cut.{Cut, AllLieIn, Begins, IsComment, Unclosed, opening, is_blank, is_word_byte, spelled, word_kind};
 ghost use Rattle.lotos_text.specs.Front.{Front, mark_of};
+ghost use Rattle.lotos_text.specs.Profile.{longest_text};
 ghost use Rattle.lotos_text.specs.Refused.{IsStuck};
 ghost use Rattle.std.specs.List.{prefix_len};
 
@@ -21,9 +22,9 @@ pub const TEXT_LIMIT: usize = 1_048_576;
 /// begins no token, or with E02 at the opening of a comment that is not closed, whichever stands first; with E99 where a
 /// growth of the heap was refused.
 pub fn tokens(alloc: Global, text: &[u8]) -> Result<Vec<Token>, TextFault>
-    ensures short { IfOk result (λ found. length text.now ≤ 1048576) }
+    ensures short { IfOk result (λ found. length text.now ≤ longest_text) }
     ensures cut { IfOk result (λ found. Cut text.now found.items) }
-    ensures stand { IfOk result (λ found. AllStand text.now found.items) }
+    ensures stand { IfOk result (λ found. AllLieIn text.now found.items) }
     ensures stuck { IfErr result (IsStuck text.now) }
 {
     if text.len() > TEXT_LIMIT {

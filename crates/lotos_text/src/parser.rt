@@ -3,13 +3,14 @@ ghost use Rattle.std.specs.Prelude.{◌≡◌, ◌<◌, ◌≤◌, [], Some, len
 ghost use Rattle.lotos_text.specs.Tree.{Def};
 ghost use Rattle.lotos_text.specs.View.{defined_of, definition_of, definitions_of};
 ghost use Rattle.lotos_text.specs.Grammar.{defining_sign, closing_word};
-ghost use Rattle.lotos_text.specs.Cut.{AllStand};
+ghost use Rattle.lotos_text.specs.Cut.{AllLieIn};
+ghost use Rattle.lotos_text.specs.Profile.{deepest_nesting};
 ghost use Rattle.lotos_text.specs.Spelled.{Spelled};
 ghost use Rattle.lotos_text.specs.Refused.{IsRefused, SpellsNothing};
 ghost use Rattle.lotos_text.specs.Inside.{IsFaultInside, IsInside};
 ghost use Rattle.lotos_text.specs.Kinds.{is_full, is_full_word};
 ghost use Rattle.lotos_text.specs.Parsing.{Found, IsLost, IsLostWithin, IsMissed, stop_fault};
-ghost use Rattle.lotos_text.specs.Parts.{Contents, Header, Inner, Nothing, Row, Whole};
+ghost use Rattle.lotos_text.specs.Phrases.{Contents, Header, Inner, Nothing, Row, Whole};
 
 use crate::descent::{Stop, eat, expect, functionality, gate_list, placed};
 use crate::expression::{Level, behaviour};
@@ -22,8 +23,8 @@ use std::alloc::Global;
 #[cfg(test)]
 mod tests;
 
-/// The most constructs that may be open at once in a text (this project's profile): brackets, prefixes, hide forms, binary
-/// operators up to the end of their right operand, and definitions of processes.
+/// The most constructs that may be open at once in a text (this project's profile): parentheses, prefixes, hide forms,
+/// binary operators up to the end of their right operand, and definitions of processes.
 pub const NESTING_LIMIT: usize = 200;
 
 /// The tree of the specification that a text spells.
@@ -34,11 +35,13 @@ pub const NESTING_LIMIT: usize = 200;
 /// the heap was refused.
 pub fn parse(alloc: Global, text: &[u8]) -> Result<Specification, TextFault>
     ensures spelled { IfOk result (λ found. Spelled text.now (definition_of found.whole)) }
-    ensures only { IfOk result (λ found. (other : Def) → Spelled text.now other → other ≡ definition_of found.whole) }
+    ensures only { IfOk result (λ found. (other : Def) → Spelled text.now other →
+        other ≡ definition_of found.whole) }
     ensures refused { IfErr result (IsRefused text.now) }
     ensures nothing { IfErr result (SpellsNothing text.now) }
     ensures fault_inside { IfErr result (IsFaultInside (length text.now)) }
-    ensures tree_inside { IfOk result (λ found. IsInside (length text.now) (definition_of found.whole)) }
+    ensures tree_inside { IfOk result
+        (λ found. IsInside (length text.now) (definition_of found.whole)) }
 {
     let cut = tokens(alloc, text)?;
     match specification(alloc, text, cut.as_slice()) {
@@ -95,9 +98,10 @@ fn specification<'a>(
     text: &[u8],
     tokens: &'a [Token],
 ) -> Result<Definition, Stop<'a>>
-    requires { AllStand text.now tokens.now }
-    ensures found { IfOk result (λ whole. Found (Whole text.now (Some 200)) tokens.now (definition_of whole) []) }
-    ensures lost { IfErr result (IsLostWithin (Whole text.now) 200 tokens.now) }
+    requires { AllLieIn text.now tokens.now }
+    ensures found { IfOk result
+        (λ whole. Found (Whole text.now (Some deepest_nesting)) tokens.now (definition_of whole) []) }
+    ensures lost { IfErr result (IsLostWithin (Whole text.now) deepest_nesting tokens.now) }
 {
     let (_, rest) = expect(tokens, TokenKind::Reserved(Word::SpecificationWord))?;
     let (whole, rest) = contents(alloc, text, NESTING_LIMIT, Defined::Specification, rest)?;
@@ -153,9 +157,10 @@ fn contents<'a>(
     what: Defined,
     tokens: &'a [Token],
 ) -> Result<(Definition, &'a [Token]), Stop<'a>>
-    requires { AllStand text.now tokens.now }
-    ensures found { IfOk result (λ p. Found (Contents text.now (defined_of what) (Some room)) tokens.now (definition_of p.0) p.1.now) }
-    ensures rest { IfOk result (λ p. AllStand text.now p.1.now) }
+    requires { AllLieIn text.now tokens.now }
+    ensures found { IfOk result
+        (λ p. Found (Contents text.now (defined_of what) (Some room)) tokens.now (definition_of p.0) p.1.now) }
+    ensures rest { IfOk result (λ p. AllLieIn text.now p.1.now) }
     ensures shorter { IfOk result (λ p. length p.1.now < length tokens.now) }
     ensures lost { IfErr result (IsLostWithin (Contents text.now (defined_of what)) room tokens.now) }
 {
@@ -188,9 +193,10 @@ fn header<'a>(
     text: &[u8],
     tokens: &'a [Token],
 ) -> Result<(Heading, &'a [Token]), Stop<'a>>
-    requires { AllStand text.now tokens.now }
-    ensures found { IfOk result (λ p. Found (Header text.now) tokens.now (p.0.name, p.0.formals.items, p.0.functionality) p.1.now) }
-    ensures rest { IfOk result (λ p. AllStand text.now p.1.now) }
+    requires { AllLieIn text.now tokens.now }
+    ensures found { IfOk result
+        (λ p. Found (Header text.now) tokens.now (p.0.name, p.0.formals.items, p.0.functionality) p.1.now) }
+    ensures rest { IfOk result (λ p. AllLieIn text.now p.1.now) }
     ensures shorter { IfOk result (λ p. length p.1.now < length tokens.now) }
     ensures lost { IfErr result (IsLost (Header text.now) tokens.now) }
 {
@@ -214,9 +220,10 @@ fn inner<'a>(
     room: usize,
     tokens: &'a [Token],
 ) -> Result<(Vec<Definition>, &'a [Token]), Stop<'a>>
-    requires { AllStand text.now tokens.now }
-    ensures found { IfOk result (λ p. Found (Inner text.now (Some room)) tokens.now (definitions_of p.0.items) p.1.now) }
-    ensures rest { IfOk result (λ p. AllStand text.now p.1.now) }
+    requires { AllLieIn text.now tokens.now }
+    ensures found { IfOk result
+        (λ p. Found (Inner text.now (Some room)) tokens.now (definitions_of p.0.items) p.1.now) }
+    ensures rest { IfOk result (λ p. AllLieIn text.now p.1.now) }
     ensures shorter { IfOk result (λ p. length p.1.now ≤ length tokens.now) }
     ensures lost { IfErr result (IsLostWithin (Inner text.now) room tokens.now) }
 {
@@ -234,9 +241,10 @@ fn row<'a>(
     room: usize,
     tokens: &'a [Token],
 ) -> Result<(Vec<Definition>, &'a [Token]), Stop<'a>>
-    requires { AllStand text.now tokens.now }
-    ensures found { IfOk result (λ p. Found (Row text.now (Some room)) tokens.now (definitions_of p.0.items) p.1.now) }
-    ensures rest { IfOk result (λ p. AllStand text.now p.1.now) }
+    requires { AllLieIn text.now tokens.now }
+    ensures found { IfOk result
+        (λ p. Found (Row text.now (Some room)) tokens.now (definitions_of p.0.items) p.1.now) }
+    ensures rest { IfOk result (λ p. AllLieIn text.now p.1.now) }
     ensures shorter { IfOk result (λ p. length p.1.now < length tokens.now) }
     ensures lost { IfErr result (IsLostWithin (Row text.now) room tokens.now) }
 {

@@ -1,6 +1,6 @@
 //! Trees of specifications.
 //!
-//! The forms are those of ISO 8807:1989, behaviour expressions and process definitions. Brackets leave nothing in a tree.
+//! The forms are those of ISO 8807:1989, behaviour expressions and process definitions. Parentheses leave nothing in a tree.
 ghost use Rattle.std.specs.Prelude.{◌≡◌, IfOk};
 ghost use Rattle.lotos_text.specs.Tree as plain_tree;
 ghost use Rattle.lotos_text.specs.Grammar.{join};
@@ -25,7 +25,8 @@ pub enum Action {
     Gate(Placed),
 }
 
-/// Whether a behaviour may terminate.
+/// What a definition declares of its termination. `noexit` promises that the behaviour never terminates successfully. `exit`
+/// promises nothing: `P := x; P` is declared `exit` and never ends.
 #[derive(Clone, Copy, Debug, PartialEq, Eq)]
 pub enum Functionality {
     Exit,

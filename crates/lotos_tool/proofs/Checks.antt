@@ -26,6 +26,8 @@ check_ended left left' got mid got' system lines (Complete counted) read front c
   count = h.0 ∙ count;
 }
 check_ended left left' got mid got' system lines (Refused cause) read front count h = absurd h
+check_ended left left' got mid got' system lines (Stopped kept why.Limit) read front count h = absurd h
+check_ended left left' got mid got' system lines (Stopped kept (why.OverTerms prefix)) read front count h = absurd h
 check_ended left left' got mid got' system lines (Stopped kept why.Memory) read front count h = absurd h
 check_ended left left' got mid got' system lines (Stopped kept why.Write) read front count h = record {
   text = read.text;

@@ -35,7 +35,7 @@ pub broken_unaccepted : (text : List ℕ) (fault : CheckFault) (at : ℕ) → Is
 broken_unaccepted text fault at broken stands system a =
     refused fault broken.refused stands (subst (λ w. IsAccepted w system) (broken.only a.whole a.spelled) a.accepted)
   where
-    refused : (fault : CheckFault) → check.IsRefused broken.whole fault → offset_of fault ≡ Some at → IsAccepted broken.whole system → ⊥
+    refused : (fault : CheckFault) → check.IsNowhereAccepted broken.whole fault → offset_of fault ≡ Some at → IsAccepted broken.whole system → ⊥
     refused (E99 e) h s accepted = absurd cc
     refused (E20 gate) h s accepted = h system accepted
     refused (E21 gate) h s accepted = h system accepted
@@ -63,7 +63,7 @@ broken_at text fault at line column broken stands placed = record {
 
 pub unread : (left left' : Option (List ℕ)) (text : List ℕ) (u : Unaccepted) → ReadsWhole left left' text → IsUnaccepted text u → IsUnread left left' u
 unread left left' text unaccepted.Memory r h = (text, (let w = r.within in omega arith), r.bytes)
-unread left left' text (unaccepted.Refused refusal.E30) r h = absurd h
+unread left left' text (unaccepted.Refused (refusal.Mark fault)) r h = absurd h
 unread left left' text (unaccepted.Refused (refusal.Check fault line column)) r h = record {
   text = text;
   whole = h.whole;

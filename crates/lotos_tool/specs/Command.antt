@@ -1,10 +1,10 @@
 -- The command line of the program, as clap reads it.
-use Rattle.std.specs.Prelude.{true, codes, pos, Some}
+use Rattle.std.specs.Prelude.{true, codes, pos, Some, [], ◌∷◌}
 use Rattle.clap.specs.Words.{App, Rule, new_app, new_rule, with_rule, with_subcommand}
 use Rattle.clap.specs.Lexer.{usize_max}
 use Rattle.clap.specs.Simple.{on_top}
-use Rattle.clap.specs.declared.builder.action.ArgAction.TheVariants.{Append, Set}
-use Rattle.clap.specs.declared.builder.value_parser.ValueParser.TheVariants.{Signed}
+use Rattle.clap.specs.declared.builder.action.ArgAction.TheVariants.{Append, Set, SetTrue}
+use Rattle.clap.specs.declared.builder.value_parser.ValueParser.TheVariants.{Signed, Unsigned}
 
 -- `--depth N`, which must be given once, with a number from 0 to 255
 abbrev pub depth_rule : Rule
@@ -16,6 +16,47 @@ depth_rule = record (new_rule (codes "depth")) {
   parser = Some (Signed (pos 0) (pos 255));
 }
 
+-- `--limit N`, with a number from 1 to 1,000,000,000
+abbrev pub limit_rule : Rule
+limit_rule = record (new_rule (codes "limit")) {
+  long = Some (codes "limit");
+  action = Some Set;
+  value_names = 1;
+  parser = Some (Signed (pos 1) (pos 1000000000));
+}
+
+-- `--terms N`, with a number from 1 to 1,000,000; 100,000 where it is not given
+abbrev pub terms_rule : Rule
+terms_rule = record (new_rule (codes "terms")) {
+  long = Some (codes "terms");
+  action = Some Set;
+  value_names = 1;
+  parser = Some (Unsigned 1 1000000);
+  defaults = codes "100000" ∷ [];
+}
+
+-- `--after LINE`, with any text
+abbrev pub after_rule : Rule
+after_rule = record (new_rule (codes "after")) {
+  long = Some (codes "after");
+  action = Some Set;
+  value_names = 1;
+}
+
+-- `--explain`
+abbrev pub explain_rule : Rule
+explain_rule = record (new_rule (codes "explain")) {
+  long = Some (codes "explain");
+  action = Some SetTrue;
+}
+
+-- `--strong`
+abbrev pub strong_rule : Rule
+strong_rule = record (new_rule (codes "strong")) {
+  long = Some (codes "strong");
+  action = Some SetTrue;
+}
+
 -- `WORD ..`, all that is no option, in its order
 abbrev pub words_rule : Rule
 words_rule = record (new_rule (codes "words")) {
@@ -24,9 +65,11 @@ words_rule = record (new_rule (codes "words")) {
   value_names = 1;
 }
 
--- `search --depth N [WORD ..]`
+-- `search --depth N [--limit N] [--terms N] [--after LINE] [--explain] [--strong] [WORD ..]`
 abbrev pub search_app : App
-search_app = with_rule (with_rule (new_app (codes "search")) depth_rule) words_rule
+search_app =
+    with_rule (with_rule (with_rule (with_rule (with_rule (with_rule (with_rule (new_app (codes "search"))
+    depth_rule) limit_rule) terms_rule) after_rule) explain_rule) strong_rule) words_rule
 
 -- `check`
 abbrev pub check_app : App

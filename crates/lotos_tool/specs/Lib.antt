@@ -1,11 +1,4 @@
-pub mod Labels
-pub mod Derivations
-pub mod Listing
-pub mod Steps
-pub mod Sequential
 pub mod Accepted
-pub mod ElementWords
-pub mod Finding
 pub mod Lines
 pub mod Device
 pub mod Reading

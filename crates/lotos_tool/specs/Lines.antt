@@ -1,23 +1,37 @@
 -- The lines of a listing, and those of the processes of a system.
-use Rattle.std.specs.Prelude.{ℕ, List, [], ◌∷◌, ◌++◌, codes, decimal, length}
+use Rattle.std.specs.Prelude.{ℕ, Bool, true, false, List, [], ◌∷◌, ◌++◌, codes, decimal, length, map}
 use Rattle.std.specs.List.{flat_map}
 use Rattle.lotos_text.specs.declared.tree.Functionality.{Functionality}
 use Rattle.lotos_text.specs.declared.tree.Functionality.TheVariants.{Exit, NoExit}
 use Rattle.lotos_check.specs.Flat.{FlatProcess, System}
-use Rattle.lotos_tool.specs.Labels.{Label}
+use Rattle.lotos_search.specs.Order.{Label}
+
+-- an item of a listing: a sequence, and its least word
+pub record Item : Type 0 where
+  pub sequence : List Label
+  pub word : List Label
+
+-- the sequences of items
+abbrev pub sequences : List Item → List (List Label)
+sequences items = map (λ item. item.sequence) items
 
 -- a sequence as text: its labels, separated by one blank
 abbrev pub spelled : List Label → List ℕ
 spelled [] = codes "<empty>"
 spelled (l ∷ rest) = l ++ flat_map (λ m. 32 ∷ m) rest
 
--- its line, which a line feed ends
-abbrev pub line_of : List Label → List ℕ
-line_of s = spelled s ++ 10 ∷ []
+-- what a line says behind its sequence: nothing, or where words are asked for ` : ` and the word
+abbrev pub explained : (explain : Bool) → List Label → List ℕ
+explained false word = []
+explained true word = codes " : " ++ spelled word
 
--- the lines of a list of sequences
-abbrev pub lines_of : List (List Label) → List ℕ
-lines_of items = flat_map line_of items
+-- the line of an item, which a line feed ends
+abbrev pub line_of : (explain : Bool) → Item → List ℕ
+line_of explain item = spelled item.sequence ++ explained explain item.word ++ 10 ∷ []
+
+-- the lines of a list of items
+abbrev pub lines_of : (explain : Bool) → List Item → List ℕ
+lines_of explain items = flat_map (λ item. line_of explain item) items
 
 -- a functionality as text
 abbrev pub functionality_text : Functionality → List ℕ

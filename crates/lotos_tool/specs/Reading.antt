@@ -1,6 +1,7 @@
 -- What reading a whole text answers.
 use Rattle.std.specs.Prelude.{◌≡◌, ℕ, ◌≤◌, Bool, true, false, List, length, Option, Result, Err}
 use Rattle.std.specs.Io.KnownBytes.{Consumes, IsAtEnd}
+use Rattle.lotos_text.specs.Profile.{longest_text}
 use Rattle.lotos_tool.specs.declared.reading.ReadFault.{ReadFault}
 use Rattle.lotos_tool.specs.declared.reading.ReadFault.TheVariants.{Device}
 
@@ -8,7 +9,7 @@ use Rattle.lotos_tool.specs.declared.reading.ReadFault.TheVariants.{Device}
 pub record ReadsWhole (old new : Option (List ℕ)) (text : List ℕ) : Type 0 where
   pub bytes : Consumes old new text
   pub end : IsAtEnd new
-  pub within : length text ≤ 1048576
+  pub within : length text ≤ longest_text
 
 -- at most so many bytes were taken
 abbrev pub TakesAtMost : Option (List ℕ) → Option (List ℕ) → ℕ → Type 0

@@ -1,9 +1,10 @@
 -- The request that the words of the command spell.
-use Rattle.std.specs.Prelude.{◌≡◌, ℕ, List, [], map, codes, Option, Some, None, if◌then◌else◌, option_map, option_and_then, unwrap_or, string_bytes}
+use Rattle.std.specs.Prelude.{◌≡◌, ◌≤◌, ℕ, Bool, false, List, [], map, codes, Option, Some, None, if◌then◌else◌, option_map, option_and_then, unwrap_or, string_bytes, IfSome, ⊤}
+use Rattle.std.specs.Option.{option_map_or}
 use Rattle.std.specs.Str.{bytes_eq}
 use Rattle.std.specs.Str.Parse.{digits_value, without_leading_plus}
 use Rattle.std.specs.Borrow.{Bor}
-use Rattle.clap.specs.Words.{Row, Text, all_of, fault_of, one_of, subcommand_of}
+use Rattle.clap.specs.Words.{Row, Text, all_of, fault_of, first_of, one_of, subcommand_of}
 use Rattle.lotos_tool.specs.Command.{lotosseq}
 use Rattle.lotos_tool.specs.declared.command.Request.{Request}
 use Rattle.lotos_tool.specs.declared.command.Request.TheVariants as asked
@@ -16,6 +17,11 @@ texts_of words = map (λ word. word.now) words
 -- a search, with texts for strings
 pub record SearchView : Type 0 where
   pub depth : ℕ
+  pub limit : Option ℕ
+  pub terms : ℕ
+  pub after : Option Text
+  pub explain : Bool
+  pub strong : Bool
   pub words : List Text
 
 -- a request, with texts for strings
@@ -24,7 +30,15 @@ pub data RequestView : Type 0 where
   search : SearchView → RequestView
 
 abbrev pub search_view : SearchRequest → SearchView
-search_view request = record { depth = request.depth; words = map string_bytes request.words.items }
+search_view request = record {
+  depth = request.depth;
+  limit = request.limit;
+  terms = request.terms;
+  after = option_map string_bytes request.after;
+  explain = request.explain;
+  strong = request.strong;
+  words = map string_bytes request.words.items;
+}
 
 abbrev pub request_view : Request → RequestView
 request_view asked.Check = check
@@ -34,11 +48,21 @@ request_view (asked.Search request) = search (search_view request)
 abbrev pub number : Text → ℕ
 number text = digits_value 10 (without_leading_plus text)
 
+-- whether the flag with this name was given
+abbrev pub flag : Text → List Row → Bool
+flag name rows = option_map_or (bytes_eq (codes "true")) (one_of name rows) false
+
 -- the search that the entries of the subcommand `search` spell
 abbrev pub search_from : List Row → Option SearchView
-search_from rows =
-    option_map (λ depth. record { depth = number depth; words = unwrap_or (all_of (codes "words") rows) [] })
-    (one_of (codes "depth") rows)
+search_from rows = option_map (λ depth. record {
+  depth = number depth;
+  limit = option_map number (one_of (codes "limit") rows);
+  terms = option_map_or number (one_of (codes "terms") rows) 100000;
+  after = first_of (codes "after") rows;
+  explain = flag (codes "explain") rows;
+  strong = flag (codes "strong") rows;
+  words = unwrap_or (all_of (codes "words") rows) [];
+}) (one_of (codes "depth") rows)
 
 -- the request that a subcommand of this name with these entries spells
 abbrev pub request_named : Text → List Row → Option RequestView
@@ -58,3 +82,13 @@ request_of words = request_from (subcommand_of lotosseq words)
 pub record RequestOf (words : List Text) (request : RequestView) : Type 0 where
   pub faultless : fault_of lotosseq words ≡ []
   pub reads : request_of words ≡ Some request
+
+-- the number of terms that a prefix may reach, and a limit that is given, are at least 1
+pub record HasSearchBounds (request : SearchRequest) : Type 0 where
+  pub terms : 1 ≤ request.terms
+  pub limit : IfSome request.limit (λ n. 1 ≤ n)
+
+-- a search has these bounds
+abbrev pub HasBounds : Request → Type 0
+HasBounds asked.Check = ⊤
+HasBounds (asked.Search request) = HasSearchBounds request

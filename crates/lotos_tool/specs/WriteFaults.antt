@@ -1,9 +1,9 @@
 -- Whether a write failed.
-use Rattle.std.specs.Prelude.{Bool, true, false, Result, Err}
+use Rattle.std.specs.Prelude.{Bool, false, Result, Ok, Err}
+use Rattle.lotos_tool.specs.Answers.{is_output_cause}
 use Rattle.lotos_tool.specs.declared.answer.Why.{Why}
-use Rattle.lotos_tool.specs.declared.answer.Why.TheVariants.{Write}
 
 -- the writer failed
 abbrev pub is_write_fault : {T : Type 0} → Result T Why → Bool
-is_write_fault (Err Write) = true
-is_write_fault _ = false
+is_write_fault (Ok value) = false
+is_write_fault (Err cause) = is_output_cause cause

@@ -1,6 +1,7 @@
 //! Reads a text and accepts its specification, or says why not.
 ghost use Rattle.std.specs.Prelude.{◌≡◌, ◌≤◌, IfOk, IfErr, false, length};
 ghost use Rattle.lotos_text.specs.Inside.{IsFaultInside};
+ghost use Rattle.lotos_text.specs.Profile.{longest_text};
 ghost use Rattle.lotos_text.specs.Refused.{IsRefused, SpellsNothing};
 ghost use Rattle.lotos_check.specs.Places.{StandsInside};
 ghost use Rattle.lotos_check.specs.View.{system_of};
@@ -45,7 +46,7 @@ pub fn read_specification<R: Source>(alloc: Global, reader: &mut R) -> Result<Ch
 
 /// The specification that a text is accepted as.
 fn accept(alloc: Global, text: &[u8]) -> Result<Checked, Unaccepted>
-    requires { length text.now ≤ 1048576 }
+    requires { length text.now ≤ longest_text }
     ensures accepted { IfOk result (λ found. Accepted text.now (system_of found)) }
     ensures refused { IfErr result (IsUnaccepted text.now) }
 {

@@ -13,9 +13,13 @@ pub enum Ended {
     Stopped { last: Option<String>, why: Why },
 }
 
-/// Why a search or a check stopped.
-#[derive(Clone, Copy, Debug, PartialEq, Eq)]
+/// Why a search or a check stopped. A check has no limit, and no prefixes.
+#[derive(Debug, Drop)]
 pub enum Why {
+    /// The lines of the limit are written.
+    Limit,
+    /// This prefix, the first that does, can still match and reaches more terms than were allowed.
+    OverTerms(String),
     /// A growth of the heap was refused.
     Memory,
     /// The output could not be written.

@@ -16,6 +16,16 @@ pub enum Request {
 pub struct SearchRequest {
     /// The most steps of a derivation, internal ones counted.
     pub depth: u8,
+    /// The most lines that are written, at least 1.
+    pub limit: Option<u32>,
+    /// The most terms that a prefix may reach, at least 1.
+    pub terms: usize,
+    /// A line of a listing: only what stands after its sequence is listed.
+    pub after: Option<String>,
+    /// Whether a line has the least word too.
+    pub explain: bool,
+    /// Whether the internal action is a label like others.
+    pub strong: bool,
     /// The words of the pattern.
     pub words: Vec<String>,
 }

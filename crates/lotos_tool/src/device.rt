@@ -21,7 +21,8 @@ pub trait Source {
     /// Whether a call has failed.
     ghost has_failed: { Self → Bool };
 
-    /// Moves bytes to the front of `into` and answers how many: none, where there is room, only at the end.
+    /// Moves bytes to the front of `into` and answers how many: none, where there is room, only at the end. A failure takes
+    /// none.
     fn read(&mut self, into: &mut [u8]) -> Result<usize, DeviceFailed>
         ensures bytes { Reads (left self.old) (left self.new) result into.new }
         ensures flag { Flags (has_failed self.old) (has_failed self.new) result };

@@ -4,8 +4,6 @@
 //! [`request`] reads the words, [`list`] reads a text and writes the listing, [`check_text`] reads a text and writes its
 //! processes, and [`run`] does what the words ask for and answers the status. Readers and writers are a [`Source`] and a
 //! [`Sink`]; [`FromRead`] and [`FromWrite`] make them of std's.
-//!
-//! The module `interim_search` stands in for a crate to come, that of the search over terms.
 #![tactic(auto)]
 
 mod accepting;
@@ -13,8 +11,8 @@ mod answer;
 mod checking;
 mod command;
 mod device;
-mod interim_search;
 mod lines;
+mod listing;
 mod message;
 mod reading;
 mod refusal;

@@ -1,35 +1,68 @@
 //! Sequences and processes as text.
-ghost use Rattle.std.specs.Prelude.{◌≡◌, ◌∷◌, [], ◌++◌, IfOk, OnOk, flat_map, map, string_bytes};
+ghost use Rattle.std.specs.Prelude.{◌≡◌, ◌∷◌, [], ◌++◌, IfOk, List, OnOk, flat_map, map, string_bytes, true};
 ghost use Rattle.lotos_check.specs.View.{process_of};
-ghost use Rattle.lotos_tool.specs.Lines.{functionality_text, process_line, spelled};
+ghost use Rattle.lotos_search.specs.Order.{Label as Text};
+ghost use Rattle.lotos_search.specs.Searched.{AreShown};
+ghost use Rattle.lotos_tool.specs.Lines.{explained, functionality_text, process_line, spelled};
 
 use itoa::Buffer;
 use lotos_check::Process;
+use lotos_search::Search;
+use lotos_terms::Label;
 use lotos_text::Functionality;
 use std::alloc::{AllocError, Global};
 
-/// A sequence as text: its printed labels, separated by one blank, or `<empty>`.
-pub fn spell(alloc: Global, labels: &[String]) -> Result<String, AllocError>
-    ensures { IfOk result (λ text. string_bytes text ≡ spelled (map string_bytes labels.now)) }
+/// A sequence as text: its printed labels, separated by one blank, or `<empty>`. The labels are those of the search.
+pub fn spell(alloc: Global, search: &Search, labels: &[Label]) -> Result<String, AllocError>
+    requires { (s : List Text) × AreShown search.now.searched.names labels.now s }
+    ensures { IfOk result (λ text. (s : List Text) → AreShown search.now.searched.names labels.now s →
+        string_bytes text ≡ spelled s) }
 {
     let Some((first, rest)) = labels.split_first() else {
         return String::from_str(alloc, "<empty>");
     };
-    let mut text = String::from_str(alloc, first.as_str())?;
+    let mut text = String::from_str(alloc, search.label_text(*first))?;
     for label in rest {
         text.push_str(" ")?;
-        text.push_str(label.as_str())?;
+        text.push_str(search.label_text(*label))?;
     }
     Ok(text)
 }
 
-/// The line of a text.
-pub fn line(alloc: Global, text: &str) -> Result<Vec<u8>, AllocError>
-    ensures { IfOk result (λ line. line.items ≡ text.now ++ 10 ∷ []) }
+/// The line of a sequence with this text, and with this word where words are asked for.
+pub fn line(
+    alloc: Global,
+    search: &Search,
+    text: &str,
+    word: &[Label],
+    explain: bool,
+) -> Result<Vec<u8>, AllocError>
+    requires { (w : List Text) × AreShown search.now.searched.names word.now w }
+    ensures { IfOk result (λ line. (w : List Text) → AreShown search.now.searched.names word.now w →
+        line.items ≡ text.now ++ explained explain w ++ 10 ∷ []) }
 {
     let mut line = Vec::from_slice(alloc, text.as_bytes())?;
+    if explain {
+        add_word(alloc, search, word, &mut line)?;
+    }
     line.push(b'\n')?;
     Ok(line)
+}
+
+/// Adds what a line says of a word.
+fn add_word(
+    alloc: Global,
+    search: &Search,
+    word: &[Label],
+    line: &mut Vec<u8>,
+) -> Result<(), AllocError>
+    requires { (w : List Text) × AreShown search.now.searched.names word.now w }
+    ensures { OnOk result ((w : List Text) → AreShown search.now.searched.names word.now w →
+        line.new.items ≡ line.old.items ++ explained true w) }
+{
+    let text = spell(alloc, search, word)?;
+    line.extend_from_slice(b" : ")?;
+    line.extend_from_slice(text.as_bytes())
 }
 
 /// The lines of the processes, in their order.

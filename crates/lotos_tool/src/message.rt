@@ -11,17 +11,18 @@ pub(crate) fn tell_refusal<E: Write>(err: &mut E, refusal: &Refusal) {
     let _ = writeln!(err, "lotosseq: {refusal}");
 }
 
-/// Says after which sequence a search stopped, and why.
-pub(crate) fn tell_stop<E: Write>(err: &mut E, last: &Option<String>, why: Why) {
+/// Says after which sequence a search stopped, and why. A prefix could reach so many terms.
+pub(crate) fn tell_stop<E: Write>(err: &mut E, last: &Option<String>, why: &Why, terms: usize) {
+    let cause = Cause { why, terms };
     let _ = match last {
-        Some(sequence) => writeln!(err, "lotosseq: stopped after {sequence}: {why}"),
-        None => writeln!(err, "lotosseq: stopped before the first line: {why}"),
+        Some(sequence) => writeln!(err, "lotosseq: stopped after {sequence}: {cause}"),
+        None => writeln!(err, "lotosseq: stopped before the first line: {cause}"),
     };
 }
 
 /// Says why a command that lists no sequences failed.
-pub(crate) fn tell_failure<E: Write>(err: &mut E, why: Why) {
-    let _ = writeln!(err, "lotosseq: {why}");
+pub(crate) fn tell_failure<E: Write>(err: &mut E, why: &Why) {
+    let _ = writeln!(err, "lotosseq: {}", Cause { why, terms: 0 });
 }
 
 /// Passes on a text that has its own line feeds.
@@ -29,12 +30,23 @@ pub(crate) fn tell_text<E: Write>(err: &mut E, text: &str) {
     let _ = write!(err, "{text}");
 }
 
-impl fmt::Display for Why {
+/// Why a search or a check stopped, and how many terms a prefix could reach.
+#[derive(Drop)]
+struct Cause<'a> {
+    why: &'a Why,
+    terms: usize,
+}
+
+impl fmt::Display for Cause<'_> {
     fn fmt<W: fmt::Write>(&self, f: &mut fmt::Formatter<W>) -> fmt::Result {
-        f.write_str(match self {
-            Why::Memory => "E99 out of memory",
-            Why::Write => "output cannot be written",
-        })
+        match self.why {
+            Why::Limit => f.write_str("limit reached"),
+            Why::OverTerms(prefix) => {
+                write!(f, "more than {} terms at {prefix}", Number(self.terms))
+            }
+            Why::Memory => f.write_str("E99 out of memory"),
+            Why::Write => f.write_str("output cannot be written"),
+        }
     }
 }
 

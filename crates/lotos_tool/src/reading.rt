@@ -1,5 +1,6 @@
 //! Reads a whole text, and no more than a text may have.
-ghost use Rattle.std.specs.Prelude.{◌≡◌, false, IfOk, IsErrOf};
+ghost use Rattle.std.specs.Prelude.{◌≡◌, ◌+◌, false, IfOk, IsErrOf};
+ghost use Rattle.lotos_text.specs.Profile.{longest_text};
 ghost use Rattle.lotos_tool.specs.Reading.{ReadsWhole, TakesAtMost, TakesExactly, is_device_fault};
 
 use crate::device::{DeviceFailed, Source};
@@ -33,8 +34,12 @@ pub fn read_text<R: Source>(alloc: Global, reader: &mut R) -> Result<Vec<u8>, Re
     requires { R.has_failed reader.old ≡ false }
     ensures whole { IfOk result (λ text. ReadsWhole (R.left reader.old) (R.left reader.new) text.items) }
     ensures failed { R.has_failed reader.new ≡ is_device_fault result }
-    ensures too_long { IsErrOf result ReadFault.TooLong → TakesExactly (R.left reader.old) (R.left reader.new) 1048577 }
-    ensures memory { IsErrOf result ReadFault.Memory → TakesAtMost (R.left reader.old) (R.left reader.new) 1048577 }
+    ensures too_long { IsErrOf result ReadFault.TooLong →
+        TakesExactly (R.left reader.old) (R.left reader.new) (longest_text + 1) }
+    ensures memory { IsErrOf result ReadFault.Memory →
+        TakesAtMost (R.left reader.old) (R.left reader.new) (longest_text + 1) }
+    ensures device { IsErrOf result ReadFault.Device →
+        TakesAtMost (R.left reader.old) (R.left reader.new) longest_text }
 {
     let mut text = Vec::new(alloc);
     let mut piece = [0; PIECE_SIZE];

@@ -3,6 +3,7 @@
 use crate::message::At;
 use lotos_check::CheckFault;
 use lotos_pattern::PatternFault;
+use lotos_search::MarkFault;
 use lotos_text::TextFault;
 use thiserror::Error;
 
@@ -15,10 +16,6 @@ pub enum Refusal {
         fault: TextFault,
         place: Option<(usize, usize)>,
     },
-    /// The pattern has a word that begins with `<`; or the behaviour of the specification, which meets the static rules, has a
-    /// parallel expression, hiding, enabling, disabling, or a call. Neither is searched yet.
-    #[error("E30 form is not searched yet")]
-    E30,
     /// The specification breaks a static rule. The place is that of the fault's offset. No fault here is E99.
     #[error("{}{}", At(Some((*.line, *.column))), .fault)]
     Check {
@@ -29,6 +26,9 @@ pub enum Refusal {
     /// The words of the pattern spell none. No fault here is E99.
     #[error(transparent)]
     Pattern(PatternFault),
+    /// The line of the mark is none of a listing. No fault here is E99.
+    #[error(transparent)]
+    Mark(MarkFault),
     /// The input cannot be read.
     #[error("E47 input cannot be read")]
     E47,

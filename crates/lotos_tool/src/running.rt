@@ -1,9 +1,9 @@
 //! The command from its words to its status.
 ghost use Rattle.std.specs.Prelude.{◌≡◌, ◌==◌, false, OnOk, OnErr, is_err};
 ghost use Rattle.std.specs.Io.KnownBytes.{Appends};
-ghost use Rattle.lotos_tool.specs.Answers.{is_output_fault};
+ghost use Rattle.lotos_tool.specs.Answers.{is_output_cause, is_output_fault};
 ghost use Rattle.lotos_tool.specs.Request.{texts_of};
-ghost use Rattle.lotos_tool.specs.Runs.{Ran, Shown, check_status_of, status_of};
+ghost use Rattle.lotos_tool.specs.Runs.{Ran, Shown, check_status_of, status_of, stop_status_of};
 ghost use Rattle.lotos_tool.specs.Writing.{AppendsBeginning};
 
 use crate::answer::{Ended, Why};
@@ -30,26 +30,31 @@ pub fn run<R: Source, W: Sink, E: Write>(
 ) -> u8
     requires reader { R.has_failed reader.old ≡ false }
     requires out { W.has_failed out.old ≡ false }
-    ensures ran { Ran (texts_of words.now) (R.left reader.old) (R.left reader.new) (W.got out.old) (W.got out.new) result }
+    ensures ran { Ran (texts_of words.now) (R.left reader.old) (R.left reader.new) (W.got out.old) (W.got out.new)
+        (R.has_failed reader.new) result }
     ensures output { W.has_failed out.new ≡ (result == 6) }
 {
     match request(alloc, words) {
         Ok(Request::Check) => end_check(&check_text(alloc, reader, out), err),
-        Ok(Request::Search(search)) => end_search(&list(alloc, &search, reader, out), err),
+        Ok(Request::Search(search)) => end_search(
+            &list(alloc, &search, reader, out),
+            search.terms,
+            err,
+        ),
         Err(CommandFault::Help(text)) => show_help(text.as_str(), out, err),
         Err(CommandFault::Wrong(text)) => {
             tell_text(err, text.as_str());
             2
         }
         Err(CommandFault::Memory) => {
-            tell_failure(err, Why::Memory);
+            tell_failure(err, &Why::Memory);
             5
         }
     }
 }
 
-/// Tells of a search that is not complete, and answers its status.
-fn end_search<E: Write>(ended: &Ended, err: &mut E) -> u8
+/// Tells of a search that is not complete, and answers its status. A prefix could reach so many terms.
+fn end_search<E: Write>(ended: &Ended, terms: usize, err: &mut E) -> u8
     ensures status { result ≡ status_of ended.now }
     ensures output { is_output_fault ended.now ≡ (result == 6) }
 {
@@ -61,11 +66,8 @@ fn end_search<E: Write>(ended: &Ended, err: &mut E) -> u8
             2
         }
         Ended::Stopped { last, why } => {
-            tell_stop(err, last, *why);
-            match why {
-                Why::Memory => 5,
-                Why::Write => 6,
-            }
+            tell_stop(err, last, why, terms);
+            stop_status(why)
         }
     }
 }
@@ -82,12 +84,22 @@ fn end_check<E: Write>(ended: &Ended, err: &mut E) -> u8
             2
         }
         Ended::Stopped { last: _, why } => {
-            tell_failure(err, *why);
-            match why {
-                Why::Memory => 5,
-                Why::Write => 6,
-            }
+            tell_failure(err, why);
+            stop_status(why)
         }
+    }
+}
+
+/// The status of what stopped for this cause.
+fn stop_status(why: &Why) -> u8
+    ensures status { result ≡ stop_status_of why.now }
+    ensures output { is_output_cause why.now ≡ (result == 6) }
+{
+    match why {
+        Why::Limit => 3,
+        Why::OverTerms(_) => 4,
+        Why::Memory => 5,
+        Why::Write => 6,
     }
 }
 
@@ -100,7 +112,7 @@ fn show_help<W: Sink, E: Write>(text: &str, out: &mut W, err: &mut E) -> u8
     match write_whole(text, out) {
         Ok(()) => 0,
         Err(DeviceFailed) => {
-            tell_failure(err, Why::Write);
+            tell_failure(err, &Why::Write);
             6
         }
     }

@@ -1,10 +1,11 @@
 //! The search from end to end.
-ghost use Rattle.std.specs.Prelude.{◌≡◌, ◌↔◌, if◌then◌else◌, ◌∷◌, [], IfErr, IfOk, IsTrue, None, false, map, string_bytes};
+ghost use Rattle.std.specs.Prelude.{◌≡◌, ◌≤◌, IfErr, IfOk, None, Some, false, map, string_bytes};
+ghost use Rattle.lotos_check.specs.View.{system_of};
 ghost use Rattle.lotos_pattern.specs.Faults.{IsCause, SpellsNone};
 ghost use Rattle.lotos_pattern.specs.Spelling.{PatternOf, texts_of};
-ghost use Rattle.lotos_tool.specs.Answers.{Answers, is_input_fault, is_output_fault};
-ghost use Rattle.lotos_tool.specs.ElementWords.{HasElementWord, IsElementWord};
-ghost use Rattle.lotos_tool.specs.Searching.{IsListed, IsRefusedPattern};
+ghost use Rattle.lotos_tool.specs.Answers.{Answers, IsMarkOf, is_input_fault, is_output_fault};
+ghost use Rattle.lotos_tool.specs.Request.{HasSearchBounds};
+ghost use Rattle.lotos_tool.specs.Searching.{IsAskedOf, IsFaultOfMark, IsRefusedMark, IsRefusedPattern};
 ghost use Rattle.lotos_tool.specs.declared.answer.Ended.TheVariants.{Stopped};
 ghost use Rattle.lotos_tool.specs.declared.answer.Why.TheVariants.{Memory};
 
@@ -12,69 +13,63 @@ use crate::accepting::{Unaccepted, read_specification};
 use crate::answer::{Ended, Why};
 use crate::command::SearchRequest;
 use crate::device::{Sink, Source};
-use crate::interim_search::{find, is_sequential};
+use crate::listing::write_listing;
 use crate::refusal::Refusal;
-use crate::writing::{finish, write_sequence};
+use lotos_check::Checked;
 use lotos_pattern::{Pattern, PatternFault};
+use lotos_search::{Mark, MarkFault, Search};
+use lotos_terms::Table;
 use std::alloc::{AllocError, Global};
 
 /// Reads a specification and writes the listing of its sequences that match the request's pattern: those that some
 /// derivation of at most the request's depth of steps yields, each once, shorter first, then in the order of their labels.
+/// With a mark only those behind it are written.
 ///
-/// The words of the pattern are read first, and must then have no element that is not searched yet; then the text, whose
-/// specification is checked and whose behaviour must then have no form that is not searched yet. What is refused first is
-/// answered, with nothing written, and for the words with nothing read. A line is composed whole before its first byte is
-/// written. Where no fault came the writing ends with one flush. The reader and the writer have not failed yet.
+/// The words of the pattern are read first, then the mark, then the text, whose specification is checked. What is refused
+/// first is answered, with nothing written, and for the words and the mark with nothing read. A line is composed whole before
+/// its first byte is written. The listing stops when the limit's lines are written, at the first prefix that reaches more
+/// terms than the request allows, for want of memory, and where the output cannot be written. A complete listing, and one that
+/// stops at the limit or at such a prefix, ends with one flush. The reader and the writer have not failed yet.
 pub fn list<R: Source, W: Sink>(
     alloc: Global,
     request: &SearchRequest,
     reader: &mut R,
     writer: &mut W,
 ) -> Ended
+    requires bounds { HasSearchBounds request.now }
     requires reader { R.has_failed reader.old ≡ false }
     requires writer { W.has_failed writer.old ≡ false }
     ensures answers { Answers request.now (R.left reader.old) (R.left reader.new) (W.got writer.old) (W.got writer.new) result }
     ensures input { R.has_failed reader.new ≡ is_input_fault result }
     ensures output { W.has_failed writer.new ≡ is_output_fault result }
 {
-    let pattern = match read_pattern(alloc, request.words.as_slice()) {
+    let pattern = match read_pattern(alloc, request) {
         Ok(pattern) => pattern,
-        Err(fault) => return refused(fault),
+        Err(fault) => return refused_pattern(fault),
     };
-    if has_element(request.words.as_slice()) {
-        return Ended::Refused(Refusal::E30);
-    }
+    let mark = match read_mark(alloc, request) {
+        Ok(mark) => mark,
+        Err(fault) => return refused_mark(fault),
+    };
     let found = match read_specification(alloc, reader) {
         Ok(found) => found,
         Err(Unaccepted::Refused(refusal)) => return Ended::Refused(refusal),
         Err(Unaccepted::Memory) => return no_memory(),
     };
-    if !is_sequential(found.start()) {
-        return Ended::Refused(Refusal::E30);
-    }
-    let mut labels = Vec::new(alloc);
-    let place = pattern.begin();
-    match find(
-        alloc,
-        found.start(),
-        &pattern,
-        place,
-        request.depth,
-        &mut labels,
-    ) {
-        Ok(shown) => write_listing(alloc, labels.as_slice(), shown, writer),
-        Err(_) => no_memory(),
+    match begin(alloc, request, found, pattern, mark) {
+        Ok(mut search) => write_listing(alloc, request, &mut search, writer),
+        Err(AllocError) => no_memory(),
     }
 }
 
 /// The pattern that the words spell.
-fn read_pattern(alloc: Global, words: &[String]) -> Result<Pattern, PatternFault>
-    ensures pattern { IfOk result (PatternOf (map string_bytes words.now)) }
-    ensures cause { IfErr result (IsCause (map string_bytes words.now)) }
-    ensures nothing { IfErr result (SpellsNone (map string_bytes words.now)) }
+fn read_pattern(alloc: Global, request: &SearchRequest) -> Result<Pattern, PatternFault>
+    ensures pattern { IfOk result (PatternOf request.now.strong (map string_bytes request.now.words.items)) }
+    ensures cause { IfErr result (IsCause request.now.strong (map string_bytes request.now.words.items)) }
+    ensures nothing { IfErr result (SpellsNone request.now.strong (map string_bytes request.now.words.items)) }
 {
-    let texts = texts(alloc, words)?;
-    Pattern::read(alloc, texts.as_slice())
+    let texts = texts(alloc, request.words.as_slice())?;
+    Pattern::read(alloc, texts.as_slice(), request.strong)
 }
 
 /// The words, lent.
@@ -88,24 +83,36 @@ fn texts<'a>(alloc: Global, words: &'a [String]) -> Result<Vec<&'a str>, AllocEr
     Ok(texts)
 }
 
-/// Whether a word begins with `<`, as those of all elements but labels do.
-fn has_element(words: &[String]) -> bool
-    ensures { IsTrue result ↔ HasElementWord (map string_bytes words.now) }
+/// The mark of the line, if one is given.
+fn read_mark(alloc: Global, request: &SearchRequest) -> Result<Option<Mark>, MarkFault>
+    ensures mark { IfOk result (IsMarkOf request.now.strong request.now.after) }
+    ensures fault { IfErr result (IsFaultOfMark request.now.strong request.now.after) }
 {
-    words.iter().any(|word| is_element(word.as_bytes()))
-}
-
-fn is_element(word: &[u8]) -> bool
-    ensures { IsTrue result ↔ IsElementWord word.now }
-{
-    match word.first() {
-        Some(first) => *first == b'<',
-        None => false,
+    match &request.after {
+        Some(line) => Ok(Some(Mark::read(alloc, line.as_str(), request.strong)?)),
+        None => Ok(None),
     }
 }
 
+/// The search for what the request asks of a specification.
+fn begin(
+    alloc: Global,
+    request: &SearchRequest,
+    found: Checked,
+    pattern: Pattern,
+    mark: Option<Mark>,
+) -> Result<Search, AllocError>
+    requires { 1 ≤ request.now.terms }
+    ensures { IfOk result (IsAskedOf request.now (system_of found) pattern mark) }
+{
+    let table = Table::new(alloc, found)?;
+    // Its start tells that the table is sound.
+    let _ = table.start();
+    Search::begin(alloc, table, pattern, request.depth, mark, request.terms)
+}
+
 /// How a search ends whose words spell no pattern, for this fault.
-fn refused(fault: PatternFault) -> Ended
+fn refused_pattern(fault: PatternFault) -> Ended
     ensures { IsRefusedPattern fault result }
 {
     match fault {
@@ -113,8 +120,19 @@ fn refused(fault: PatternFault) -> Ended
         | PatternFault::E42(_)
         | PatternFault::E43(_)
         | PatternFault::E44(_)
-        | PatternFault::E45(_) => Ended::Refused(Refusal::Pattern(fault)),
+        | PatternFault::E45(_)
+        | PatternFault::E48(_) => Ended::Refused(Refusal::Pattern(fault)),
         PatternFault::E99(_) => no_memory(),
+    }
+}
+
+/// How a search ends whose mark is none, for this fault.
+fn refused_mark(fault: MarkFault) -> Ended
+    ensures { IsRefusedMark fault result }
+{
+    match fault {
+        MarkFault::E46 => Ended::Refused(Refusal::Mark(fault)),
+        MarkFault::E99(_) => no_memory(),
     }
 }
 
@@ -125,20 +143,5 @@ fn no_memory() -> Ended
     Ended::Stopped {
         last: None,
         why: Why::Memory,
-    }
-}
-
-/// Writes the listing, which is the one sequence or nothing.
-fn write_listing<W: Sink>(alloc: Global, labels: &[String], shown: bool, writer: &mut W) -> Ended
-    requires { W.has_failed writer.old ≡ false }
-    ensures listed { IsListed (W.got writer.old) (W.got writer.new) (if shown then map string_bytes labels.now ∷ [] else []) result }
-    ensures failed { W.has_failed writer.new ≡ is_output_fault result }
-{
-    if !shown {
-        return finish(writer, None, 0);
-    }
-    match write_sequence(alloc, labels, writer) {
-        Ok(text) => finish(writer, Some(text), 1),
-        Err(why) => Ended::Stopped { last: None, why },
     }
 }

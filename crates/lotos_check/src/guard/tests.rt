@@ -162,22 +162,22 @@ fn assert_ranking(
     words: &str,
     found: Option<Ranking>,
     ranks: &[usize],
-    trapped: &[usize],
+    unguarded: &[usize],
 ) {
     match found {
         None => assert!(rt; false, "a call out of range: {}", words),
         Some(Ranking::Guarded(numbers)) => {
             assert_eq!(rt; numbers.as_slice(), ranks, "the numbers of {}", words);
-            assert!(rt; trapped.is_empty(), "guarded: {}", words);
+            assert!(rt; unguarded.is_empty(), "guarded: {}", words);
         }
-        Some(Ranking::Trapped(set)) => {
-            assert_eq!(rt; set.as_slice(), trapped, "the set of {}", words);
+        Some(Ranking::Unguarded(set)) => {
+            assert_eq!(rt; set.as_slice(), unguarded, "the set of {}", words);
         }
     }
 }
 
 #[test]
-fn ranks_or_traps(rt: HostRuntime) -> Result<(), Fail> {
+fn ranks_or_refuses(rt: HostRuntime) -> Result<(), Fail> {
     let bare = Place::Bare;
     let rows: [(&str, usize, &[(usize, Place, usize)], &[usize], &[usize]); 8] = [
         ("no process", 0, &[], &[], &[]),
@@ -237,9 +237,9 @@ fn ranks_or_traps(rt: HostRuntime) -> Result<(), Fail> {
             &[],
         ),
     ];
-    for (words, count, calls, ranks, trapped) in &rows {
+    for (words, count, calls, ranks, unguarded) in &rows {
         let found = ranking(rt.alloc(), *count, calls)?;
-        assert_ranking(&rt, words, found, ranks, trapped);
+        assert_ranking(&rt, words, found, ranks, unguarded);
     }
     Ok(())
 }
@@ -248,7 +248,7 @@ fn ranks_or_traps(rt: HostRuntime) -> Result<(), Fail> {
 const LAST: usize = 299;
 
 #[test]
-fn ranks_or_traps_a_long_chain(rt: HostRuntime) -> Result<(), Fail> {
+fn ranks_or_refuses_a_long_chain(rt: HostRuntime) -> Result<(), Fail> {
     let mut calls = Vec::new(rt.alloc());
     let mut falling = Vec::new(rt.alloc());
     let mut all = Vec::new(rt.alloc());

@@ -4,44 +4,112 @@ use crate::place::End;
 use std::alloc::{AllocError, Global};
 use std::test::Fail;
 
-/// A pattern, labels, and whether the sequence of them may end; nothing where it has no place.
-const PLACES: &[(&[&str], &[&str], Option<End>)] = &[
-    (&["<until>", "B"], &[], Some(End::No)),
-    (&["<until>", "B"], &["B"], Some(End::Yes)),
-    (&["<until>", "B"], &["A"], Some(End::No)),
-    (&["<until>", "B"], &["A", "exit"], Some(End::No)),
-    (&["<until>", "B"], &["A", "exit", "B"], Some(End::Yes)),
-    (&["<until>", "B"], &["B", "A"], None),
-    (&["<until>", "B"], &["B", "B"], None),
-    (&["<until>", "B"], &["i"], None),
-    (&["<until>", "B"], &["A", "i"], None),
-    (&["A", "<deadlock>"], &[], Some(End::No)),
-    (&["A", "<deadlock>"], &["A"], Some(End::IfDead)),
-    (&["A", "<deadlock>"], &["B"], None),
-    (&["A", "<deadlock>"], &["A", "A"], None),
-    (&["<until>", "<deadlock>"], &[], Some(End::IfDead)),
-    (&["<until>", "<deadlock>"], &["A"], Some(End::IfDead)),
+/// Whether internal steps are shown, a pattern, labels, and whether the sequence of them may end; nothing where it has no place.
+const PLACES: &[(bool, &[&str], &[&str], Option<End>)] = &[
+    (false, &["<until>", "B"], &[], Some(End::No)),
+    (false, &["<until>", "B"], &["B"], Some(End::Yes)),
+    (false, &["<until>", "B"], &["A"], Some(End::No)),
+    (false, &["<until>", "B"], &["A", "exit"], Some(End::No)),
     (
+        false,
+        &["<until>", "B"],
+        &["A", "exit", "B"],
+        Some(End::Yes),
+    ),
+    (false, &["<until>", "B"], &["B", "A"], None),
+    (false, &["<until>", "B"], &["B", "B"], None),
+    (false, &["<until>", "B"], &["i"], None),
+    (false, &["<until>", "B"], &["A", "i"], None),
+    (false, &["A", "<deadlock>"], &[], Some(End::No)),
+    (false, &["A", "<deadlock>"], &["A"], Some(End::IfDead)),
+    (false, &["A", "<deadlock>"], &["B"], None),
+    (false, &["A", "<deadlock>"], &["A", "A"], None),
+    (false, &["<until>", "<deadlock>"], &[], Some(End::IfDead)),
+    (false, &["<until>", "<deadlock>"], &["A"], Some(End::IfDead)),
+    (
+        false,
         &["<until>", "<deadlock>"],
         &["A", "exit", "B"],
         Some(End::IfDead),
     ),
-    (&["<until>", "<deadlock>"], &["i"], None),
-    (&["<until>", "<deadlock>"], &["A", "i"], None),
-    (&[], &[], Some(End::Yes)),
-    (&[], &["A"], None),
-    (&[], &["i"], None),
-    (&["<any>"], &[], Some(End::No)),
-    (&["<any>"], &["A"], Some(End::Yes)),
-    (&["<any>"], &["exit"], Some(End::Yes)),
-    (&["<any>"], &["A", "A"], None),
-    (&["<any>"], &["i"], None),
-    (&["<deadlock>"], &[], Some(End::IfDead)),
-    (&["<deadlock>"], &["A"], None),
-    (&["a"], &["A"], Some(End::Yes)),
-    (&["a"], &["a"], None),
-    (&["EXIT"], &["exit"], Some(End::Yes)),
-    (&["EXIT"], &["EXIT"], None),
+    (false, &["<until>", "<deadlock>"], &["i"], None),
+    (false, &["<until>", "<deadlock>"], &["A", "i"], None),
+    (false, &[], &[], Some(End::Yes)),
+    (false, &[], &["A"], None),
+    (false, &[], &["i"], None),
+    (false, &["<any>"], &[], Some(End::No)),
+    (false, &["<any>"], &["A"], Some(End::Yes)),
+    (false, &["<any>"], &["exit"], Some(End::Yes)),
+    (false, &["<any>"], &["A", "A"], None),
+    (false, &["<any>"], &["i"], None),
+    (false, &["<deadlock>"], &[], Some(End::IfDead)),
+    (false, &["<deadlock>"], &["A"], None),
+    (false, &["a"], &["A"], Some(End::Yes)),
+    (false, &["a"], &["a"], None),
+    (false, &["EXIT"], &["exit"], Some(End::Yes)),
+    (false, &["EXIT"], &["EXIT"], None),
+    (false, &["A", "<while>", "B"], &[], Some(End::No)),
+    (false, &["A", "<while>", "B"], &["A"], Some(End::Yes)),
+    (
+        false,
+        &["A", "<while>", "B"],
+        &["A", "B", "B"],
+        Some(End::Yes),
+    ),
+    (false, &["A", "<while>", "B"], &["A", "B", "A"], None),
+    (false, &["A", "<while>", "B"], &["A", "i"], None),
+    (false, &["<while>", "<any>"], &[], Some(End::Yes)),
+    (false, &["<while>", "<any>"], &["A", "exit"], Some(End::Yes)),
+    (false, &["<while>", "<any>"], &["i"], None),
+    (true, &["<while>", "<any>"], &["i"], Some(End::Yes)),
+    (
+        false,
+        &["<while>", "<any>", "B"],
+        &["B", "A"],
+        Some(End::No),
+    ),
+    (
+        false,
+        &["<while>", "<any>", "B"],
+        &["B", "B"],
+        Some(End::Yes),
+    ),
+    (
+        false,
+        &["<while>", "A", "<while>", "A", "<any>"],
+        &["A"],
+        Some(End::Yes),
+    ),
+    (
+        false,
+        &["<while>", "A", "<while>", "A", "<any>"],
+        &["A", "B"],
+        Some(End::Yes),
+    ),
+    (
+        false,
+        &["<while>", "A", "<while>", "A", "<any>"],
+        &["B", "A"],
+        None,
+    ),
+    (
+        false,
+        &["<while>", "<any>", "<deadlock>"],
+        &[],
+        Some(End::IfDead),
+    ),
+    (
+        false,
+        &["<while>", "<any>", "<deadlock>"],
+        &["A", "B"],
+        Some(End::IfDead),
+    ),
+    (false, &["<while>", "A", "<deadlock>"], &["A", "B"], None),
+    (true, &["i", "I", "A"], &["i", "i", "A"], Some(End::Yes)),
+    (true, &["i", "I", "A"], &["i", "A"], None),
+    (true, &["i", "I", "A"], &["i", "I"], None),
+    (true, &["<until>", "i"], &["A", "i"], Some(End::Yes)),
+    (true, &["<until>", "<deadlock>"], &["i"], Some(End::IfDead)),
 ];
 
 /// An element as the definition has it.
@@ -49,68 +117,214 @@ enum Part {
     One(&'static str),
     Any,
     Until(&'static str),
+    While(&'static str),
+    WhileAny,
     Deadlock,
     UntilDeadlock,
 }
 
-/// Small patterns: their words, and their elements.
-const SMALL: &[(&[&str], &[Part])] = &[
-    (&[], &[]),
-    (&["A"], &[Part::One("A")]),
-    (&["<any>"], &[Part::Any]),
-    (&["<until>", "B"], &[Part::Until("B")]),
-    (&["<deadlock>"], &[Part::Deadlock]),
-    (&["<until>", "<deadlock>"], &[Part::UntilDeadlock]),
-    (&["A", "B"], &[Part::One("A"), Part::One("B")]),
-    (
-        &["<any>", "<any>", "exit"],
-        &[Part::Any, Part::Any, Part::One("exit")],
-    ),
+/// Internal steps hidden, and shown.
+const BOTH: &[bool] = &[false, true];
+
+/// Internal steps shown.
+const SHOWN: &[bool] = &[true];
+
+/// Small patterns: their words, their elements, and whether internal steps are shown. At most two of the elements want a label.
+const SMALL: &[(&[&str], &[Part], &[bool])] = &[
+    (&[], &[], BOTH),
+    (&["A"], &[Part::One("A")], BOTH),
+    (&["<any>"], &[Part::Any], BOTH),
+    (&["<until>", "B"], &[Part::Until("B")], BOTH),
+    (&["<deadlock>"], &[Part::Deadlock], BOTH),
+    (&["<until>", "<deadlock>"], &[Part::UntilDeadlock], BOTH),
+    (&["A", "B"], &[Part::One("A"), Part::One("B")], BOTH),
+    (&["<any>", "exit"], &[Part::Any, Part::One("exit")], BOTH),
     (
         &["<until>", "A", "<until>", "A"],
         &[Part::Until("A"), Part::Until("A")],
+        BOTH,
     ),
     (
         &["<until>", "exit", "<any>"],
         &[Part::Until("exit"), Part::Any],
+        BOTH,
     ),
     (
-        &["<any>", "<until>", "B", "A"],
-        &[Part::Any, Part::Until("B"), Part::One("A")],
+        &["<until>", "B", "A"],
+        &[Part::Until("B"), Part::One("A")],
+        BOTH,
     ),
-    (&["A", "<deadlock>"], &[Part::One("A"), Part::Deadlock]),
+    (
+        &["A", "<deadlock>"],
+        &[Part::One("A"), Part::Deadlock],
+        BOTH,
+    ),
     (
         &["<until>", "B", "<deadlock>"],
         &[Part::Until("B"), Part::Deadlock],
+        BOTH,
     ),
     (
         &["<any>", "<until>", "<deadlock>"],
         &[Part::Any, Part::UntilDeadlock],
+        BOTH,
     ),
     (
         &["B", "<until>", "A", "<until>", "<deadlock>"],
         &[Part::One("B"), Part::Until("A"), Part::UntilDeadlock],
+        BOTH,
+    ),
+    (&["<while>", "A"], &[Part::While("A")], BOTH),
+    (&["<while>", "<any>"], &[Part::WhileAny], BOTH),
+    (
+        &["<while>", "<any>", "B"],
+        &[Part::WhileAny, Part::One("B")],
+        BOTH,
+    ),
+    (
+        &["A", "<while>", "B"],
+        &[Part::One("A"), Part::While("B")],
+        BOTH,
+    ),
+    (
+        &["<while>", "A", "<while>", "A", "<any>"],
+        &[Part::While("A"), Part::While("A"), Part::Any],
+        BOTH,
+    ),
+    (
+        &["<while>", "<any>", "<deadlock>"],
+        &[Part::WhileAny, Part::Deadlock],
+        BOTH,
+    ),
+    (
+        &["<while>", "A", "<deadlock>"],
+        &[Part::While("A"), Part::Deadlock],
+        BOTH,
+    ),
+    (
+        &["<while>", "A", "A"],
+        &[Part::While("A"), Part::One("A")],
+        BOTH,
+    ),
+    (
+        &["<while>", "A", "B", "<while>", "A"],
+        &[Part::While("A"), Part::One("B"), Part::While("A")],
+        BOTH,
+    ),
+    (
+        &["<while>", "A", "<while>", "B", "<while>", "A"],
+        &[Part::While("A"), Part::While("B"), Part::While("A")],
+        BOTH,
+    ),
+    (
+        &["<while>", "A", "<until>", "A", "<while>", "B"],
+        &[Part::While("A"), Part::Until("A"), Part::While("B")],
+        BOTH,
+    ),
+    (
+        &["<until>", "B", "<while>", "B", "B"],
+        &[Part::Until("B"), Part::While("B"), Part::One("B")],
+        BOTH,
+    ),
+    (
+        &["<any>", "<while>", "exit", "<any>"],
+        &[Part::Any, Part::While("exit"), Part::Any],
+        BOTH,
+    ),
+    (
+        &["<while>", "<any>", "<while>", "A", "B", "<deadlock>"],
+        &[
+            Part::WhileAny,
+            Part::While("A"),
+            Part::One("B"),
+            Part::Deadlock,
+        ],
+        BOTH,
+    ),
+    (
+        &["<while>", "A", "<while>", "B", "<deadlock>"],
+        &[Part::While("A"), Part::While("B"), Part::Deadlock],
+        BOTH,
+    ),
+    (
+        &["<while>", "B", "<until>", "<deadlock>"],
+        &[Part::While("B"), Part::UntilDeadlock],
+        BOTH,
+    ),
+    (
+        &["<while>", "<any>", "<any>", "<while>", "<any>"],
+        &[Part::WhileAny, Part::Any, Part::WhileAny],
+        BOTH,
+    ),
+    (
+        &["A", "<while>", "A", "B", "<while>", "B", "<deadlock>"],
+        &[
+            Part::One("A"),
+            Part::While("A"),
+            Part::One("B"),
+            Part::While("B"),
+            Part::Deadlock,
+        ],
+        BOTH,
+    ),
+    (
+        &["<while>", "exit", "exit"],
+        &[Part::While("exit"), Part::One("exit")],
+        BOTH,
+    ),
+    (
+        &["<while>", "A", "B", "<while>", "<any>", "A"],
+        &[
+            Part::While("A"),
+            Part::One("B"),
+            Part::WhileAny,
+            Part::One("A"),
+        ],
+        BOTH,
+    ),
+    (&["i"], &[Part::One("i")], SHOWN),
+    (&["<until>", "i"], &[Part::Until("i")], SHOWN),
+    (&["<while>", "i"], &[Part::While("i")], SHOWN),
+    (
+        &["<while>", "i", "A"],
+        &[Part::While("i"), Part::One("A")],
+        SHOWN,
+    ),
+    (
+        &["<any>", "<while>", "i", "i"],
+        &[Part::Any, Part::While("i"), Part::One("i")],
+        SHOWN,
+    ),
+    (
+        &["A", "<while>", "i", "<deadlock>"],
+        &[Part::One("A"), Part::While("i"), Part::Deadlock],
+        SHOWN,
+    ),
+    (
+        &["<until>", "i", "<while>", "A", "<until>", "<deadlock>"],
+        &[Part::Until("i"), Part::While("A"), Part::UntilDeadlock],
+        SHOWN,
+    ),
+    (
+        &["<while>", "A", "i", "<while>", "A"],
+        &[Part::While("A"), Part::One("i"), Part::While("A")],
+        SHOWN,
     ),
 ];
 
-const LABELS: [&str; 3] = ["A", "B", "exit"];
+const LABELS: [&str; 4] = ["A", "B", "exit", "i"];
 
 /// How many sequences of these labels have so many.
-const COUNTS: [(usize, usize); 8] = [
-    (0, 1),
-    (1, 3),
-    (2, 9),
-    (3, 27),
-    (4, 81),
-    (5, 243),
-    (6, 729),
-    (7, 2187),
-];
+const COUNTS: [(usize, usize); 5] = [(0, 1), (1, 4), (2, 16), (3, 64), (4, 256)];
+
+/// The most labels that complete a sequence: as many as elements of a small pattern want one.
+const MOST_MORE: usize = 2;
 
 #[test]
 fn finds_places(rt: HostRuntime) -> Result<(), Fail> {
-    for (words, labels, end) in PLACES {
-        let pattern = Pattern::read(rt.alloc(), words)?;
+    for (strong, words, labels, end) in PLACES {
+        let pattern = Pattern::read(rt.alloc(), words, *strong)?;
+        assert_eq!(rt; pattern.strong(), *strong);
         assert_eq!(rt;
             end_behind(&pattern, labels),
             *end,
@@ -122,34 +336,65 @@ fn finds_places(rt: HostRuntime) -> Result<(), Fail> {
     Ok(())
 }
 
-/// Each sequence of up to four labels beside the definition: it has a place exactly where one of up to seven labels that
-/// begins with it is matched, and may end exactly where it is matched itself.
+/// Each sequence of up to four labels beside the definition: it has a place exactly where it and up to two labels more are
+/// matched, and may end exactly where it is matched itself.
 #[test]
 fn matches_as_defined(rt: HostRuntime) -> Result<(), Fail> {
     let all = sequences(rt.alloc())?;
-    for (words, parts) in SMALL {
-        let pattern = Pattern::read(rt.alloc(), words)?;
-        let mut matched = Vec::new(rt.alloc());
-        for sequence in &all {
-            if is_matched(parts, sequence.as_slice()) {
-                matched.push(sequence.as_slice())?;
-            }
-        }
-        for sequence in &all {
-            if sequence.len() <= 4 {
+    for (words, parts, flags) in SMALL {
+        for strong in *flags {
+            let pattern = Pattern::read(rt.alloc(), words, *strong)?;
+            let language = Language {
+                parts,
+                strong: *strong,
+            };
+            for sequence in &all {
                 let labels = sequence.as_slice();
-                let end = end_as_defined(parts, labels, matched.as_slice());
+                let end = language.end_behind(rt.alloc(), labels, all.as_slice())?;
                 assert_eq!(rt;
                     end_behind(&pattern, labels),
                     end,
-                    "{:?} at {:?}",
+                    "{:?} at {:?}, internal steps shown: {}",
                     words,
-                    labels
+                    labels,
+                    *strong
                 );
             }
         }
     }
     Ok(())
+}
+
+/// A pattern of 256 elements is passed over to its end, and matched to its end.
+#[test]
+fn holds_the_last_position(rt: HostRuntime) -> Result<(), Fail> {
+    let words = repeated(rt.alloc(), &["<while>", "A"], 256)?;
+    let passed = Pattern::read(rt.alloc(), words.as_slice(), false)?;
+    assert_eq!(rt; end_behind(&passed, &[]), Some(End::Yes));
+    assert_eq!(rt; end_behind(&passed, &["A", "A"]), Some(End::Yes));
+    assert_eq!(rt; end_behind(&passed, &["A", "B"]), None);
+    let words = repeated(rt.alloc(), &["A"], 256)?;
+    let matched = Pattern::read(rt.alloc(), words.as_slice(), false)?;
+    let mut labels = repeated(rt.alloc(), &["A"], 255)?;
+    assert_eq!(rt; end_behind(&matched, labels.as_slice()), Some(End::No));
+    labels.push("A")?;
+    assert_eq!(rt; end_behind(&matched, labels.as_slice()), Some(End::Yes));
+    labels.push("A")?;
+    assert_eq!(rt; end_behind(&matched, labels.as_slice()), None);
+    Ok(())
+}
+
+/// The words a number of times.
+fn repeated(
+    alloc: Global,
+    words: &[&'static str],
+    count: usize,
+) -> Result<Vec<&'static str>, AllocError> {
+    let mut all = Vec::new(alloc);
+    for _ in 0..count {
+        all.extend_from_slice(words)?;
+    }
+    Ok(all)
 }
 
 /// Whether the sequence may end, at the place that the pattern gives it; nothing where it gives none.
@@ -161,18 +406,48 @@ fn end_behind(pattern: &Pattern, labels: &[&str]) -> Option<End> {
     Some(pattern.accepts(place))
 }
 
-/// The same by the sequences that are matched.
-fn end_as_defined(parts: &[Part], labels: &[&str], matched: &[&[&str]]) -> Option<End> {
-    if !matched.iter().any(|sequence| sequence.starts_with(labels)) {
-        return None;
+/// The sequences that a pattern matches, by the definition.
+#[derive(Clone, Copy)]
+struct Language<'p> {
+    parts: &'p [Part],
+    strong: bool,
+}
+
+impl<'p> Language<'p> {
+    /// Whether the sequence may end; nothing where neither it nor it and a few more of the sequences are matched.
+    fn end_behind(
+        self,
+        alloc: Global,
+        labels: &[&'static str],
+        more: &[Vec<&'static str>],
+    ) -> Result<Option<End>, AllocError> {
+        if self.has(labels) {
+            return Ok(Some(self.end()));
+        }
+        let mut whole = Vec::new(alloc);
+        for others in more {
+            if others.len() <= MOST_MORE {
+                whole.clear();
+                whole.extend_from_slice(labels)?;
+                whole.extend_from_slice(others.as_slice())?;
+                if self.has(whole.as_slice()) {
+                    return Ok(Some(End::No));
+                }
+            }
+        }
+        Ok(None)
     }
-    if !is_matched(parts, labels) {
-        return Some(End::No);
+
+    fn has(self, labels: &[&str]) -> bool {
+        (self.strong || !labels.contains(&"i")) && is_matched(self.parts, labels)
     }
-    match parts.last() {
-        Some(Part::Deadlock) => Some(End::IfDead),
-        Some(Part::UntilDeadlock) => Some(End::IfDead),
-        _ => Some(End::Yes),
+
+    fn end(self) -> End {
+        match self.parts.last() {
+            Some(Part::Deadlock) => End::IfDead,
+            Some(Part::UntilDeadlock) => End::IfDead,
+            _ => End::Yes,
+        }
     }
 }
 
@@ -197,12 +472,14 @@ fn is_segment(part: &Part, labels: &[&str]) -> bool {
             Some((last, others)) => *last == *own && !others.contains(own),
             None => false,
         },
+        Part::While(own) => labels.iter().all(|label| *label == *own),
+        Part::WhileAny => true,
         Part::Deadlock => labels.is_empty(),
         Part::UntilDeadlock => true,
     }
 }
 
-/// The sequences of up to seven labels.
+/// The sequences of up to four labels.
 fn sequences(alloc: Global) -> Result<Vec<Vec<&'static str>>, AllocError> {
     let mut all = Vec::new(alloc);
     for (length, count) in COUNTS {
@@ -213,13 +490,13 @@ fn sequences(alloc: Global) -> Result<Vec<Vec<&'static str>>, AllocError> {
     Ok(all)
 }
 
-/// The sequence of so many labels whose numbers are the digits of the number in base 3, the least first.
+/// The sequence of so many labels whose numbers are the digits of the number in base 4, the least first.
 fn sequence(alloc: Global, length: usize, number: usize) -> Result<Vec<&'static str>, AllocError> {
     let mut labels = Vec::new(alloc);
     let mut left = number;
     for _ in 0..length {
-        labels.push(LABELS[left % 3])?;
-        left /= 3;
+        labels.push(LABELS[left % 4])?;
+        left /= 4;
     }
     Ok(labels)
 }

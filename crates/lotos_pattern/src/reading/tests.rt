@@ -5,29 +5,42 @@ use crate::fault::PatternFault;
 use std::alloc::{AllocError, Global};
 use std::test::Fail;
 
-const SPELLED: &[(&str, &[&str], &str)] = &[
-    ("no word", &[], ""),
-    ("a gate's name in lower case", &["a"], "A;"),
-    ("a gate's name in mixed case", &["aB_1"], "AB_1;"),
-    ("a gate's name that begins with `i`", &["i1"], "I1;"),
-    ("`exit` in lower case", &["exit"], "exit;"),
-    ("`exit` in mixed case", &["Exit"], "exit;"),
-    ("`exit` in upper case", &["EXIT"], "exit;"),
-    ("a name that begins with `exit`", &["exit1"], "EXIT1;"),
-    ("reserved words", &["stop", "Hide"], "STOP; HIDE;"),
-    ("any label", &["<any>"], "any;"),
-    ("any label in upper case", &["<ANY>", "<Any>"], "any; any;"),
-    ("up to a label", &["<Until>", "b"], "until B;"),
-    ("up to `exit`", &["<until>", "EXIT"], "until exit;"),
-    ("an end", &["a", "<Deadlock>"], "A; deadlock;"),
-    ("an end alone", &["<deadlock>"], "deadlock;"),
+/// What the words are, whether internal steps are shown, the words, and the elements that they spell.
+const SPELLED: &[(&str, bool, &[&str], &str)] = &[
+    ("no word", false, &[], ""),
+    ("a gate's name in lower case", false, &["a"], "A;"),
+    ("a gate's name in mixed case", false, &["aB_1"], "AB_1;"),
+    ("a gate's name that begins with `i`", false, &["i1"], "I1;"),
+    ("`exit` in lower case", false, &["exit"], "exit;"),
+    ("`exit` in mixed case", false, &["Exit"], "exit;"),
+    ("`exit` in upper case", false, &["EXIT"], "exit;"),
+    (
+        "a name that begins with `exit`",
+        false,
+        &["exit1"],
+        "EXIT1;",
+    ),
+    ("reserved words", false, &["stop", "Hide"], "STOP; HIDE;"),
+    ("any label", false, &["<any>"], "any;"),
+    (
+        "any label in upper case",
+        false,
+        &["<ANY>", "<Any>"],
+        "any; any;",
+    ),
+    ("up to a label", false, &["<Until>", "b"], "until B;"),
+    ("up to `exit`", false, &["<until>", "EXIT"], "until exit;"),
+    ("an end", false, &["a", "<Deadlock>"], "A; deadlock;"),
+    ("an end alone", false, &["<deadlock>"], "deadlock;"),
     (
         "any labels before an end",
+        false,
         &["<UNTIL>", "<Deadlock>"],
         "until deadlock;",
     ),
     (
         "all kinds",
+        false,
         &[
             "a",
             "<any>",
@@ -39,92 +52,227 @@ const SPELLED: &[(&str, &[&str], &str)] = &[
         ],
         "A; any; until B; exit; until deadlock;",
     ),
+    (
+        "a label, then repeats of one",
+        false,
+        &["A", "<while>", "b"],
+        "A; while B;",
+    ),
+    (
+        "repeats of any label",
+        false,
+        &["<While>", "<ANY>"],
+        "while any;",
+    ),
+    (
+        "repeats of any label, then one",
+        false,
+        &["<while>", "<any>", "B"],
+        "while any; B;",
+    ),
+    (
+        "repeats twice, then any label",
+        false,
+        &["<while>", "A", "<while>", "A", "<any>"],
+        "while A; while A; any;",
+    ),
+    (
+        "repeats before an end",
+        false,
+        &["<while>", "<any>", "<deadlock>"],
+        "while any; deadlock;",
+    ),
+    (
+        "repeats of `exit`",
+        false,
+        &["<while>", "Exit"],
+        "while exit;",
+    ),
+    (
+        "the internal action, shown",
+        true,
+        &["i", "I", "A"],
+        "i; i; A;",
+    ),
+    (
+        "up to the internal action",
+        true,
+        &["<until>", "i"],
+        "until i;",
+    ),
+    (
+        "repeats of the internal action",
+        true,
+        &["<while>", "I"],
+        "while i;",
+    ),
+    (
+        "all kinds, shown",
+        true,
+        &["a", "<any>", "<while>", "i", "<until>", "<deadlock>"],
+        "A; any; while i; until deadlock;",
+    ),
 ];
 
-const REFUSED: &[(&str, &[&str], PatternFault)] = &[
-    ("a digit first", &["1a"], PatternFault::E41(1)),
-    ("an underscore first", &["_a"], PatternFault::E41(1)),
-    ("an empty word", &[""], PatternFault::E41(1)),
+/// What the words are, whether internal steps are shown, the words, and why they are refused.
+const REFUSED: &[(&str, bool, &[&str], PatternFault)] = &[
+    ("a digit first", false, &["1a"], PatternFault::E41(1)),
+    ("an underscore first", false, &["_a"], PatternFault::E41(1)),
+    ("an empty word", false, &[""], PatternFault::E41(1)),
     (
         "an empty word behind a label",
+        false,
         &["a", ""],
         PatternFault::E41(2),
     ),
-    ("a letter that is not ASCII", &["é"], PatternFault::E41(1)),
+    (
+        "a letter that is not ASCII",
+        false,
+        &["é"],
+        PatternFault::E41(1),
+    ),
     (
         "such a letter behind another",
+        false,
         &["aé"],
         PatternFault::E41(1),
     ),
-    ("a hyphen inside", &["A-B"], PatternFault::E41(1)),
-    ("a blank inside", &["A B"], PatternFault::E41(1)),
-    ("a blank before", &[" <any>"], PatternFault::E41(1)),
-    ("no closing bracket", &["<any"], PatternFault::E41(1)),
-    (
-        "an element that there is not",
-        &["<while>", "A"],
-        PatternFault::E41(1),
-    ),
+    ("a hyphen inside", false, &["A-B"], PatternFault::E41(1)),
+    ("a blank inside", false, &["A B"], PatternFault::E41(1)),
+    ("a blank before", false, &[" <any>"], PatternFault::E41(1)),
+    ("no closing bracket", false, &["<any"], PatternFault::E41(1)),
     (
         "a sequence without labels",
+        false,
         &["<empty>"],
         PatternFault::E41(1),
     ),
-    ("the internal action", &["i"], PatternFault::E45(1)),
+    ("the internal action", false, &["i"], PatternFault::E45(1)),
     (
         "the internal action in upper case",
+        false,
         &["a", "I"],
         PatternFault::E45(2),
     ),
-    ("`<until>` alone", &["<until>"], PatternFault::E42(1)),
+    ("`<until>` alone", false, &["<until>"], PatternFault::E42(1)),
     (
         "`<until>` before `<any>`",
+        false,
         &["<until>", "<any>"],
         PatternFault::E42(1),
     ),
     (
         "`<until>` before `<until>`",
+        false,
         &["A", "<until>", "<until>"],
         PatternFault::E42(2),
     ),
     (
         "`<until>` before what means nothing",
+        false,
         &["<until>", "1"],
         PatternFault::E42(1),
     ),
     (
         "`<until>` before `i`",
+        false,
         &["<until>", "i"],
         PatternFault::E45(2),
     ),
     (
         "a label behind an end",
+        false,
         &["<deadlock>", "A"],
         PatternFault::E43(2),
     ),
     (
         "an end behind an end",
+        false,
         &["<deadlock>", "<deadlock>"],
         PatternFault::E43(2),
     ),
     (
         "a label behind any labels before an end",
+        false,
         &["<until>", "<deadlock>", "A"],
         PatternFault::E43(3),
     ),
     (
         "`i` behind an end",
+        false,
         &["<deadlock>", "i"],
         PatternFault::E43(2),
     ),
     (
         "what means nothing behind an end",
+        false,
         &["<deadlock>", "1"],
         PatternFault::E43(2),
     ),
     (
         "two faults, the first of which counts",
+        false,
         &["1", "i"],
+        PatternFault::E41(1),
+    ),
+    (
+        "`<while>` alone",
+        false,
+        &["A", "<while>"],
+        PatternFault::E48(2),
+    ),
+    (
+        "`<while>` before `<deadlock>`",
+        false,
+        &["<while>", "<deadlock>"],
+        PatternFault::E48(1),
+    ),
+    (
+        "`<while>` before `<while>`",
+        false,
+        &["<while>", "<while>", "A"],
+        PatternFault::E48(1),
+    ),
+    (
+        "`<while>` before `<until>`",
+        true,
+        &["<while>", "<until>", "A"],
+        PatternFault::E48(1),
+    ),
+    (
+        "`<while>` before what means nothing",
+        false,
+        &["A", "B", "<while>", "1"],
+        PatternFault::E48(3),
+    ),
+    (
+        "`<while>` before `i`",
+        false,
+        &["<while>", "i"],
+        PatternFault::E45(2),
+    ),
+    (
+        "`<until>` before `<while>`",
+        false,
+        &["<until>", "<while>"],
+        PatternFault::E42(1),
+    ),
+    (
+        "`<while>` behind an end",
+        false,
+        &["<deadlock>", "<while>", "A"],
+        PatternFault::E43(2),
+    ),
+    (
+        "`<until>` alone, `i` shown",
+        true,
+        &["i", "<until>"],
+        PatternFault::E42(2),
+    ),
+    (
+        "`i` with a letter behind it, shown",
+        true,
+        &["i-"],
         PatternFault::E41(1),
     ),
 ];
@@ -145,6 +293,21 @@ const LONG: &[(&str, &[&str], usize, &[&str], Option<PatternFault>)] = &[
         &["<until>", "B"],
         257,
         &[],
+        Some(PatternFault::E44(513)),
+    ),
+    ("256 repeats", &["<while>", "A"], 256, &[], None),
+    (
+        "257 repeats",
+        &["<while>", "A"],
+        257,
+        &[],
+        Some(PatternFault::E44(513)),
+    ),
+    (
+        "256 repeats of any label, then a label",
+        &["<while>", "<any>"],
+        256,
+        &["A"],
         Some(PatternFault::E44(513)),
     ),
     (
@@ -206,13 +369,17 @@ const TOLD: &[(PatternFault, &str)] = &[
         PatternFault::E45(1),
         "E45 word 1 is i, which cannot be observed",
     ),
+    (
+        PatternFault::E48(2),
+        "E48 word 2 needs a label or <any> after it",
+    ),
     (PatternFault::E99(AllocError), "E99 out of memory"),
 ];
 
 #[test]
 fn reads_patterns(rt: HostRuntime) -> Result<(), Fail> {
-    for (name, words, spelled) in SPELLED {
-        let elements = read_elements(rt.alloc(), words)?;
+    for (name, strong, words, spelled) in SPELLED {
+        let elements = read_elements(rt.alloc(), words, *strong)?;
         let shown = shown(rt.alloc(), elements.as_slice())?;
         assert_eq!(rt; shown.as_str(), *spelled, "{}", name);
     }
@@ -221,8 +388,13 @@ fn reads_patterns(rt: HostRuntime) -> Result<(), Fail> {
 
 #[test]
 fn refuses_words(rt: HostRuntime) {
-    for (name, words, fault) in REFUSED {
-        assert_eq!(rt; fault_of(rt.alloc(), words), Some(*fault), "{}", name);
+    for (name, strong, words, fault) in REFUSED {
+        assert_eq!(rt;
+            fault_of(rt.alloc(), words, *strong),
+            Some(*fault),
+            "{}",
+            name
+        );
     }
 }
 
@@ -234,7 +406,12 @@ fn limits_the_elements(rt: HostRuntime) -> Result<(), Fail> {
             all.extend_from_slice(words)?;
         }
         all.extend_from_slice(behind)?;
-        assert_eq!(rt; fault_of(rt.alloc(), all.as_slice()), *fault, "{}", name);
+        assert_eq!(rt;
+            fault_of(rt.alloc(), all.as_slice(), false),
+            *fault,
+            "{}",
+            name
+        );
     }
     Ok(())
 }
@@ -249,8 +426,8 @@ fn tells_faults(rt: HostRuntime) -> Result<(), Fail> {
 }
 
 /// The fault that the words are refused with, if they are.
-fn fault_of(alloc: Global, words: &[&str]) -> Option<PatternFault> {
-    match read_elements(alloc, words) {
+fn fault_of(alloc: Global, words: &[&str], strong: bool) -> Option<PatternFault> {
+    match read_elements(alloc, words, strong) {
         Ok(_) => None,
         Err(fault) => Some(fault),
     }
@@ -270,6 +447,11 @@ fn shown(alloc: Global, elements: &[Element]) -> Result<String, AllocError> {
                 text.push_str("until ")?;
                 text.push_str(label.as_str())?;
             }
+            Element::While(label) => {
+                text.push_str("while ")?;
+                text.push_str(label.as_str())?;
+            }
+            Element::WhileAny => text.push_str("while any")?,
             Element::Deadlock => text.push_str("deadlock")?,
             Element::UntilDeadlock => text.push_str("until deadlock")?,
         }

@@ -1,6 +1,7 @@
 //! Readers and writers in memory, which move a few bytes a call, count their calls, and fail where they are told to.
 ghost use Rattle.std.specs.Prelude.{◌≡◌, ◌≤◌, Some, take};
 
+use super::large::Awaited;
 use crate::device::{FromRead, FromWrite};
 use crate::running::run;
 use std::alloc::Global;
@@ -68,7 +69,7 @@ impl Read for Blanks {
     }
 }
 
-const ROOM: usize = 4096;
+const ROOM: usize = 8192;
 
 /// What a full writer does with more bytes.
 #[derive(Clone, Copy)]
@@ -84,17 +85,17 @@ pub struct ArrayWriter {
     len: usize,
     /// The most bytes that a write takes.
     pub piece: usize,
-    /// The bytes after which it is full; it never keeps more than 4096.
+    /// The bytes after which it is full; it never keeps more than 8192.
     pub most: usize,
     pub when_full: WhenFull,
     pub flush_fails: bool,
     /// The calls of `flush` so far.
     pub flushes: usize,
-    ghost within: { len ≤ 4096 },
+    ghost within: { len ≤ 8192 },
 }
 
 impl ArrayWriter {
-    /// An empty writer that does not fail before 4096 bytes.
+    /// An empty writer that does not fail before 8192 bytes.
     pub fn new(piece: usize) -> ArrayWriter {
         ArrayWriter {
             bytes: [0; ROOM],
@@ -142,14 +143,61 @@ impl Write for ArrayWriter {
     }
 }
 
+/// Takes all that it is given and compares it with lines of one length that are awaited.
+#[derive(Drop)]
+pub struct Comparer {
+    /// The lines that are awaited.
+    pub awaited: Awaited,
+    /// The bytes of a line, its line feed included; at least one.
+    pub length: usize,
+    /// The bytes so far.
+    pub got: usize,
+    /// The bytes so far that are other than those awaited.
+    pub others: usize,
+    /// The most bytes of one write.
+    pub largest: usize,
+}
+
+impl Comparer {
+    /// A writer that has got nothing.
+    pub fn new(awaited: Awaited, length: usize) -> Comparer {
+        Comparer {
+            awaited,
+            length,
+            got: 0,
+            others: 0,
+            largest: 0,
+        }
+    }
+}
+
+impl Write for Comparer {
+    fn write(&mut self, buf: &[u8]) -> io::Result<usize> {
+        let length = self.length.max(1);
+        for byte in buf {
+            let expected = self.awaited.byte(self.got / length, self.got % length);
+            if *byte != expected {
+                self.others = self.others.saturating_add(1);
+            }
+            self.got = self.got.saturating_add(1);
+        }
+        self.largest = self.largest.max(buf.len());
+        Ok(buf.len())
+    }
+
+    fn flush(&mut self) -> io::Result<()> {
+        Ok(())
+    }
+}
+
 /// Runs the command on the devices, and hands them back beside the status.
-pub fn run_on<R: Read>(
+pub fn run_on<R: Read, W: Write>(
     alloc: Global,
     words: &[&str],
     reader: R,
-    out: ArrayWriter,
+    out: W,
     err: ArrayWriter,
-) -> (u8, R, ArrayWriter, ArrayWriter) {
+) -> (u8, R, W, ArrayWriter) {
     let mut source = FromRead::new(reader);
     let mut sink = FromWrite::new(out);
     let mut err = err;

@@ -1,4 +1,4 @@
-//! Runs over texts of the whole grammar: forms that are not searched yet, and the faults of texts.
+//! Runs over texts of the whole grammar, and the faults of texts.
 
 use super::devices::{ArrayWriter, SliceReader, run_on};
 use std::alloc::{AllocError, Global};
@@ -6,77 +6,8 @@ use std::process::Abort;
 
 const WORDS: &[&str] = &["lotosseq", "search", "--depth", "1", "A"];
 
-const UNSEARCHED: &[(&str, &[u8])] = &[
-    (
-        "interleaving",
-        b"specification S [a] : noexit behaviour a; stop ||| stop endspec",
-    ),
-    (
-        "full synchronization",
-        b"specification S [a] : noexit behaviour a; stop || stop endspec",
-    ),
-    (
-        "synchronization on a list",
-        b"specification S [a] : noexit behaviour a; stop |[a]| stop endspec",
-    ),
-    (
-        "synchronization on an empty list",
-        b"specification S [a] : noexit behaviour a; stop |[]| stop endspec",
-    ),
-    (
-        "hiding",
-        b"specification S [a] : noexit behaviour hide a in a; stop endspec",
-    ),
-    (
-        "enabling",
-        b"specification S [a] : noexit behaviour exit >> stop endspec",
-    ),
-    (
-        "disabling",
-        b"specification S [a] : noexit behaviour stop [> stop endspec",
-    ),
-    (
-        "a call without gates",
-        b"specification S [a] : noexit behaviour P where process P : noexit := stop endproc endspec",
-    ),
-    (
-        "a call with gates",
-        b"specification S [a] : noexit behaviour P [a] where process P [x] : noexit := x; stop endproc endspec",
-    ),
-    (
-        "a form behind a prefix",
-        b"specification S [a] : noexit behaviour a; a; (stop ||| stop) endspec",
-    ),
-    (
-        "a form on the left of a choice",
-        b"specification S [a] : noexit behaviour (stop ||| stop) [] a; stop endspec",
-    ),
-    (
-        "a form on the right of a choice",
-        b"specification S [a] : noexit behaviour a; stop [] (stop ||| stop) endspec",
-    ),
-    (
-        "a form deep inside choices",
-        b"specification S [a] : noexit behaviour a; stop [] a; (a; stop [] i; (stop [] hide a in a; stop)) endspec",
-    ),
-];
-
 #[test]
-fn forms_that_are_not_searched_yet(rt: HostRuntime) {
-    for (name, text) in UNSEARCHED {
-        expect(
-            &rt,
-            rt.alloc(),
-            name,
-            *text,
-            b"",
-            b"lotosseq: E30 form is not searched yet\n",
-        );
-    }
-}
-
-#[test]
-fn processes_that_are_not_called_are_searched_around(rt: HostRuntime) {
+fn processes_that_are_not_called_show_nothing(rt: HostRuntime) {
     let text =
         b"specification S [a] : noexit behaviour a; stop where process P : noexit := stop ||| P1 endproc process P1 : noexit := stop endproc endspec";
     expect(&rt, rt.alloc(), "processes", text, b"A\n", b"");
@@ -84,17 +15,17 @@ fn processes_that_are_not_called_are_searched_around(rt: HostRuntime) {
 
 const FAULTS: &[(&str, &[u8], &[u8])] = &[
     (
-        "a gate that is not declared beside a form that is not searched",
+        "a gate that is not declared beside a parallel expression",
         b"specification S [a] : noexit behaviour b; stop ||| stop endspec",
         b"lotosseq: 1:40: E21 gate B is not declared\n",
     ),
     (
-        "another functionality of a form that is not searched",
+        "another functionality of a parallel expression",
         b"specification S [a] : exit behaviour a; stop ||| stop endspec",
         b"lotosseq: 1:15: E25 S is declared exit and is noexit\n",
     ),
     (
-        "a token too many behind a form that is not searched",
+        "a token too many behind a parallel expression",
         b"specification S [a] : noexit behaviour stop ||| stop stop endspec",
         b"lotosseq: 1:54: E04 token is not expected\n",
     ),
@@ -124,7 +55,7 @@ const FAULTS: &[(&str, &[u8], &[u8])] = &[
         b"lotosseq: 1:1: E07 word of full LOTOS\n",
     ),
     (
-        "a data type behind a form that is not searched",
+        "a data type behind a parallel expression",
         b"specification S [a] : noexit behaviour stop ||| stop where\ntype T is endtype endspec",
         b"lotosseq: 2:1: E07 word of full LOTOS\n",
     ),

@@ -207,6 +207,25 @@ const PATTERNS: &[(&[&str], &[u8])] = &[
         b"lotosseq: E45 word 2 is i, which cannot be observed\n",
     ),
     (
+        &["lotosseq", "search", "--depth", "1", "<while>", "i"],
+        b"lotosseq: E45 word 2 is i, which cannot be observed\n",
+    ),
+    (
+        &["lotosseq", "search", "--depth", "1", "A", "<while>"],
+        b"lotosseq: E48 word 2 needs a label or <any> after it\n",
+    ),
+    (
+        &[
+            "lotosseq",
+            "search",
+            "--depth",
+            "1",
+            "<while>",
+            "<deadlock>",
+        ],
+        b"lotosseq: E48 word 1 needs a label or <any> after it\n",
+    ),
+    (
         &["lotosseq", "search", "--depth", "1", "A-B"],
         b"lotosseq: E41 word 1 is neither a label nor an element\n",
     ),
@@ -235,31 +254,12 @@ const PATTERNS: &[(&[&str], &[u8])] = &[
         b"lotosseq: E43 word 3 follows an end element\n",
     ),
     (
-        &["lotosseq", "search", "--depth", "1", "<any>"],
-        b"lotosseq: E30 form is not searched yet\n",
+        &["lotosseq", "search", "--depth", "1", "--after", "A", "I"],
+        b"lotosseq: E45 word 1 is i, which cannot be observed\n",
     ),
     (
-        &["lotosseq", "search", "--depth", "1", "<until>", "b"],
-        b"lotosseq: E30 form is not searched yet\n",
-    ),
-    (
-        &["lotosseq", "search", "--depth", "1", "<deadlock>"],
-        b"lotosseq: E30 form is not searched yet\n",
-    ),
-    (
-        &[
-            "lotosseq",
-            "search",
-            "--depth",
-            "1",
-            "<until>",
-            "<deadlock>",
-        ],
-        b"lotosseq: E30 form is not searched yet\n",
-    ),
-    (
-        &["lotosseq", "search", "--depth", "1", "a", "<any>"],
-        b"lotosseq: E30 form is not searched yet\n",
+        &["lotosseq", "search", "--depth", "1", "--after", "i", "A-B"],
+        b"lotosseq: E41 word 1 is neither a label nor an element\n",
     ),
 ];
 
@@ -275,6 +275,48 @@ fn patterns_that_are_refused_before_anything_is_read(rt: HostRuntime) {
         assert_eq!(rt; reader.reads, 0);
         assert!(rt; out.got().is_empty());
         assert_eq!(rt; out.flushes, 0);
+    }
+}
+
+/// Lines behind `--after` that are none of a listing.
+const NO_LINES: &[&str] = &[
+    "",
+    " ",
+    "A  B",
+    " A",
+    "A ",
+    "A B ",
+    "i",
+    "I",
+    "A i",
+    "<EMPTY>",
+    "<empty> A",
+    "<any>",
+    "A-B",
+    "1A",
+    "_A",
+    "A\tB",
+    " : A",
+    "A :A: B",
+];
+
+#[test]
+fn marks_that_are_refused_before_anything_is_read(rt: HostRuntime) {
+    for line in NO_LINES {
+        let reader = SliceReader::new(b"specification", 1);
+        let out = ArrayWriter::new(1);
+        let err = ArrayWriter::new(1);
+        let words = ["lotosseq", "search", "--depth", "1", "--after", *line, "A"];
+        let (status, reader, out, err) = run_on(rt.alloc(), words.as_slice(), reader, out, err);
+        assert_eq!(rt;
+            err.got(),
+            b"lotosseq: E46 mark is no line of a listing\n".as_slice(),
+            "{line}"
+        );
+        assert_eq!(rt; status, 2, "{line}");
+        assert_eq!(rt; reader.reads, 0, "{line}");
+        assert!(rt; out.got().is_empty(), "{line}");
+        assert_eq!(rt; out.flushes, 0, "{line}");
     }
 }
 
@@ -404,7 +446,25 @@ fn command_faults(rt: HostRuntime) {
         ["lotosseq"].as_slice(),
         ["lotosseq", "search", "A"].as_slice(),
         ["lotosseq", "search", "--depth", "256", "A"].as_slice(),
-        ["lotosseq", "search", "--depth", "1", "--limit", "1"].as_slice(),
+        ["lotosseq", "search", "--depth", "1", "--depth", "1"].as_slice(),
+        ["lotosseq", "search", "--depth", "one"].as_slice(),
+        ["lotosseq", "search", "--depth"].as_slice(),
+        ["lotosseq", "search", "--limit", "1", "A"].as_slice(),
+        ["lotosseq", "search", "--depth=1", "--limit", "0"].as_slice(),
+        ["lotosseq", "search", "--depth=1", "--limit=1000000001"].as_slice(),
+        ["lotosseq", "search", "--depth=1", "--limit=1", "--limit=1"].as_slice(),
+        ["lotosseq", "search", "--depth=1", "--limit"].as_slice(),
+        ["lotosseq", "search", "--depth=1", "--terms", "0"].as_slice(),
+        ["lotosseq", "search", "--depth=1", "--terms=1000001"].as_slice(),
+        ["lotosseq", "search", "--depth=1", "--terms=1", "--terms=1"].as_slice(),
+        ["lotosseq", "search", "--depth=1", "--terms"].as_slice(),
+        ["lotosseq", "search", "--depth=1", "--after"].as_slice(),
+        ["lotosseq", "search", "--depth=1", "--after=A", "--after=A"].as_slice(),
+        ["lotosseq", "search", "--depth=1", "--explain", "--explain"].as_slice(),
+        ["lotosseq", "search", "--depth=1", "--explain=yes"].as_slice(),
+        ["lotosseq", "search", "--depth=1", "--strong", "--strong"].as_slice(),
+        ["lotosseq", "search", "--depth=1", "--strong=yes"].as_slice(),
+        ["lotosseq", "search", "--depth=1", "--all"].as_slice(),
         ["lotosseq", "check", "A"].as_slice(),
         ["lotosseq", "check", "--depth", "1"].as_slice(),
         ["lotosseq", "check", "search", "--depth", "1"].as_slice(),

@@ -10,10 +10,10 @@ use Rattle.lotos_check.proofs.OwnFaults.{misnamed_action, misnamed_sync}
 use Rattle.lotos_check.proofs.body.+resolve.Goals as goal
 
 pub returns-in-Stop-clause-resolved : goal.returns-in-Stop-clause-resolved
-returns-in-Stop-clause-resolved t c = λ scope known shows knows. rw c.in-Stop.is (found_stop scope known _ refl refl refl)
+returns-in-Stop-clause-resolved t c = λ scope known shows knows. rw c.in-Stop.is (found_stop scope known _ c.leaf.ensures.code c.leaf.ensures.functionality c.leaf.ensures.never)
 
 pub returns-in-Exit-clause-resolved : goal.returns-in-Exit-clause-resolved
-returns-in-Exit-clause-resolved t c = λ scope known shows knows. rw c.in-Exit.is (found_exit scope known _ refl refl refl)
+returns-in-Exit-clause-resolved t c = λ scope known shows knows. rw c.in-Exit.is (found_exit scope known _ c.leaf-in-Exit.ensures.code c.leaf-in-Exit.ensures.functionality c.leaf-in-Exit.ensures.never)
 
 pub returns-in_err-name-in-Prefix-clause-resolved : goal.returns-in_err-name-in-Prefix-clause-resolved
 returns-in_err-name-in-Prefix-clause-resolved t c = λ scope known shows knows.
@@ -31,10 +31,10 @@ returns-in_err-inner-in-Prefix-clause-resolved t c = λ scope known shows knows.
     (rw c.in-Prefix.is (misnamed_lift scope known known body (prefix c.in-Prefix.action body)
     (of_prefix known c.in-Prefix.action body).from_left fault h))
 
-pub returns-in_ok-whole-in-Prefix-clause-resolved : goal.returns-in_ok-whole-in-Prefix-clause-resolved
-returns-in_ok-whole-in-Prefix-clause-resolved t c = λ scope known shows knows.
+pub returns-in_ok-prefixed-in-Prefix-clause-resolved : goal.returns-in_ok-prefixed-in-Prefix-clause-resolved
+returns-in_ok-prefixed-in-Prefix-clause-resolved t c = λ scope known shows knows.
     let h = rw c.deref.ensures at (c.in_ok-inner-in-Prefix.ensures.resolved scope known shows knows) in
-    rw c.in-Prefix.is (c.in_ok-whole-in-Prefix.ensures scope known c.in-Prefix.action (tree_of c.in-Prefix.body.value)
+    rw c.in-Prefix.is (c.in_ok-prefixed-in-Prefix.ensures scope known c.in-Prefix.action (tree_of c.in-Prefix.body.value)
     c.in_ok-name-in-Prefix.ensures.name (c.in_ok-name-in-Prefix.ensures.known known knows) h)
 
 pub returns-in_err-first-in-Choice-clause-resolved : goal.returns-in_err-first-in-Choice-clause-resolved
@@ -56,14 +56,14 @@ returns-in_err-second-in-Choice-clause-resolved t c = λ scope known shows knows
     carried c.from_residual-in_err-second-in-Choice.result _ _ fault c.from_residual-in_err-second-in-Choice.ensures.1
     (rw c.in-Choice.is (misnamed_lift scope known known right (choice left right) (of_choice known left right).from_right fault h))
 
-pub returns-in_ok-whole-in-Choice-clause-resolved : goal.returns-in_ok-whole-in-Choice-clause-resolved
-returns-in_ok-whole-in-Choice-clause-resolved t c = λ scope known shows knows.
+pub returns-in_ok-chosen-in-Choice-clause-resolved : goal.returns-in_ok-chosen-in-Choice-clause-resolved
+returns-in_ok-chosen-in-Choice-clause-resolved t c = λ scope known shows knows.
     let left = tree_of c.in-Choice.left.value in
     let right = tree_of c.in-Choice.right.value in
     let later : Knows (λ k. k.now) c.resolve-in-Choice.new.known.keys known = rw c.in_ok-first-in-Choice.ensures.known knows in
     let h = rw c.deref-in-Choice.ensures at (c.in_ok-first-in-Choice.ensures.resolved scope known shows knows) in
     let k = rw c.deref-in-Choice-2.ensures at (c.in_ok-second-in-Choice.ensures.resolved scope known shows later) in
-    rw c.in-Choice.is (c.in_ok-whole-in-Choice.ensures scope known left right h k)
+    rw c.in-Choice.is (c.in_ok-chosen-in-Choice.ensures scope known left right h k)
 
 pub returns-in_err-first-in-Par-clause-resolved : goal.returns-in_err-first-in-Par-clause-resolved
 returns-in_err-first-in-Par-clause-resolved t c = λ scope known shows knows.
@@ -93,15 +93,15 @@ returns-in_err-set-in-Par-clause-resolved t c = λ scope known shows knows.
     (rw c.in-Par.is (misnamed_sync scope known (tree_of c.in-Par.left.value) (tree_of c.in-Par.right.value)
     (sync_of c.in-Par.sync) fault (c.in_err-set-in-Par.ensures.unknown known (rw c.in_ok-first-in-Par.ensures.known knows))))
 
-pub returns-in_ok-whole-in-Par-clause-resolved : goal.returns-in_ok-whole-in-Par-clause-resolved
-returns-in_ok-whole-in-Par-clause-resolved t c = λ scope known shows knows.
+pub returns-in_ok-composed-in-Par-clause-resolved : goal.returns-in_ok-composed-in-Par-clause-resolved
+returns-in_ok-composed-in-Par-clause-resolved t c = λ scope known shows knows.
     let left = tree_of c.in-Par.left.value in
     let right = tree_of c.in-Par.right.value in
     let sync = sync_of c.in-Par.sync in
     let later : Knows (λ k. k.now) c.resolve-in-Par.new.known.keys known = rw c.in_ok-first-in-Par.ensures.known knows in
     let h = rw c.deref-in-Par.ensures at (c.in_ok-first-in-Par.ensures.resolved scope known shows knows) in
     let k = rw c.deref-in-Par-2.ensures at (c.in_ok-second-in-Par.ensures.resolved scope known shows later) in
-    rw c.in-Par.is (c.in_ok-whole-in-Par.ensures scope known left right sync c.in_ok-set-in-Par.ensures.set
+    rw c.in-Par.is (c.in_ok-composed-in-Par.ensures scope known left right sync c.in_ok-set-in-Par.ensures.set
     (c.in_ok-set-in-Par.ensures.known known later) h k)
 
 pub returns-in_err-first-in-Enable-clause-resolved : goal.returns-in_err-first-in-Enable-clause-resolved
@@ -125,14 +125,14 @@ returns-in_err-second-in-Enable-clause-resolved t c = λ scope known shows knows
     (rw c.in-Enable.is (misnamed_lift scope known known right (enable left c.in-Enable.at right)
     (of_enable known left right c.in-Enable.at).from_right fault h))
 
-pub returns-in_ok-whole-in-Enable-clause-resolved : goal.returns-in_ok-whole-in-Enable-clause-resolved
-returns-in_ok-whole-in-Enable-clause-resolved t c = λ scope known shows knows.
+pub returns-in_ok-enabled-in-Enable-clause-resolved : goal.returns-in_ok-enabled-in-Enable-clause-resolved
+returns-in_ok-enabled-in-Enable-clause-resolved t c = λ scope known shows knows.
     let left = tree_of c.in-Enable.left.value in
     let right = tree_of c.in-Enable.right.value in
     let later : Knows (λ k. k.now) c.resolve-in-Enable.new.known.keys known = rw c.in_ok-first-in-Enable.ensures.known knows in
     let h = rw c.deref-in-Enable.ensures at (c.in_ok-first-in-Enable.ensures.resolved scope known shows knows) in
     let k = rw c.deref-in-Enable-2.ensures at (c.in_ok-second-in-Enable.ensures.resolved scope known shows later) in
-    rw c.in-Enable.is (c.in_ok-whole-in-Enable.ensures scope known left right h k)
+    rw c.in-Enable.is (c.in_ok-enabled-in-Enable.ensures scope known left right h k)
 
 pub returns-in_err-first-in-Disable-clause-resolved : goal.returns-in_err-first-in-Disable-clause-resolved
 returns-in_err-first-in-Disable-clause-resolved t c = λ scope known shows knows.
@@ -153,14 +153,14 @@ returns-in_err-second-in-Disable-clause-resolved t c = λ scope known shows know
     carried c.from_residual-in_err-second-in-Disable.result _ _ fault c.from_residual-in_err-second-in-Disable.ensures.1
     (rw c.in-Disable.is (misnamed_lift scope known known right (disable left right) (of_disable known left right).from_right fault h))
 
-pub returns-in_ok-whole-in-Disable-clause-resolved : goal.returns-in_ok-whole-in-Disable-clause-resolved
-returns-in_ok-whole-in-Disable-clause-resolved t c = λ scope known shows knows.
+pub returns-in_ok-disabled-in-Disable-clause-resolved : goal.returns-in_ok-disabled-in-Disable-clause-resolved
+returns-in_ok-disabled-in-Disable-clause-resolved t c = λ scope known shows knows.
     let left = tree_of c.in-Disable.left.value in
     let right = tree_of c.in-Disable.right.value in
     let later : Knows (λ k. k.now) c.resolve-in-Disable.new.known.keys known = rw c.in_ok-first-in-Disable.ensures.known knows in
     let h = rw c.deref-in-Disable.ensures at (c.in_ok-first-in-Disable.ensures.resolved scope known shows knows) in
     let k = rw c.deref-in-Disable-2.ensures at (c.in_ok-second-in-Disable.ensures.resolved scope known shows later) in
-    rw c.in-Disable.is (c.in_ok-whole-in-Disable.ensures scope known left right h k)
+    rw c.in-Disable.is (c.in_ok-disabled-in-Disable.ensures scope known left right h k)
 
 pub returns-in_err-inner-in-Hide-clause-resolved : goal.returns-in_err-inner-in-Hide-clause-resolved
 returns-in_err-inner-in-Hide-clause-resolved t c = λ scope known shows knows.
@@ -173,11 +173,11 @@ returns-in_err-inner-in-Hide-clause-resolved t c = λ scope known shows knows.
     (rw c.in-Hide.is (misnamed_lift scope (texts gates ++ known) known body (hide gates body)
     (of_hide known gates body).from_left fault h))
 
-pub returns-in_ok-whole-in-Hide-clause-resolved : goal.returns-in_ok-whole-in-Hide-clause-resolved
-returns-in_ok-whole-in-Hide-clause-resolved t c = λ scope known shows knows.
+pub returns-in_ok-hidden-in-Hide-clause-resolved : goal.returns-in_ok-hidden-in-Hide-clause-resolved
+returns-in_ok-hidden-in-Hide-clause-resolved t c = λ scope known shows knows.
     let gates = c.in-Hide.gates.items in
     let body = tree_of c.in-Hide.body.value in
     let more = rw c.as_slice.ensures.value at (c.in_ok-add-in-Hide.ensures.added known knows) in
     let h = rw c.deref-in-Hide.ensures at (c.in_ok-inner-in-Hide.ensures.resolved scope (texts gates ++ known) shows more) in
-    let whole = rw c.as_slice-in-Hide.ensures.value at (c.in_ok-whole-in-Hide.ensures scope known body) in
+    let whole = rw c.as_slice-in-Hide.ensures.value at (c.in_ok-hidden-in-Hide.ensures scope known body) in
     rw c.in-Hide.is (whole h)

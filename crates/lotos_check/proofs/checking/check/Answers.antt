@@ -5,7 +5,7 @@ use Rattle.lotos_text.specs.View.{definition_of}
 use Rattle.lotos_check.specs.Names.{texts}
 use Rattle.lotos_check.specs.Scope.{definitions_in, everywhere}
 use Rattle.lotos_check.specs.Flat.{IsFlat}
-use Rattle.lotos_check.specs.Checking.{IsAccepted, IsFaulty, IsRefused}
+use Rattle.lotos_check.specs.Checking.{IsAccepted, IsFaulty, IsNowhereAccepted}
 use Rattle.lotos_check.specs.Places.{StandsInside}
 use Rattle.lotos_check.specs.Resolved.{Adds}
 use Rattle.lotos_check.specs.View.{flat_of, process_of}
@@ -15,7 +15,7 @@ use Rattle.lotos_check.proofs.SameFault.{passed_on}
 use Rattle.lotos_check.proofs.Faults.{repeat_faulty, misnamed_faulty, untyped_faulty, faulty_refused}
 use Rattle.lotos_check.proofs.FaultPlaces.{faulty_inside}
 use Rattle.lotos_check.proofs.Rules.{walked, well_typed}
-use Rattle.lotos_check.proofs.Joined.{inner_below, found_length, trap_below, trap_joined, flat_joined, calls_below, guarded_by}
+use Rattle.lotos_check.proofs.Joined.{inner_below, found_length, unguarded_below, unguarded_joined, flat_joined, calls_below, guarded_by}
 use Rattle.lotos_check.proofs.checking.check.Goals.{In_ok-add_all, In-Guarded, After-as_slice-2, After-as_slice-5}
 use Rattle.lotos_check.proofs.checking.check.Goals as goal
 
@@ -63,7 +63,7 @@ returns-in_err-walk c =
     let same = c.from_residual-in_err-walk.ensures.1 in
     record {
       faulty = passed_on (IsFaulty whole) result fault same faulty;
-      refused = passed_on (IsRefused whole) result fault same (faulty_refused whole fault faulty);
+      refused = passed_on (IsNowhereAccepted whole) result fault same (faulty_refused whole fault faulty);
       inside = passed_on (λ f. (n : ℕ) → IsInside n whole → StandsInside n f) result fault same (λ n. faulty_inside whole fault n faulty);
       accepted = search rules;
       ranks = search rules;
@@ -87,7 +87,7 @@ returns-in_err-typed c =
     let same = c.from_residual-in_err-typed.ensures.1 in
     record {
       faulty = passed_on (IsFaulty whole) result fault same faulty;
-      refused = passed_on (IsRefused whole) result fault same (faulty_refused whole fault faulty);
+      refused = passed_on (IsNowhereAccepted whole) result fault same (faulty_refused whole fault faulty);
       inside = passed_on (λ f. (n : ℕ) → IsInside n whole → StandsInside n f) result fault same (λ n. faulty_inside whole fault n faulty);
       accepted = search rules;
       ranks = search rules;
@@ -140,31 +140,31 @@ pub overflow_add-index : goal.overflow_add-index
 overflow_add-index c =
     let at = goal.at.overflow_add-index c in
     let all = c.add_all.new.into in
-    let trap = rw (c.in-Trapped.is, c.as_slice-5.ensures.value) at c.in_ok-ranks.ensures in
-    let below = trap_below (λ d. definition_of d.now) all.items (definition_of c.args.tree.whole) (listed at.In_ok-add_all) _ c.in-Trapped.set.items
-    c.index.result.now (flat at.After-as_slice-5) trap c.index.ensures in
+    let unguarded = rw (c.in-Unguarded.is, c.as_slice-5.ensures.value) at c.in_ok-ranks.ensures in
+    let below = unguarded_below (λ d. definition_of d.now) all.items (definition_of c.args.tree.whole) (listed at.In_ok-add_all) _ c.in-Unguarded.set.items
+    c.index.result.now (flat at.After-as_slice-5) unguarded c.index.ensures in
     omega (arith, all.ok.0, all.ok.1, all.small)
 
-pub index-requires-in-Trapped : goal.index-requires-in-Trapped
-index-requires-in-Trapped c =
-    let at = goal.at.index-requires-in-Trapped c in
+pub index-requires-in-Unguarded : goal.index-requires-in-Unguarded
+index-requires-in-Unguarded c =
+    let at = goal.at.index-requires-in-Unguarded c in
     let all = c.add_all.new.into in
-    let trap = rw (c.in-Trapped.is, c.as_slice-5.ensures.value) at c.in_ok-ranks.ensures in
-    let below = trap_below (λ d. definition_of d.now) all.items (definition_of c.args.tree.whole) (listed at.In_ok-add_all) _ c.in-Trapped.set.items
-    c.index.result.now (flat at.After-as_slice-5) trap c.index.ensures in
+    let unguarded = rw (c.in-Unguarded.is, c.as_slice-5.ensures.value) at c.in_ok-ranks.ensures in
+    let below = unguarded_below (λ d. definition_of d.now) all.items (definition_of c.args.tree.whole) (listed at.In_ok-add_all) _ c.in-Unguarded.set.items
+    c.index.result.now (flat at.After-as_slice-5) unguarded c.index.ensures in
     omega (arith, all.ok.0)
 
 pub returns : goal.returns
 returns c =
     let whole = definition_of c.args.tree.whole in
     let at = goal.at.returns c in
-    let set = c.in-Trapped.set in
-    let one = c.index-in-Trapped.result.now in
-    let name = c.in_ok-copied-in-Trapped.field-0 in
-    let named = c.in_ok-copied-in-Trapped.ensures ∙ name_shown one.now in
-    let trap = rw (c.in-Trapped.is, c.as_slice-5.ensures.value) at c.in_ok-ranks.ensures in
-    let faulty = trap_joined (λ d. definition_of d.now) c.add_all.new.into.items whole (listed at.In_ok-add_all) _ set.items
-    c.index.result.now one name (flat at.After-as_slice-5) trap c.index.ensures c.index-in-Trapped.ensures named in
+    let set = c.in-Unguarded.set in
+    let one = c.index-in-Unguarded.result.now in
+    let name = c.in_ok-copied-in-Unguarded.field-0 in
+    let named = c.in_ok-copied-in-Unguarded.ensures ∙ name_shown one.now in
+    let unguarded = rw (c.in-Unguarded.is, c.as_slice-5.ensures.value) at c.in_ok-ranks.ensures in
+    let faulty = unguarded_joined (λ d. definition_of d.now) c.add_all.new.into.items whole (listed at.In_ok-add_all) _ set.items
+    c.index.result.now one name (flat at.After-as_slice-5) unguarded c.index.ensures c.index-in-Unguarded.ensures named in
     record {
       faulty = faulty;
       refused = faulty_refused whole (E27 name set) faulty;

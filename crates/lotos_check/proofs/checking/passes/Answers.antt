@@ -1,4 +1,4 @@
-use Rattle.lotos_check.proofs.Faults.{repeat_faulty, misnamed_faulty, untyped_faulty, trap_faulty}
+use Rattle.lotos_check.proofs.Faults.{repeat_faulty, misnamed_faulty, untyped_faulty, unguarded_faulty}
 use Rattle.lotos_check.proofs.Rules.{walked, well_typed, flat_system}
 use Rattle.lotos_check.proofs.checking.passes.Goals as goal
 
@@ -18,5 +18,5 @@ returns-clause-misnamed c = misnamed_faulty
 pub returns-clause-untyped : goal.returns-clause-untyped
 returns-clause-untyped c whole found fault adds untyped = untyped_faulty whole found fault (walked whole found adds) untyped
 
-pub returns-clause-trapped : goal.returns-clause-trapped
-returns-clause-trapped c = trap_faulty
+pub returns-clause-unguarded : goal.returns-clause-unguarded
+returns-clause-unguarded c = unguarded_faulty

@@ -2,7 +2,7 @@ use Rattle.std.proofs.Common.{rules, ◌≡◌, None, map, length, drop, replica
 use Rattle.std.proofs.lemmas.List.{length-map, take_at}
 use Rattle.lotos_check.specs.View.{process_of}
 use Rattle.lotos_check.proofs.CallLists.{in_range, none_numbered}
-use Rattle.lotos_check.proofs.Traps.{are_ranks, traps}
+use Rattle.lotos_check.proofs.UnguardedSets.{are_ranks, is_unguarded}
 use Rattle.lotos_check.proofs.guard.ranked.Goals as goal
 
 pub number-requires-clause-in_range : goal.number-requires-clause-in_range
@@ -44,7 +44,7 @@ returns c =
     let numbered = rw c.as_slice-2.ensures.value at c.number.ensures in
     let waiting = rw after at c.in_ok-waiting.ensures in
     let found = c.in_ok-waiting.waiting.items in
-    traps _ (map process_of c.args.processes.now) ranks c.in_ok-edges.ensures numbered found waiting (λ e.
+    is_unguarded _ (map process_of c.args.processes.now) ranks c.in_ok-edges.ensures numbered found waiting (λ e.
     let some = c.if-is_empty.ensures in
     let count = c.in_ok-waiting.waiting.ok.0 in
     let none : length c.in_ok-waiting.waiting.items ≡ 0 = rw e refl in

@@ -1,5 +1,5 @@
-use Rattle.lotos_check.proofs.OneSystem.{same_processes}
+use Rattle.lotos_check.proofs.OneSystem.{one_system}
 use Rattle.lotos_check.proofs.laws.one_system.Goals as goal
 
 pub returns : goal.returns
-returns c = same_processes
+returns c = one_system

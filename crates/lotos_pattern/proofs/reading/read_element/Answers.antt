@@ -9,24 +9,24 @@ use Rattle.lotos_pattern.proofs.reading.read_element.Goals as goal
 pub returns-in-Label-clause-element : goal.returns-in-Label-clause-element
 returns-in-Label-clause-element c =
     let names = rw c.in-Label.is at c.in_ok-text.ensures in
-    spelled_by_one (texts_of c.args.words.now) c.args.place _ (word_at c.args.words.now c.args.place _ c.requires) (one _) (_, refl, names)
+    spelled_by_one c.args.strong (texts_of c.args.words.now) c.args.place _ (word_at c.args.words.now c.args.place _ c.requires) (one _) (_, refl, names)
 
 pub returns-in-Any-clause-element : goal.returns-in-Any-clause-element
 returns-in-Any-clause-element c =
     let reads = rw c.in-Any.is at c.in_ok-text.ensures in
-    spelled_by_one (texts_of c.args.words.now) c.args.place _ (word_at c.args.words.now c.args.place _ c.requires) any (_, refl, reads)
+    spelled_by_one c.args.strong (texts_of c.args.words.now) c.args.place _ (word_at c.args.words.now c.args.place _ c.requires) any (_, refl, reads)
 
 pub returns-in-Deadlock-clause-element : goal.returns-in-Deadlock-clause-element
 returns-in-Deadlock-clause-element c =
     let reads = rw c.in-Deadlock.is at c.in_ok-text.ensures in
-    spelled_by_one (texts_of c.args.words.now) c.args.place _ (word_at c.args.words.now c.args.place _ c.requires) deadlock (_, refl, reads)
+    spelled_by_one c.args.strong (texts_of c.args.words.now) c.args.place _ (word_at c.args.words.now c.args.place _ c.requires) deadlock (_, refl, reads)
 
 pub returns-in-Internal-clause-fault : goal.returns-in-Internal-clause-fault
 returns-in-Internal-clause-fault c =
     let reads = rw c.in-Internal.is at c.in_ok-text.ensures in
-    fault_internal (texts_of c.args.words.now) c.args.place _ (word_at c.args.words.now c.args.place _ c.requires) reads
+    fault_internal c.args.strong reads.1 (texts_of c.args.words.now) c.args.place _ (word_at c.args.words.now c.args.place _ c.requires) reads.0
 
 pub returns-in-Nothing-clause-fault : goal.returns-in-Nothing-clause-fault
 returns-in-Nothing-clause-fault c =
     let none = rw c.in-Nothing.is at c.in_ok-text.ensures in
-    fault_nothing (texts_of c.args.words.now) c.args.place _ (word_at c.args.words.now c.args.place _ c.requires) none
+    fault_nothing c.args.strong (texts_of c.args.words.now) c.args.place _ (word_at c.args.words.now c.args.place _ c.requires) none

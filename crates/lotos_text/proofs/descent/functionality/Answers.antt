@@ -1,5 +1,5 @@
 use Rattle.lotos_text.specs.Grammar.{exits, never_exits}
-use Rattle.lotos_text.specs.Parts.{One, Declared, Returns}
+use Rattle.lotos_text.specs.Phrases.{One, Declared, Returns}
 use Rattle.lotos_text.proofs.OneToken.{found_behind, lost_before, lost_behind, found_declared, lost_declared}
 use Rattle.lotos_text.proofs.Stops.{still_missed}
 use Rattle.lotos_text.proofs.descent.functionality.Goals as goal

@@ -1,6 +1,6 @@
 use Rattle.std.proofs.Common.{sym, subst}
 use Rattle.lotos_text.specs.Parsing.{Found}
-use Rattle.lotos_text.specs.Parts.{One, NameList, Gates}
+use Rattle.lotos_text.specs.Phrases.{One, NameList, Gates}
 use Rattle.lotos_text.proofs.NameLists.{found_no_gates, found_closed, lost_inside, lost_open}
 use Rattle.lotos_text.proofs.Stops.{missed_on, passed_on}
 use Rattle.lotos_text.proofs.descent.gate_list.Goals as goal

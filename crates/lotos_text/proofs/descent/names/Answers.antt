@@ -1,7 +1,7 @@
 use Rattle.std.proofs.Common.{rules, sym, ◌∙◌, ap, subst, [], ◌∷◌, ◌++◌, append_assoc, ◌≡◌}
 use Rattle.lotos_text.specs.Grammar.{placed}
 use Rattle.lotos_text.specs.Parsing.{Found}
-use Rattle.lotos_text.specs.Parts.{One, NameList}
+use Rattle.lotos_text.specs.Phrases.{One, NameList}
 use Rattle.lotos_text.specs.declared.tree.Placed.{Placed}
 use Rattle.lotos_text.specs.declared.token.TokenKind.TheVariants.{Identifier}
 use Rattle.lotos_text.proofs.NameLists.{found_last, found_more, lost_here, lost_more}

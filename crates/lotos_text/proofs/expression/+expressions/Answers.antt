@@ -1,9 +1,9 @@
 use Rattle.std.proofs.Common.{rules, sym, ◌∙◌, subst, arith}
 use Rattle.lotos_text.specs.Grammar.{Acts, gate, internal, enabling, prefixing}
-use Rattle.lotos_text.specs.Parts.{One, NameList, Expression, Operation}
+use Rattle.lotos_text.specs.Phrases.{One, NameList, Expression, Operation}
 use Rattle.lotos_text.specs.View.{level_of}
 use Rattle.lotos_text.specs.declared.tree.Action.TheVariants.{Gate}
-use Rattle.lotos_text.proofs.Bracketed.{found_closed, carries_inside, lost_open, lost_going_on, deep_bracket}
+use Rattle.lotos_text.proofs.Parenthesized.{found_closed, carries_inside, lost_open, lost_going_on, deep_parenthesis}
 use Rattle.lotos_text.proofs.Ends.{unended, found_stop, lost_stop, found_exit, lost_exit, lost_begun}
 use Rattle.lotos_text.proofs.FirstToken.{not_first}
 use Rattle.lotos_text.proofs.Hidings.{each_level, found_hidden, lost_hidden, lost_unentered, carries_hidden, deep_hide}
@@ -13,35 +13,35 @@ use Rattle.lotos_text.proofs.Prefixes.{lost_not_first, found_body, lost_unsepara
 use Rattle.lotos_text.proofs.Stops.{carried_on, freed_on, missed_free}
 use Rattle.lotos_text.proofs.expression.+expressions.Goals as goal
 
--- brackets
+-- parentheses
 
-pub bracketed-returns-then-room-eq0-clause-lost : goal.bracketed-returns-then-room-eq0-clause-lost
-bracketed-returns-then-room-eq0-clause-lost t c =
-    deep_bracket c.args.text.now c.args.room c.args.first c.args.tokens.now c.if-room-eq0.true c.requires.opens
+pub parenthesized-returns-then-room-eq0-clause-lost : goal.parenthesized-returns-then-room-eq0-clause-lost
+parenthesized-returns-then-room-eq0-clause-lost t c =
+    deep_parenthesis c.args.text.now c.args.room c.args.first c.args.tokens.now c.if-room-eq0.true c.requires.opens
 
-pub bracketed-returns-in_err-inner-clause-lost : goal.bracketed-returns-in_err-inner-clause-lost
-bracketed-returns-in_err-inner-clause-lost t c =
+pub parenthesized-returns-in_err-inner-clause-lost : goal.parenthesized-returns-in_err-inner-clause-lost
+parenthesized-returns-in_err-inner-clause-lost t c =
     carried_on (Expression c.args.text.now enabling) (Expression c.args.text.now prefixing) _ c.args.room c.args.tokens.now _
     (carries_inside c.args.text.now c.args.room c.args.first c.args.tokens.now c.requires.opens)
     c.from_residual.result c.in_err-inner.field-0.0 c.from_residual.ensures.1 c.in_err-inner.ensures.lost
 
-pub bracketed-returns-in_err-rest-clause-lost : goal.bracketed-returns-in_err-rest-clause-lost
-bracketed-returns-in_err-rest-clause-lost t c =
+pub parenthesized-returns-in_err-rest-clause-lost : goal.parenthesized-returns-in_err-rest-clause-lost
+parenthesized-returns-in_err-rest-clause-lost t c =
     missed_free (One _) (Expression c.args.text.now prefixing) c.args.room c.in_ok-inner.rest.now _
     (λ rest. lost_open c.args.text.now _ c.args.first c.args.tokens.now c.in_ok-inner.rest.now rest _ c.requires.opens
     c.in_ok-inner.ensures.found)
     c.from_residual-in_err-rest.result c.in_err-rest.field-0.0 c.from_residual-in_err-rest.ensures.1 c.in_err-rest.ensures.lost
 
-pub bracketed-returns-in_err-whole-clause-lost : goal.bracketed-returns-in_err-whole-clause-lost
-bracketed-returns-in_err-whole-clause-lost t c =
+pub parenthesized-returns-in_err-whole-clause-lost : goal.parenthesized-returns-in_err-whole-clause-lost
+parenthesized-returns-in_err-whole-clause-lost t c =
     unended c.args.text.now c.args.room c.in_ok-rest.rest.now _
     (λ rest. lost_going_on c.args.text.now _ c.args.first c.in_ok-rest.field-0-0 c.args.tokens.now c.in_ok-inner.rest.now
     c.in_ok-rest.rest.now rest _ c.requires.opens c.in_ok-inner.ensures.found c.in_ok-rest.ensures.found.0
     c.in_ok-rest.ensures.found.1)
     c.from_residual-in_err-whole.result c.in_err-whole.field-0.0 c.from_residual-in_err-whole.ensures.1 c.in_err-whole.ensures.lost
 
-pub bracketed-returns-clause-found : goal.bracketed-returns-clause-found
-bracketed-returns-clause-found t c =
+pub parenthesized-returns-clause-found : goal.parenthesized-returns-clause-found
+parenthesized-returns-clause-found t c =
     found_closed c.args.text.now c.args.room c.args.first c.in_ok-rest.field-0-0 c.args.tokens.now c.in_ok-inner.rest.now
     c.in_ok-rest.rest.now _ (omega arith) c.requires.opens c.in_ok-inner.ensures.found c.in_ok-rest.ensures.found.0
     c.in_ok-rest.ensures.found.1 c.in_ok-whole.ensures.whole

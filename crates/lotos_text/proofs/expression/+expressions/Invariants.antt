@@ -3,14 +3,14 @@ use Rattle.lotos_text.specs.Follow.{level_rank}
 use Rattle.lotos_text.specs.View.{level_of}
 use Rattle.lotos_text.proofs.expression.+expressions.Given as goal
 
--- A call on fewer tokens may be of any function. On the same tokens brackets come before a behaviour expression, that before
+-- A call on fewer tokens may be of any function. On the same tokens parentheses come before a behaviour expression, that before
 -- the levels from the loosest to the tightest, and those before an operand, a name and a prefix.
 
 abbrev pub decreases-behaviour : goal.decreases-behaviour
 decreases-behaviour l = 16 * length l.tokens.now + 14
 
-abbrev pub decreases-bracketed : goal.decreases-bracketed
-decreases-bracketed l = 16 * length l.tokens.now + 15
+abbrev pub decreases-parenthesized : goal.decreases-parenthesized
+decreases-parenthesized l = 16 * length l.tokens.now + 15
 
 abbrev pub decreases-hiding : goal.decreases-hiding
 decreases-hiding l = 16 * length l.tokens.now

@@ -1,6 +1,6 @@
 use Rattle.std.proofs.Common.{None}
 use Rattle.lotos_text.specs.Grammar.{prefixing}
-use Rattle.lotos_text.specs.Parts.{Gates, Expression}
+use Rattle.lotos_text.specs.Phrases.{Gates, Expression}
 use Rattle.lotos_text.proofs.Calls.{found_call, lost_gates, lost_called}
 use Rattle.lotos_text.proofs.Ends.{Ended, missed_end}
 use Rattle.lotos_text.proofs.Stops.{missed_on, passed_on}

@@ -1,6 +1,6 @@
 use Rattle.std.proofs.Common.{◌∙◌, ap, Some}
 use Rattle.lotos_text.specs.Grammar.{enable_sign, disable_sign, interleave_sign, full_sign, choice_sign}
-use Rattle.lotos_text.specs.Parts.{Operation, SyncList}
+use Rattle.lotos_text.specs.Phrases.{Operation, SyncList}
 use Rattle.lotos_text.proofs.Stops.{passed_on}
 use Rattle.lotos_text.proofs.SyncLists.{is_mark, found_sign, found_sync, lost_sync}
 use Rattle.lotos_text.proofs.expression.operator.Goals as goal

@@ -1,6 +1,6 @@
 use Rattle.std.proofs.Common.{sym, subst}
 use Rattle.lotos_text.specs.Parsing.{Found}
-use Rattle.lotos_text.specs.Parts.{One, NameList, SyncList}
+use Rattle.lotos_text.specs.Phrases.{One, NameList, SyncList}
 use Rattle.lotos_text.proofs.Stops.{missed_on, passed_on}
 use Rattle.lotos_text.proofs.SyncLists.{found_no_sync, found_some_sync, lost_no_bar, lost_listed, lost_unbracketed, lost_unbarred}
 use Rattle.lotos_text.proofs.expression.sync_list.Goals as goal

@@ -1,7 +1,7 @@
 use Rattle.std.proofs.Common.{rules, ◌-◌, List, [], ◌∷◌, ◌++◌, map, Some, None, sym, ap, arith, length, subst}
 use Rattle.lotos_text.specs.Grammar.{Is, enabling, a_process}
 use Rattle.lotos_text.specs.Parsing.{Found, Lost}
-use Rattle.lotos_text.specs.Parts.{One, Expression, Contents, Header, Inner, Row}
+use Rattle.lotos_text.specs.Phrases.{One, Expression, Contents, Header, Inner, Row}
 use Rattle.lotos_text.specs.Tree.{Def, Defs}
 use Rattle.lotos_text.specs.View.{row_of, defined_of, definition_of, definitions_of}
 use Rattle.lotos_text.specs.declared.token.TokenKind.TheVariants.{Reserved}

@@ -1,7 +1,7 @@
 use Rattle.std.proofs.Common.{◌≤◌, List, ◌++◌, map, Some, length}
-use Rattle.lotos_text.specs.Cut.{AllStand}
+use Rattle.lotos_text.specs.Cut.{AllLieIn}
 use Rattle.lotos_text.specs.Parsing.{Found}
-use Rattle.lotos_text.specs.Parts.{Row}
+use Rattle.lotos_text.specs.Phrases.{Row}
 use Rattle.lotos_text.specs.Tree.{Def}
 use Rattle.lotos_text.specs.View.{row_of, definition_of}
 use Rattle.lotos_text.specs.declared.token.Token.{Token}
@@ -20,7 +20,7 @@ decreases-row l = length l.tokens.now
 -- what is found or lost in the rest is found or lost in the whole
 abbrev pub invariant-row-loop-found : goal.invariant-row-loop-found
 invariant-row-loop-found l = record {
-  stand : AllStand l.text l.rest;
+  stand : AllLieIn l.text l.rest;
   left : length l.rest ≤ length l.fn.tokens;
   finds : (ds : List Def) (behind : List Token) → Found (Row l.text (Some l.room)) l.rest (row_of ds) behind →
       Found (Row l.text (Some l.room)) l.fn.tokens (row_of (map definition_of l.found.items ++ ds)) behind;

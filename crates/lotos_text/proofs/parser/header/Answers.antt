@@ -1,4 +1,4 @@
-use Rattle.lotos_text.specs.Parts.{One, Gates, Returns, Header}
+use Rattle.lotos_text.specs.Phrases.{One, Gates, Returns, Header}
 use Rattle.lotos_text.specs.declared.token.TokenKind.TheVariants.{Identifier}
 use Rattle.lotos_text.proofs.Headers.{found_header, lost_title, lost_formals, lost_returns}
 use Rattle.lotos_text.proofs.OneToken.{found_name, lost_name}

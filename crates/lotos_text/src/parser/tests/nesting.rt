@@ -35,7 +35,7 @@ fn limits_each_construct(rt: HostRuntime) -> Result<(), Fail> {
     let rows = [
         ("a prefix of a gate", "a;", "stop", "", 440),
         ("a prefix of the internal action", "i;", "stop", "", 440),
-        ("brackets", "(", "stop", ")", 239),
+        ("parentheses", "(", "stop", ")", 239),
         ("hiding", "hide a in ", "stop", "", 2039),
         ("choice", "stop[]", "stop", "", 1243),
         ("interleaving", "stop|||", "stop", "", 1443),
@@ -84,7 +84,7 @@ fn limits_what_stands_inside(rt: HostRuntime) -> Result<(), Fail> {
             0,
         ),
         ("`hide`", "hide a in stop", 5, 439),
-        ("a bracket", "(stop)", 5, 439),
+        ("a parenthesis", "(stop)", 5, 439),
         ("the semicolon of an internal action", "i ; stop", 5, 441),
         ("an internal action and no semicolon", "i stop", 4, 441),
         ("a mark of choice that fits nowhere", "[] stop", 4, 439),
@@ -105,39 +105,79 @@ fn limits_what_stands_inside(rt: HostRuntime) -> Result<(), Fail> {
     Ok(())
 }
 
+/// Inside 200 open constructs an opening token is refused, whatever stands behind it.
+#[test]
+fn limits_openings_before_a_misfit(rt: HostRuntime) -> Result<(), Fail> {
+    let process = "stop where process P:noexit:=";
+    let rows = [
+        ("`hide`", "a;", "hide ;", 439),
+        ("a parenthesis", "a;", "( ;", 439),
+        ("the semicolon of a prefix", "a;", "a ; ]", 441),
+        ("a mark of choice", "exit>>", "stop [] ;", 1244),
+        ("interleaving", "exit>>", "stop ||| ;", 1244),
+        ("full synchronization", "exit>>", "stop || ;", 1244),
+        ("synchronization", "exit>>", "stop |[ ;", 1244),
+        ("disabling", "exit>>", "stop [> ;", 1244),
+        ("enabling", "exit>>", "stop >> ;", 1244),
+        ("`process`", process, "stop where process ;", 5850),
+    ];
+    for (words, piece, middle, at) in rows {
+        let text = nested(rt.alloc(), piece, middle, "", 200)?;
+        assert_eq!(rt;
+            fault_of(parse(rt.alloc(), text.as_bytes())),
+            (5, at),
+            "{} before a misfit",
+            words
+        );
+    }
+    Ok(())
+}
+
 /// How the constructs of one text add up.
 #[test]
 fn counts_nested_constructs(rt: HostRuntime) -> Result<(), Fail> {
     let opened = repeated(rt.alloc(), "(", 199)?;
     let closed = repeated(rt.alloc(), ")", 199)?;
     let rows = [
-        ("199 brackets on the left of a choice", "", "[](stop)", 0, 0),
         (
-            "200 brackets on the left of a choice",
+            "199 parentheses on the left of a choice",
+            "",
+            "[](stop)",
+            0,
+            0,
+        ),
+        (
+            "200 parentheses on the left of a choice",
             "(",
             ")[](stop)",
             0,
             0,
         ),
-        ("199 brackets on the right of a choice", "stop[]", "", 0, 0),
         (
-            "200 brackets on the right of a choice",
+            "199 parentheses on the right of a choice",
+            "stop[]",
+            "",
+            0,
+            0,
+        ),
+        (
+            "200 parentheses on the right of a choice",
             "stop[](",
             ")",
             5,
             244,
         ),
-        ("199 brackets in a hide form", "hide a in ", "", 0, 0),
-        ("200 brackets in a hide form", "hide a in (", ")", 5, 248),
+        ("199 parentheses in a hide form", "hide a in ", "", 0, 0),
+        ("200 parentheses in a hide form", "hide a in (", ")", 5, 248),
         (
-            "199 brackets in each of two processes",
+            "199 parentheses in each of two processes",
             "stop where process P:noexit:=(stop)endproc process Q:noexit:=",
             "endproc",
             0,
             0,
         ),
         (
-            "200 brackets in the second process",
+            "200 parentheses in the second process",
             "stop where process P:noexit:=stop endproc process Q:noexit:=(",
             ")endproc",
             5,

@@ -133,7 +133,7 @@ fn reads_behaviour_expressions(rt: HostRuntime) -> Result<(), Fail> {
             "(stop [] (hide A@48 in (stop >>@58 exit)))",
         ),
         (
-            "`hide` in brackets ends with them",
+            "`hide` in parentheses ends with them",
             "(hide a in stop) >> exit",
             "((hide A@41 in stop) >>@52 exit)",
         ),
@@ -148,19 +148,23 @@ fn reads_behaviour_expressions(rt: HostRuntime) -> Result<(), Fail> {
             "(hide A@40,B@42 in stop)",
         ),
         (
-            "brackets leave nothing",
+            "parentheses leave nothing",
             "(a; stop [] b; stop)",
             "((A@36; stop) [] (B@47; stop))",
         ),
         (
-            "brackets group to the left",
+            "parentheses group to the left",
             "(stop [] exit) [] stop",
             "((stop [] exit) [] stop)",
         ),
-        ("brackets about brackets", "((stop))", "stop"),
-        ("a prefix of brackets", "a; (i; exit)", "(A@35; (i; exit))"),
+        ("parentheses about parentheses", "((stop))", "stop"),
         (
-            "a prefix of a choice in brackets",
+            "a prefix of parentheses",
+            "a; (i; exit)",
+            "(A@35; (i; exit))",
+        ),
+        (
+            "a prefix of a choice in parentheses",
             "a; (stop [] i; exit)",
             "(A@35; (stop [] (i; exit)))",
         ),

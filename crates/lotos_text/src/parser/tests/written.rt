@@ -42,7 +42,7 @@ pub fn write_definition(
     Ok(())
 }
 
-/// Writes a behaviour expression with every bracket, and its names with their offsets.
+/// Writes a behaviour expression with every parenthesis, and its names with their offsets.
 pub fn write_tree(alloc: Global, out: &mut String, tree: &Behaviour) -> Result<(), AllocError> {
     match tree {
         Behaviour::Stop => out.push_str("stop")?,

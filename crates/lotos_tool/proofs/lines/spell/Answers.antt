@@ -1,18 +1,23 @@
-use Rattle.std.proofs.Common.{◌≡◌, ◌≤◌, ◌++◌, ◌∷◌, ℕ, List, length, take, map, string_bytes, arith, rules}
-use Rattle.std.specs.List.{flat_map}
-use Rattle.std.proofs.lemmas.List.{take_all}
-use Rattle.std.proofs.lemmas.List.Folds.{flat_map-map}
-use Rattle.lotos_tool.specs.Lines.{spelled}
+use Rattle.std.proofs.Common.{◌+◌, drop, rules}
+use Rattle.std.proofs.lemmas.List.{drop_more}
+use Rattle.lotos_terms.specs.declared.label.Label.TheVariants.{Gate}
+use Rattle.lotos_tool.proofs.Spelled.{left_at_first, left_behind, left_none, left_shown}
 use Rattle.lotos_tool.proofs.lines.spell.Goals as goal
 
--- the first label, and then a blank and a label for each of the others, spell the sequence
-spelled_whole : {L : Type 0} (bytes : L → List ℕ) (labels rest : List L) (first : L) (start text : List ℕ) (i : ℕ)
-    → labels ≡ first ∷ rest → start ≡ bytes first → text ≡ start ++ flat_map (λ m. 32 ∷ bytes m) (take i rest) → length rest ≤ i
-    → text ≡ spelled (map bytes labels)
-spelled_whole bytes labels rest first start text i cut begun written passed =
-    rw (written, begun, cut, take_all i rest passed, flat_map-map (λ m. 32 ∷ m) bytes rest)
+pub loop-label-init : goal.loop-label-init
+loop-label-init c = left_at_first _ _ _ _ _ _ (search rules) c.label_text.ensures.text c.in_ok-text.ensures.ok
+
+pub label_text-requires-in-loop-label : goal.label_text-requires-in-loop-label
+label_text-requires-in-loop-label c = record {
+  known = left_shown _ _ (drop (c.loop-label.label-index + 1) c.in-Some.rest.now) _ _ _
+      (drop_more c.in-Some.rest.now c.loop-label.label-index (Gate 0) c.loop-label-test.true)
+      (c.loop-label.invariant c.requires.0 c.requires.1);
+}
+
+pub loop-label-preserved : goal.loop-label-preserved
+loop-label-preserved c = λ s all. left_behind _ _ _ _ _ _ _ s
+    (drop_more c.in-Some.rest.now c.loop-label.label-index (Gate 0) c.loop-label-test.true)
+    c.label_text-in-loop-label.ensures.text (search rules) (c.loop-label.invariant s all)
 
 pub returns : goal.returns
-returns c =
-    spelled_whole string_bytes c.args.labels.now c.in-Some.rest.now c.in-Some.first.now _ _ c.loop-label.label-index
-    (search rules) (search rules) c.loop-label.invariant (omega arith)
+returns c = λ s all. left_none _ c.in-Some.rest.now c.loop-label.label-index _ s c.loop-label-test.false (c.loop-label.invariant s all)

@@ -1,8 +1,12 @@
-use Rattle.std.proofs.Common.{◌≡◌, ◌++◌, ◌∷◌, take, string_bytes}
+use Rattle.std.proofs.Common.{◌≡◌, ◌++◌, ◌∷◌, List, drop, string_bytes}
 use Rattle.std.specs.List.{flat_map}
+use Rattle.lotos_search.specs.Order.{Label}
+use Rattle.lotos_search.specs.Searched.{AreShown}
+use Rattle.lotos_tool.specs.Lines.{spelled}
 use Rattle.lotos_tool.proofs.lines.spell.Given as goal
 
--- the text so far is the first label, and a blank and a label for each one that the loop has passed
+-- whatever the labels are printed as, the text so far and a blank and a label for each one that is left spell it
 abbrev pub invariant-loop-label : goal.invariant-loop-label
-invariant-loop-label l =
-    string_bytes l.text ≡ string_bytes l.initial.text ++ flat_map (λ m. 32 ∷ string_bytes m) (take l.label-index l.rest)
+invariant-loop-label l = (s : List Label) → AreShown l.search.searched.names l.labels s →
+    (left : List Label) × AreShown l.search.searched.names (drop l.label-index l.rest) left
+    × (string_bytes l.text ++ flat_map (λ m. 32 ∷ m) left ≡ spelled s)

@@ -1,15 +1,16 @@
-use Rattle.std.proofs.Common.{◌≡◌, ◌≤◌, ◌-◌, false, length}
+use Rattle.std.proofs.Common.{◌≡◌, ◌+◌, ◌≤◌, ◌-◌, false, length}
 use Rattle.std.specs.Io.KnownBytes.{Consumes}
+use Rattle.lotos_text.specs.Profile.{longest_text}
 use Rattle.lotos_tool.proofs.reading.read_text.Given as goal
 
 -- the text so far is what was taken, it is not too long, and no read has failed
 abbrev pub invariant-loop-text : goal.invariant-loop-text
 invariant-loop-text g l = record {
   taken : Consumes (g.R.Source.left l.fn.reader) (g.R.Source.left l.reader) l.text.items;
-  within : length l.text.items ≤ 1048576;
+  within : length l.text.items ≤ longest_text;
   unfailed : g.R.Source.has_failed l.reader ≡ false;
 }
 
 -- the bytes that may still be taken
 abbrev pub decreases-loop-text : goal.decreases-loop-text
-decreases-loop-text g l = 1048577 - length l.text.items
+decreases-loop-text g l = longest_text + 1 - length l.text.items

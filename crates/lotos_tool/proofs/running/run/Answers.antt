@@ -1,7 +1,7 @@
-use Rattle.std.proofs.Common.{◌≡◌, ℕ, List, Option, inl, inr, refl, rules, subst}
+use Rattle.std.proofs.Common.{◌≡◌, ℕ, Bool, List, Option, inl, inr, refl, rules, subst}
 use Rattle.std.proofs.KnownBytes.{Keeps-refl}
 use Rattle.clap.specs.Words.{Text}
-use Rattle.lotos_tool.specs.Answers.{Answers, CheckAnswers}
+use Rattle.lotos_tool.specs.Answers.{Answers, CheckAnswers, is_input_fault}
 use Rattle.lotos_tool.specs.Request.{RequestOf, request_view}
 use Rattle.lotos_tool.specs.Runs.{Searched, Inspected, status_of, check_status_of}
 use Rattle.lotos_tool.specs.Runs.Told.{helped, wrong}
@@ -11,32 +11,33 @@ use Rattle.lotos_tool.specs.declared.command.Request.TheVariants as one
 use Rattle.lotos_tool.specs.declared.command.SearchRequest.{SearchRequest}
 use Rattle.lotos_tool.proofs.running.run.Goals as goal
 
-module _ (words : List Text) (left left' got got' : Option (List ℕ)) (status : ℕ) where
-  searched : (asked : Request) (request : SearchRequest) (ended : Ended) → Answers request left left' got got' ended
+module _ (words : List Text) (left left' got got' : Option (List ℕ)) (broken : Bool) (status : ℕ) where
+  searched : (asked : Request) (request : SearchRequest) (ended : Ended) → Answers request left left' got got' ended → broken ≡ is_input_fault ended
       → status ≡ status_of ended → asked ≡ one.Search request → RequestOf words (request_view asked)
-      → Searched words left left' got got' status
-  searched asked request ended answers status_is is asks =
+      → Searched words left left' got got' broken status
+  searched asked request ended answers input status_is is asks =
       let Asks : Request → Type 0 = λ r. RequestOf words (request_view r) in
-      record { request = request; asked = subst Asks is asks; ended = ended; answered = answers; status_is = status_is }
+      record { request = request; asked = subst Asks is asks; ended = ended; answered = answers; input = input; status_is = status_is }
 
-  inspected : (asked : Request) (ended : Ended) → CheckAnswers left left' got got' ended → status ≡ check_status_of ended
-      → asked ≡ one.Check → RequestOf words (request_view asked) → Inspected words left left' got got' status
-  inspected asked ended answers status_is is asks =
+  inspected : (asked : Request) (ended : Ended) → CheckAnswers left left' got got' ended → broken ≡ is_input_fault ended → status ≡ check_status_of ended
+      → asked ≡ one.Check → RequestOf words (request_view asked) → Inspected words left left' got got' broken status
+  inspected asked ended answers input status_is is asks =
       let Asks : Request → Type 0 = λ r. RequestOf words (request_view r) in
-      record { asked = subst Asks is asks; ended = ended; answered = answers; status_is = status_is }
+      record { asked = subst Asks is asks; ended = ended; answered = answers; input = input; status_is = status_is }
 
 pub returns-in-Ok-Check-clause-ran : goal.returns-in-Ok-Check-clause-ran
 returns-in-Ok-Check-clause-ran g c =
-    inr (inl (inspected _ _ _ _ _ _ _ c.check_text.result c.check_text.ensures.answers c.end_check.ensures.status (search rules) c.in-Ok-Check.ensures.is))
+    inr (inl (inspected _ _ _ _ _ _ _ _ c.check_text.result c.check_text.ensures.answers c.check_text.ensures.input c.end_check.ensures.status (search rules) c.in-Ok-Check.ensures.is))
 
 pub returns-in-Ok-Search-clause-ran : goal.returns-in-Ok-Search-clause-ran
 returns-in-Ok-Search-clause-ran g c =
-    inl (searched _ _ _ _ _ _ c.in-Ok-Search.field-0 _ c.list.result c.list.ensures.answers c.end_search.ensures.status (search rules) c.in-Ok-Search.ensures.is)
+    inl (searched _ _ _ _ _ _ _ c.in-Ok-Search.field-0 _ c.list.result c.list.ensures.answers c.list.ensures.input c.end_search.ensures.status (search rules) c.in-Ok-Search.ensures.is)
 
 pub returns-in-Err-Help-clause-ran : goal.returns-in-Err-Help-clause-ran
 returns-in-Err-Help-clause-ran g c =
     inr (inr (record {
       kept = Keeps-refl _;
+      unfailed = search rules;
       told = helped _ c.show_help.ensures.shown;
       taken = λ t. let m = c.in-Err-Help.ensures.taken t in let e = c.in-Err-Help.field-0-is in cc;
     }))
@@ -45,6 +46,7 @@ pub returns-in-Err-Wrong-clause-ran : goal.returns-in-Err-Wrong-clause-ran
 returns-in-Err-Wrong-clause-ran g c =
     inr (inr (record {
       kept = Keeps-refl _;
+      unfailed = search rules;
       told = wrong refl (Keeps-refl _);
       taken = λ t. let m = c.in-Err-Wrong.ensures.taken t in let e = c.in-Err-Wrong.field-0-is in cc;
     }))

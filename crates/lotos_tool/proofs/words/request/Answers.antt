@@ -25,7 +25,7 @@ returns-in_ok-request_in-in-Ok-clause-is c =
     subst (λ (a : App). fault_of a words ≡ []) app (c.in-Ok.ensures.kinds (ap is_simple_and_free app ∙ simple_and_free)) in
     let given : subcommand_rows_of c.in-Ok.found ≡ subcommand_of lotosseq words =
     (c.in-Ok.ensures.matches (ap is_simple app ∙ simple)).1 ∙ ap (λ (a : App). subcommand_of a words) app in
-    record { faultless = none; reads = ap request_from (sym given) ∙ c.in_ok-request_in-in-Ok.ensures }
+    record { faultless = none; reads = ap request_from (sym given) ∙ c.in_ok-request_in-in-Ok.ensures.is }
 
 pub returns-in-Err-clause-taken : goal.returns-in-Err-clause-taken
 returns-in-Err-clause-taken c = λ taken.

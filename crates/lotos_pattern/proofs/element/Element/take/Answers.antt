@@ -1,7 +1,7 @@
 use Rattle.std.proofs.Common.{◌≡◌, ◌≢◌, ℕ, List, Bool, true, false, sym, ◌∙◌}
 use Rattle.std.specs.Str.{bytes_eq}
 use Rattle.std.proofs.lemmas.Slice.Eq.{bytes_eq-Decides}
-use Rattle.lotos_pattern.proofs.Segments.{any_passes, deadlock_fails, one_fails, one_passes, until_deadlock_stays, until_passes, until_stays}
+use Rattle.lotos_pattern.proofs.Segments.{any_passes, deadlock_fails, one_fails, one_passes, until_deadlock_stays, until_passes, until_stays, while_any_stays, while_fails, while_stays}
 use Rattle.lotos_pattern.proofs.element.Element.take.Goals as goal
 
 same : (own read label : List ℕ) (answer : Bool) → read ≡ own → answer ≡ bytes_eq read label → answer ≡ true → own ≡ label
@@ -24,6 +24,15 @@ returns-then-eq-2 c = rw c.in-Until.is (until_passes _ _ (same _ _ _ _ c.as_str-
 
 pub returns-else-eq-2 : goal.returns-else-eq-2
 returns-else-eq-2 c = rw c.in-Until.is (until_stays _ _ (other _ _ _ _ c.as_str-in-Until.ensures.value c.eq-in-Until.ensures c.if-eq-2.false))
+
+pub returns-then-eq-3 : goal.returns-then-eq-3
+returns-then-eq-3 c = rw c.in-While.is (while_stays _ _ (same _ _ _ _ c.as_str-in-While.ensures.value c.eq-in-While.ensures c.if-eq-3.true))
+
+pub returns-else-eq-3 : goal.returns-else-eq-3
+returns-else-eq-3 c = rw c.in-While.is (while_fails _ _ (other _ _ _ _ c.as_str-in-While.ensures.value c.eq-in-While.ensures c.if-eq-3.false))
+
+pub returns-in-WhileAny : goal.returns-in-WhileAny
+returns-in-WhileAny c = rw c.in-WhileAny.is (while_any_stays _)
 
 pub returns-in-Deadlock : goal.returns-in-Deadlock
 returns-in-Deadlock c = rw c.in-Deadlock.is (deadlock_fails _)

@@ -1,5 +1,5 @@
 use Rattle.std.proofs.Common.{ap, subst, ◌∙◌}
-use Rattle.lotos_pattern.specs.Patterns.{EndsDead}
+use Rattle.lotos_pattern.specs.Patterns.{EndLast}
 use Rattle.lotos_pattern.specs.Elements.{elements_of}
 use Rattle.lotos_pattern.proofs.Standing.{matched, unmatched}
 use Rattle.lotos_pattern.proofs.pattern.Pattern.accepts.Goals as goal
@@ -9,10 +9,10 @@ returns-then-not-may_end c r stands = unmatched _ r c.args.place stands c.if-not
 
 pub returns-then-ends_dead : goal.returns-then-ends_dead
 returns-then-ends_dead c r stands =
-    let shown = ap elements_of c.as_slice.ensures.value ∙ c.self.view_is in
-    (matched _ r c.args.place stands c.if-not-may_end.ensures, subst EndsDead shown c.if-ends_dead.ensures)
+    let shown = ap elements_of c.as_slice.ensures.value ∙ ap (λ p. p.elements) c.self.view_is in
+    (matched _ r c.args.place stands c.if-not-may_end.ensures, subst EndLast shown c.if-ends_dead.ensures)
 
 pub returns-else-ends_dead : goal.returns-else-ends_dead
 returns-else-ends_dead c r stands =
-    let shown = ap elements_of c.as_slice.ensures.value ∙ c.self.view_is in
-    (matched _ r c.args.place stands c.if-not-may_end.ensures, subst (λ p. EndsDead p → ⊥) shown c.if-ends_dead.ensures)
+    let shown = ap elements_of c.as_slice.ensures.value ∙ ap (λ p. p.elements) c.self.view_is in
+    (matched _ r c.args.place stands c.if-not-may_end.ensures, subst (λ p. EndLast p → ⊥) shown c.if-ends_dead.ensures)

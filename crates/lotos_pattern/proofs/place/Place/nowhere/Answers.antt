@@ -1,0 +1,5 @@
+use Rattle.lotos_pattern.proofs.Places.{bare}
+use Rattle.lotos_pattern.proofs.place.Place.nowhere.Goals as goal
+
+pub returns : goal.returns
+returns c k h = search bare

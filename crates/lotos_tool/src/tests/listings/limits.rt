@@ -1,0 +1,99 @@
+//! Rows of limits of lines.
+
+use super::{Row, expect};
+
+const ROWS: &[Row] = &[
+    Row {
+        name: "a limit of exactly the lines",
+        text: b"specification S [a,b] : exit behaviour a; exit [> b; stop endspec",
+        words: &[
+            "lotosseq",
+            "search",
+            "--depth",
+            "2",
+            "--limit",
+            "3",
+            "<until>",
+            "<deadlock>",
+        ],
+        output: b"B\nA B\nA exit\n",
+        message: b"lotosseq: stopped after A exit: limit reached\n",
+        status: 3,
+    },
+    Row {
+        name: "a limit of one line more",
+        text: b"specification S [a,b] : exit behaviour a; exit [> b; stop endspec",
+        words: &[
+            "lotosseq",
+            "search",
+            "--depth",
+            "2",
+            "--limit",
+            "4",
+            "<until>",
+            "<deadlock>",
+        ],
+        output: b"B\nA B\nA exit\n",
+        message: b"",
+        status: 0,
+    },
+    Row {
+        name: "a limit of one line less",
+        text: b"specification S [a,b] : exit behaviour a; exit [> b; stop endspec",
+        words: &[
+            "lotosseq",
+            "search",
+            "--depth",
+            "2",
+            "--limit",
+            "2",
+            "<until>",
+            "<deadlock>",
+        ],
+        output: b"B\nA B\n",
+        message: b"lotosseq: stopped after A B: limit reached\n",
+        status: 3,
+    },
+    Row {
+        name: "a limit behind a line",
+        text: b"specification S [a,b] : exit behaviour a; exit [> b; stop endspec",
+        words: &[
+            "lotosseq",
+            "search",
+            "--depth",
+            "2",
+            "--limit",
+            "1",
+            "--after",
+            "B",
+            "<until>",
+            "<deadlock>",
+        ],
+        output: b"A B\n",
+        message: b"lotosseq: stopped after A B: limit reached\n",
+        status: 3,
+    },
+    Row {
+        name: "a limit that no line reaches",
+        text: b"specification S [a,b] : noexit behaviour stop endspec",
+        words: &["lotosseq", "search", "--depth", "2", "--limit", "1", "A"],
+        output: b"",
+        message: b"",
+        status: 1,
+    },
+    Row {
+        name: "without lines and with an explanation",
+        text: b"specification S [a,b] : noexit behaviour a; stop endspec",
+        words: &["lotosseq", "search", "--depth", "5", "--explain"],
+        output: b"<empty> : <empty>\n",
+        message: b"",
+        status: 0,
+    },
+];
+
+#[test]
+fn limits_of_lines(rt: HostRuntime) {
+    for row in ROWS {
+        expect(&rt, rt.alloc(), row);
+    }
+}
