@@ -20,7 +20,7 @@ use Rattle.lotos_tool.specs.Searching.{Ends, IsAskedOf, IsFaultOfMark, IsRefused
 use Rattle.lotos_tool.specs.declared.answer.Ended.{Ended}
 use Rattle.lotos_tool.specs.declared.answer.Ended.TheVariants.{Complete, Refused, Stopped}
 use Rattle.lotos_tool.specs.declared.answer.Why.TheVariants as why
-use Rattle.lotos_tool.specs.declared.command.SearchRequest.{SearchRequest}
+use Rattle.lotos_command.specs.declared.command.SearchRequest.{SearchRequest}
 
 -- a search that was begun with a sound table of a system is a search of it
 search_of_a_table : (system : System) (held : Held) (p : Pattern) (depth : ℕ) (mark : Option (List Label)) (terms : ℕ) (search : Shown) →

@@ -7,7 +7,4 @@ pub mod Answers
 pub mod Wrapped
 pub mod WriteFaults
 pub mod Searching
-pub mod Command
-pub mod Request
-pub mod Fitting
 pub mod Runs

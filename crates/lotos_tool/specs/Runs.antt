@@ -1,17 +1,16 @@
 -- What a run of the command does, and the status that it ends with.
-use Rattle.std.specs.Prelude.{◌≡◌, ℕ, ◌⊎◌, ◌==◌, Bool, List, Option, true, false, if◌then◌else◌}
+use Rattle.std.specs.Prelude.{◌≡◌, ℕ, ◌⊎◌, ◌==◌, Bool, List, Option, false, if◌then◌else◌}
 use Rattle.std.specs.Io.KnownBytes.{Appends, Keeps}
-use Rattle.clap.specs.Words.{Text, takes}
 use Rattle.lotos_tool.specs.Answers.{Answers, CheckAnswers, is_input_fault}
-use Rattle.lotos_tool.specs.Command.{lotosseq}
-use Rattle.lotos_tool.specs.Request.{RequestOf, request_view}
+use Rattle.lotos_command.specs.Faults.{AreTaken, AreWrong, AskForHelp}
+use Rattle.lotos_command.specs.Request.{RequestOf, request_view}
 use Rattle.lotos_tool.specs.Writing.{AppendsBeginning}
 use Rattle.lotos_tool.specs.declared.answer.Ended.{Ended}
 use Rattle.lotos_tool.specs.declared.answer.Ended.TheVariants.{Complete, Refused, Stopped}
 use Rattle.lotos_tool.specs.declared.answer.Why.{Why}
 use Rattle.lotos_tool.specs.declared.answer.Why.TheVariants as why
-use Rattle.lotos_tool.specs.declared.command.SearchRequest.{SearchRequest}
-use Rattle.lotos_tool.specs.declared.command.Request.TheVariants as asked
+use Rattle.lotos_command.specs.declared.command.SearchRequest.{SearchRequest}
+use Rattle.lotos_command.specs.declared.command.Request.TheVariants as asked
 
 -- the status of what stopped: 3 at the limit, 4 at a prefix that is over, 5 where memory was wanting, 6 where the output could
 -- not be written
@@ -28,7 +27,7 @@ status_of (Refused cause) = 2
 status_of (Stopped last cause) = stop_status_of cause
 
 -- the words ask for a search, its answer is true, and the status is that of the answer
-pub record Searched (words : List Text) (left left' got got' : Option (List ℕ)) (failed : Bool) (status : ℕ) : Type 0 where
+pub record SearchRan (words : List (List ℕ)) (left left' got got' : Option (List ℕ)) (failed : Bool) (status : ℕ) : Type 0 where
   pub request : SearchRequest
   pub asked : RequestOf words (request_view (asked.Search request))
   pub ended : Ended
@@ -44,7 +43,7 @@ check_status_of (Refused cause) = 2
 check_status_of (Stopped last cause) = stop_status_of cause
 
 -- the words ask for a check, its answer is true, and the status is that of the answer
-pub record Inspected (words : List Text) (left left' got got' : Option (List ℕ)) (failed : Bool) (status : ℕ) : Type 0 where
+pub record CheckRan (words : List (List ℕ)) (left left' got got' : Option (List ℕ)) (failed : Bool) (status : ℕ) : Type 0 where
   pub asked : RequestOf words (request_view asked.Check)
   pub ended : Ended
   pub answered : CheckAnswers left left' got got' ended
@@ -53,28 +52,28 @@ pub record Inspected (words : List Text) (left left' got got' : Option (List ℕ
   pub status_is : status ≡ check_status_of ended
 
 -- the text was written and the status is 0, or the output failed and the status is 6
-pub data Shown (got got' : Option (List ℕ)) (text : List ℕ) (status : ℕ) : Type 0 where
-  written : status ≡ 0 → Appends got got' text → Shown got got' text status
-  broken_off : status ≡ 6 → AppendsBeginning got got' text → Shown got got' text status
+pub data HelpWritten (got got' : Option (List ℕ)) (text : List ℕ) (status : ℕ) : Type 0 where
+  written : status ≡ 0 → Appends got got' text → HelpWritten got got' text status
+  broken_off : status ≡ 6 → AppendsBeginning got got' text → HelpWritten got got' text status
 
 -- what the output got where nothing is searched and nothing checked, by the status
-pub data Told (got got' : Option (List ℕ)) (status : ℕ) : Type 0 where
-  -- the help that the words ask for
-  helped : (text : List ℕ) → Shown got got' text status → Told got got' status
+pub data Told (words : List (List ℕ)) (got got' : Option (List ℕ)) (status : ℕ) : Type 0 where
+  -- help, for which the words ask
+  helped : AskForHelp words → (text : List ℕ) → HelpWritten got got' text status → Told words got got' status
   -- nothing, the words being wrong
-  wrong : status ≡ 2 → Keeps got got' → Told got got' status
+  wrong : AreWrong words → status ≡ 2 → Keeps got got' → Told words got got' status
   -- nothing, memory being wanting
-  wanting : status ≡ 5 → Keeps got got' → Told got got' status
+  wanting : status ≡ 5 → Keeps got got' → Told words got got' status
 
 -- nothing is searched or checked, nothing is read, and words without a fault are left only for want of memory
-pub record NotAsked (words : List Text) (left left' got got' : Option (List ℕ)) (failed : Bool) (status : ℕ) : Type 0 where
+pub record NothingRan (words : List (List ℕ)) (left left' got got' : Option (List ℕ)) (failed : Bool) (status : ℕ) : Type 0 where
   pub kept : Keeps left left'
   pub unfailed : failed ≡ false
-  pub told : Told got got' status
-  pub taken : takes lotosseq words ≡ true → status ≡ 5
+  pub told : Told words got got' status
+  pub taken : AreTaken words → status ≡ 5
 
 -- what the run of the words did, whether the reader failed, and the status that it ended with
-abbrev pub Ran : List Text → Option (List ℕ) → Option (List ℕ) → Option (List ℕ) → Option (List ℕ) → Bool → ℕ → Type 0
+abbrev pub Ran : List (List ℕ) → Option (List ℕ) → Option (List ℕ) → Option (List ℕ) → Option (List ℕ) → Bool → ℕ → Type 0
 Ran words left left' got got' failed status =
-    Searched words left left' got got' failed status ⊎ Inspected words left left' got got' failed status
-    ⊎ NotAsked words left left' got got' failed status
+    SearchRan words left left' got got' failed status ⊎ CheckRan words left left' got got' failed status
+    ⊎ NothingRan words left left' got got' failed status

@@ -9,7 +9,6 @@
 mod accepting;
 mod answer;
 mod checking;
-mod command;
 mod device;
 mod lines;
 mod listing;
@@ -20,14 +19,12 @@ mod running;
 mod searching;
 #[cfg(test)]
 mod tests;
-mod words;
 mod writing;
 
 pub use answer::{Ended, Why};
 pub use checking::check_text;
-pub use command::{CommandFault, Request, SearchRequest};
 pub use device::{DeviceFailed, FromRead, FromWrite, Sink, Source};
+pub use lotos_command::{CommandFault, Request, SearchRequest, request};
 pub use refusal::Refusal;
 pub use running::run;
 pub use searching::list;
-pub use words::request;

@@ -11,10 +11,10 @@ ghost use Rattle.lotos_tool.specs.Writing.{AppendsPart};
 ghost use Rattle.lotos_tool.specs.WriteFaults.{is_write_fault};
 
 use crate::answer::{Ended, Why};
-use crate::command::SearchRequest;
 use crate::device::{DeviceFailed, Sink};
 use crate::lines::{line, spell};
 use crate::writing::{finish, flushed, write_bytes};
+use lotos_command::SearchRequest;
 use lotos_search::laws::items_lower_the_count;
 use lotos_search::{Found, Halt, Search};
 use lotos_terms::Label;

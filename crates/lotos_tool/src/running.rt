@@ -2,18 +2,17 @@
 ghost use Rattle.std.specs.Prelude.{◌≡◌, ◌==◌, false, OnOk, OnErr, is_err};
 ghost use Rattle.std.specs.Io.KnownBytes.{Appends};
 ghost use Rattle.lotos_tool.specs.Answers.{is_output_cause, is_output_fault};
-ghost use Rattle.lotos_tool.specs.Request.{texts_of};
-ghost use Rattle.lotos_tool.specs.Runs.{Ran, Shown, check_status_of, status_of, stop_status_of};
+ghost use Rattle.lotos_command.specs.Request.{texts_of};
+ghost use Rattle.lotos_tool.specs.Runs.{HelpWritten, Ran, check_status_of, status_of, stop_status_of};
 ghost use Rattle.lotos_tool.specs.Writing.{AppendsBeginning};
 
 use crate::answer::{Ended, Why};
 use crate::checking::check_text;
-use crate::command::{CommandFault, Request};
 use crate::device::{DeviceFailed, Sink, Source};
 use crate::message::{tell_failure, tell_refusal, tell_stop, tell_text};
 use crate::searching::list;
-use crate::words::request;
 use crate::writing::write_bytes;
+use lotos_command::{CommandFault, Request, request};
 use std::alloc::Global;
 use std::io::Write;
 
@@ -106,7 +105,7 @@ fn stop_status(why: &Why) -> u8
 /// Writes the help, and answers the status.
 fn show_help<W: Sink, E: Write>(text: &str, out: &mut W, err: &mut E) -> u8
     requires { W.has_failed out.old ≡ false }
-    ensures shown { Shown (W.got out.old) (W.got out.new) text.now result }
+    ensures shown { HelpWritten (W.got out.old) (W.got out.new) text.now result }
     ensures output { W.has_failed out.new ≡ (result == 6) }
 {
     match write_whole(text, out) {

@@ -1,26 +1,26 @@
 use Rattle.std.proofs.Common.{◌≡◌, ℕ, Bool, List, Option, inl, inr, refl, rules, subst}
 use Rattle.std.proofs.KnownBytes.{Keeps-refl}
-use Rattle.clap.specs.Words.{Text}
 use Rattle.lotos_tool.specs.Answers.{Answers, CheckAnswers, is_input_fault}
-use Rattle.lotos_tool.specs.Request.{RequestOf, request_view}
-use Rattle.lotos_tool.specs.Runs.{Searched, Inspected, status_of, check_status_of}
+use Rattle.lotos_command.specs.Faults.{IsFaultOf}
+use Rattle.lotos_command.specs.Request.{RequestOf, request_view, texts_of}
+use Rattle.lotos_tool.specs.Runs.{CheckRan, SearchRan, status_of, check_status_of}
 use Rattle.lotos_tool.specs.Runs.Told.{helped, wrong}
 use Rattle.lotos_tool.specs.declared.answer.Ended.{Ended}
-use Rattle.lotos_tool.specs.declared.command.Request.{Request}
-use Rattle.lotos_tool.specs.declared.command.Request.TheVariants as one
-use Rattle.lotos_tool.specs.declared.command.SearchRequest.{SearchRequest}
+use Rattle.lotos_command.specs.declared.command.Request.{Request}
+use Rattle.lotos_command.specs.declared.command.Request.TheVariants as one
+use Rattle.lotos_command.specs.declared.command.SearchRequest.{SearchRequest}
 use Rattle.lotos_tool.proofs.running.run.Goals as goal
 
-module _ (words : List Text) (left left' got got' : Option (List ℕ)) (broken : Bool) (status : ℕ) where
+module _ (words : List (List ℕ)) (left left' got got' : Option (List ℕ)) (broken : Bool) (status : ℕ) where
   searched : (asked : Request) (request : SearchRequest) (ended : Ended) → Answers request left left' got got' ended → broken ≡ is_input_fault ended
       → status ≡ status_of ended → asked ≡ one.Search request → RequestOf words (request_view asked)
-      → Searched words left left' got got' broken status
+      → SearchRan words left left' got got' broken status
   searched asked request ended answers input status_is is asks =
       let Asks : Request → Type 0 = λ r. RequestOf words (request_view r) in
       record { request = request; asked = subst Asks is asks; ended = ended; answered = answers; input = input; status_is = status_is }
 
   inspected : (asked : Request) (ended : Ended) → CheckAnswers left left' got got' ended → broken ≡ is_input_fault ended → status ≡ check_status_of ended
-      → asked ≡ one.Check → RequestOf words (request_view asked) → Inspected words left left' got got' broken status
+      → asked ≡ one.Check → RequestOf words (request_view asked) → CheckRan words left left' got got' broken status
   inspected asked ended answers input status_is is asks =
       let Asks : Request → Type 0 = λ r. RequestOf words (request_view r) in
       record { asked = subst Asks is asks; ended = ended; answered = answers; input = input; status_is = status_is }
@@ -38,7 +38,7 @@ returns-in-Err-Help-clause-ran g c =
     inr (inr (record {
       kept = Keeps-refl _;
       unfailed = search rules;
-      told = helped _ c.show_help.ensures.shown;
+      told = helped (subst (IsFaultOf (texts_of c.args.words.now)) c.in-Err-Help.field-0-is c.in-Err-Help.ensures.fault) _ c.show_help.ensures.shown;
       taken = λ t. let m = c.in-Err-Help.ensures.taken t in let e = c.in-Err-Help.field-0-is in cc;
     }))
 
@@ -47,6 +47,6 @@ returns-in-Err-Wrong-clause-ran g c =
     inr (inr (record {
       kept = Keeps-refl _;
       unfailed = search rules;
-      told = wrong refl (Keeps-refl _);
+      told = wrong (subst (IsFaultOf (texts_of c.args.words.now)) c.in-Err-Wrong.field-0-is c.in-Err-Wrong.ensures.fault) refl (Keeps-refl _);
       taken = λ t. let m = c.in-Err-Wrong.ensures.taken t in let e = c.in-Err-Wrong.field-0-is in cc;
     }))

@@ -1,0 +1,84 @@
+-- The command line is one whose matches clap states, and what it makes of some words.
+use Rattle.std.proofs.Common.{◌≡◌, refl, true, false, codes, List, [], ◌∷◌, Some, None}
+use Rattle.clap.specs.Words.{Text, fault_of, is_simple, is_simple_and_free, takes}
+use Rattle.clap.specs.declared.error.kind.ErrorKind.TheVariants.{UnknownArgument, ValueValidation}
+use Rattle.clap.proofs.OnLiterals.{clap_on_literals}
+use Rattle.lotos_command.specs.Command.{lotosseq}
+use Rattle.lotos_command.specs.Request.{RequestOf, check, search}
+
+pub simple_and_free : is_simple_and_free lotosseq ≡ true
+simple_and_free = refl
+
+pub simple : is_simple lotosseq ≡ true
+simple = refl
+
+abbrev row : List Text
+row = codes "lotosseq" ∷ codes "search" ∷ codes "--depth" ∷ codes "3" ∷ codes "A" ∷ codes "exit" ∷ []
+
+row_is_taken : takes lotosseq row ≡ true
+unfolding clap_on_literals
+row_is_taken = refl
+
+row_asks : RequestOf row (search (record {
+  depth = 3;
+  limit = None;
+  terms = 100000;
+  after = None;
+  explain = false;
+  strong = false;
+  words = codes "A" ∷ codes "exit" ∷ [];
+}))
+unfolding clap_on_literals
+row_asks = record { faultless = refl; reads = refl }
+
+abbrev hyphen_row : List Text
+hyphen_row = codes "lotosseq" ∷ codes "search" ∷ codes "--depth=007" ∷ codes "--" ∷ codes "-x" ∷ []
+
+hyphen_asks : RequestOf hyphen_row (search (record {
+  depth = 7;
+  limit = None;
+  terms = 100000;
+  after = None;
+  explain = false;
+  strong = false;
+  words = codes "-x" ∷ [];
+}))
+unfolding clap_on_literals
+hyphen_asks = record { faultless = refl; reads = refl }
+
+abbrev full_row : List Text
+full_row =
+    codes "lotosseq" ∷ codes "search" ∷ codes "--depth=1" ∷ codes "--after" ∷ codes "A : i A" ∷ codes "<until>" ∷ codes "--limit" ∷ codes "4"
+    ∷ codes "--explain" ∷ codes "--terms=7" ∷ codes "--strong" ∷ codes "B" ∷ []
+
+full_asks : RequestOf full_row (search (record {
+  depth = 1;
+  limit = Some 4;
+  terms = 7;
+  after = Some (codes "A : i A");
+  explain = true;
+  strong = true;
+  words = codes "<until>" ∷ codes "B" ∷ [];
+}))
+unfolding clap_on_literals
+full_asks = record { faultless = refl; reads = refl }
+
+check_row_asks : RequestOf (codes "lotosseq" ∷ codes "check" ∷ []) check
+unfolding clap_on_literals
+check_row_asks = record { faultless = refl; reads = refl }
+
+check_takes_no_word : fault_of lotosseq (codes "lotosseq" ∷ codes "check" ∷ codes "A" ∷ []) ≡ UnknownArgument ∷ []
+unfolding clap_on_literals
+check_takes_no_word = refl
+
+too_deep : fault_of lotosseq (codes "lotosseq" ∷ codes "search" ∷ codes "--depth" ∷ codes "256" ∷ []) ≡ ValueValidation ∷ []
+unfolding clap_on_literals
+too_deep = refl
+
+no_line : fault_of lotosseq (codes "lotosseq" ∷ codes "search" ∷ codes "--depth=1" ∷ codes "--limit" ∷ codes "0" ∷ []) ≡ ValueValidation ∷ []
+unfolding clap_on_literals
+no_line = refl
+
+too_many_terms : fault_of lotosseq (codes "lotosseq" ∷ codes "search" ∷ codes "--depth=1" ∷ codes "--terms=1000001" ∷ []) ≡ ValueValidation ∷ []
+unfolding clap_on_literals
+too_many_terms = refl

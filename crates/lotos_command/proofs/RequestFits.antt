@@ -1,0 +1,249 @@
+-- Words in which clap finds no fault name `check`, or a search whose entries can be read.
+use Rattle.std.proofs.Common.{◌≡◌, ◌∙◌, ◌≤◌, ◌||◌, ◌==◌, ℕ, Bool, cond, true, false, not, refl, sym, ap, subst, arith, List, [], ◌∷◌, length, Option, Some, None, codes, drop, find, is_some, inl, inr}
+use Rattle.std.specs.Prelude.{IfSome, IsSomeAnd, slice_get, pos, unwrap_or}
+use Rattle.std.specs.Option.{option_map, option_map_or, option_and_then}
+use Rattle.std.specs.Str.{bytes_eq}
+use Rattle.std.specs.Str.Parse.{IsNumeral, digits_value, starts_with_minus, without_leading_plus}
+use Rattle.std.proofs.lemmas.Bool.{ne_eqb}
+use Rattle.std.proofs.lemmas.Int.{ints}
+use Rattle.std.proofs.lemmas.Str.Parse.{digit_from_value}
+use Rattle.std.proofs.lemmas.Slice.Eq.{bytes_eq-Decides}
+use Rattle.clap.specs.Lexer.{without_minus}
+use Rattle.clap.specs.Facts.{explicit_source, parser_of_value, unwrap_or_range}
+use Rattle.clap.specs.Values.{Accepts, IsSignedIn, read_as, refused_kind}
+use Rattle.clap.specs.ValueTests.{accepts}
+use Rattle.clap.proofs.ValueTestLemmas.{accepts-Accepts}
+use Rattle.clap.specs.Walk.{Row, Rule, Text, action_of, arg_by_id, nothing_held, one_of, reading_by, row_text}
+use Rattle.clap.specs.Simple.{App, Shape, argument_words, built, entered, matches_of, names_of, new_shape, rows_at, subcommand_of}
+use Rattle.clap.specs.Takes.{is_given}
+use Rattle.clap.specs.Kinds.{value_kinds}
+use Rattle.clap.specs.Faults.{check_fault, entered_fault, fault_of, level_fault, values_fault}
+use Rattle.clap.specs.declared.error.kind.ErrorKind.TheVariants as kind
+use Rattle.lotos_command.specs.Command.{lotosseq}
+use Rattle.lotos_command.specs.Fitting.{FitsRequest, FitsSearch, IsNumberIn, IsTruthText}
+use Rattle.lotos_command.specs.Request.{number}
+use Rattle.lotos_command.proofs.NoKinds.{both_empty, not_empty}
+use Rattle.lotos_command.proofs.ReadyRows.{Each, IsOrdinary, IsReady, counts, each_found}
+use Rattle.lotos_command.proofs.FaultlessLevels.{AsksNoHelp, StopsWell, level_leaves}
+
+-- ---- an entry
+
+-- the text is what is read of a value that the argument's parser accepts
+pub record IsReadFrom (a : Rule) (t : Text) : Type 0 where
+  pub value : Text
+  pub is : t ≡ read_as (reading_by a) value
+  pub accepted : Accepts a.ignore_case (parser_of_value a.parser) value
+
+passed_is_accepted : (a : Rule) (v : Text) → value_kinds a.ignore_case (parser_of_value a.parser) v ≡ []
+    → Accepts a.ignore_case (parser_of_value a.parser) v
+passed_is_accepted a v e =
+    accepts-Accepts a.ignore_case (parser_of_value a.parser) v (go (accepts a.ignore_case (parser_of_value a.parser) v) e)
+  where
+    go : (b : Bool) → cond b [] (refused_kind (parser_of_value a.parser) ∷ []) ≡ [] → b ≡ true
+    go true none = refl
+    go false none = absurd (not_empty _ _ none)
+
+module _ (rules : List Rule) (rows : List Row) (all : Each (IsReady rules) rows) (id : Text) (a : Rule) (is : arg_by_id rules id ≡ Some a) where
+  rule_is : (r : Row) (ready : IsReady rules r) → bytes_eq r.id id ≡ true → ready.rule ≡ a
+  rule_is r ready same =
+      let here : r.id ≡ id = (bytes_eq-Decides r.id id).0 same in
+      let some : Some ready.rule ≡ Some a = sym ready.is ∙ ap (arg_by_id rules) here ∙ is in
+      cc
+
+  -- the first of the values that passed
+  first_reads : (r : Row) (ready : IsReady rules r) → ready.rule ≡ a → (v : Text) (vs : List Text) → values_fault ready.rule (v ∷ vs) ≡ []
+      → IsReadFrom a (read_as r.reading v)
+  first_reads r ready same v vs none =
+      let first = both_empty (value_kinds ready.rule.ignore_case (parser_of_value ready.rule.parser) v) _ none in
+      let how : r.reading ≡ reading_by a = ready.read ∙ ap reading_by same in
+      let taken : Accepts a.ignore_case (parser_of_value a.parser) v =
+      subst (λ (x : Rule). Accepts x.ignore_case (parser_of_value x.parser) v) same (passed_is_accepted ready.rule v first.0) in
+      record { value = v; is = ap (λ x. read_as x v) how; accepted = taken }
+
+  row_reads : (r : Row) (ready : IsReady rules r) → ready.rule ≡ a → IfSome (row_text r) (IsReadFrom a)
+  row_reads r ready same = go r.values ready.passed
+    where
+      go : (vs : List Text) → values_fault ready.rule vs ≡ [] → IfSome (option_map (read_as r.reading) (slice_get vs 0)) (IsReadFrom a)
+      go [] none = tt
+      go (v ∷ vs) none = first_reads r ready same v vs none
+
+  -- an entry of the argument is one that its parser accepts
+  entry_fits : IfSome (one_of id rows) (IsReadFrom a)
+  entry_fits = go (find (λ x. bytes_eq x.id id) rows) refl
+    where
+      go : (o : Option Row) → find (λ x. bytes_eq x.id id) rows ≡ o → IfSome (option_and_then row_text o) (IsReadFrom a)
+      go None e = tt
+      go (Some r) e =
+          let found = each_found (IsReady rules) (λ x. bytes_eq x.id id) rows r all e in
+          row_reads r found.0 (rule_is r found.0 found.1)
+
+  row_is_filled : (r : Row) (ready : IsReady rules r) → ready.rule ≡ a → 1 ≤ (unwrap_or_range a.range).start_inclusive
+      → IsSomeAnd (row_text r) (IsReadFrom a)
+  row_is_filled r ready same wanted = go r.values ready.passed (ready.filled (subst IsWanted (sym same) wanted))
+    where
+      IsWanted : Rule → Type 0
+      IsWanted x = 1 ≤ (unwrap_or_range x.range).start_inclusive
+
+      go : (vs : List Text) → values_fault ready.rule vs ≡ [] → 1 ≤ length vs
+          → IsSomeAnd (option_map (read_as r.reading) (slice_get vs 0)) (IsReadFrom a)
+      go [] none one = absurd (omega arith)
+      go (v ∷ vs) none one = first_reads r ready same v vs none
+
+  -- an argument that was given, and wants a value, has an entry that its parser accepts
+  given_fits : 1 ≤ (unwrap_or_range a.range).start_inclusive → is_given id rows ≡ true → IsSomeAnd (one_of id rows) (IsReadFrom a)
+  given_fits wanted given = go (find (λ x. bytes_eq x.id id) rows) refl given
+    where
+      go : (o : Option Row) → find (λ x. bytes_eq x.id id) rows ≡ o
+          → option_map_or (λ r. explicit_source r.source) o false ≡ true → IsSomeAnd (option_and_then row_text o) (IsReadFrom a)
+      go None e h = cc
+      go (Some r) e h =
+          let found = each_found (IsReady rules) (λ x. bytes_eq x.id id) rows r all e in
+          row_is_filled r found.0 (rule_is r found.0 found.1) wanted
+
+-- ---- numbers
+
+without_minus-cond : (t : Text) → without_minus t ≡ cond (starts_with_minus t) (drop 1 t) t
+without_minus-cond [] = refl
+without_minus-cond (x ∷ xs) = go (x == 45)
+  where
+    go : (b : Bool) → unwrap_or (cond b (Some xs) None) (x ∷ xs) ≡ cond b xs (x ∷ xs)
+    go true = refl
+    go false = refl
+
+-- a numeral opens with no plus sign
+numeral_has_no_plus : (ds : Text) → IsNumeral 10 ds → without_leading_plus ds ≡ ds
+numeral_has_no_plus [] h = refl
+numeral_has_no_plus (d ∷ ds) h =
+    let other : (d == 43) ≡ false = ne_eqb _ _ (λ e. omega (arith, digit_from_value d h.1.0)) in
+    ap (λ (b : Bool). drop (cond b 1 0) (d ∷ ds)) other
+
+-- what the parser of the bounds accepts is read as a number in them, `-0` too
+signed_is_within : (low high : ℕ) (t : Text) → IsSignedIn (pos low) (pos high) t → IsNumberIn low high (without_minus t)
+signed_is_within low high t accepted = subst (IsNumberIn low high) (sym (without_minus-cond t)) (go (starts_with_minus t) refl)
+  where
+    go : (b : Bool) → starts_with_minus t ≡ b → IsNumberIn low high (cond (starts_with_minus t) (drop 1 t) t)
+    go true minus =
+        let over = rw minus at accepted.2 in
+        let numeral : IsNumeral 10 (drop 1 t) = rw minus at accepted.0 in
+        let same = numeral_has_no_plus (drop 1 t) numeral in
+        let least : low ≤ digits_value 10 (drop 1 t) = omega (arith, ints) in
+        let most : digits_value 10 (drop 1 t) ≤ high = omega (arith, ints) in
+        let bare : IsNumberIn low high (drop 1 t) = record { numeral = rw same numeral; least = rw same least; most = rw same most } in
+        rw minus bare
+    go false minus =
+        let over = rw minus at accepted.2 in
+        let under = rw minus at accepted.3 in
+        let digits = rw minus at accepted.0 in
+        let low_ok : low ≤ number t = omega (arith, ints) in
+        let high_ok : number t ≤ high = omega (arith, ints) in
+        let bare : IsNumberIn low high t = record { numeral = digits; least = low_ok; most = high_ok } in
+        rw minus bare
+
+some_and_more : (P Q : Text → Type 0) (o : Option Text) → ((t : Text) → P t → Q t) → IsSomeAnd o P → IsSomeAnd o Q
+some_and_more P Q None more h = absurd h
+some_and_more P Q (Some t) more h = more t h
+
+if_some_more : (P Q : Text → Type 0) (o : Option Text) → ((t : Text) → P t → Q t) → IfSome o P → IfSome o Q
+if_some_more P Q None more h = tt
+if_some_more P Q (Some t) more h = more t h
+
+-- ---- the command line, built
+
+abbrev whole : App
+whole = built lotosseq
+
+abbrev first : List Shape → Shape
+first [] = new_shape []
+first (x ∷ xs) = x
+
+abbrev others : List Shape → List Shape
+others [] = []
+others (x ∷ xs) = xs
+
+abbrev search_shape : Shape
+search_shape = first whole.subs
+
+abbrev check_shape : Shape
+check_shape = first (others whole.subs)
+
+abbrev help_shape : Shape
+help_shape = first (others (others whole.subs))
+
+top_is_ordinary : Each (IsOrdinary whole.top.rules) whole.top.rules
+top_is_ordinary = (record { own = refl; no_count = refl }, tt)
+
+is_ordinary_here : (rule : Rule) → arg_by_id search_shape.rules rule.id ≡ Some rule → counts (action_of rule) ≡ false → IsOrdinary search_shape.rules rule
+is_ordinary_here rule own once = record { own = own; no_count = once }
+
+search_is_ordinary : Each (IsOrdinary search_shape.rules) search_shape.rules
+search_is_ordinary = (
+  is_ordinary_here _ refl refl,
+  (
+    is_ordinary_here _ refl refl,
+    (
+      is_ordinary_here _ refl refl,
+      (
+        is_ordinary_here _ refl refl,
+        (is_ordinary_here _ refl refl, (is_ordinary_here _ refl refl, (is_ordinary_here _ refl refl, (is_ordinary_here _ refl refl, tt)))),
+      ),
+    ),
+  ),
+)
+
+depth_is_given : (rows : List Row) → check_fault search_shape rows false ≡ [] → is_given (codes "depth") rows ≡ true
+depth_is_given rows e = go (is_given (codes "depth") rows) e
+  where
+    go : (b : Bool) → cond (not b || false) (kind.MissingRequiredArgument ∷ []) [] ≡ [] → b ≡ true
+    go true none = refl
+    go false none = absurd (not_empty _ _ none)
+
+search_fits : (rows : List Row) → Each (IsReady search_shape.rules) rows → check_fault search_shape rows false ≡ [] → FitsSearch rows
+search_fits rows all e = record {
+  depth = some_and_more _ (IsNumberIn 0 255) (one_of (codes "depth") rows)
+      (λ t read. subst (IsNumberIn 0 255) (sym read.is) (signed_is_within 0 255 read.value read.accepted))
+      (given_fits search_shape.rules rows all (codes "depth") _ refl (omega arith) (depth_is_given rows e));
+  limit = if_some_more _ (IsNumberIn 1 1000000000) (one_of (codes "limit") rows)
+      (λ t read. subst (IsNumberIn 1 1000000000) (sym read.is) (signed_is_within 1 1000000000 read.value read.accepted))
+      (entry_fits search_shape.rules rows all (codes "limit") _ refl);
+  terms = if_some_more _ (IsNumberIn 1 1000000) (one_of (codes "terms") rows)
+      (λ t read. subst (IsNumberIn 1 1000000) (sym read.is)
+      (record { numeral = read.accepted.0; least = read.accepted.2; most = read.accepted.3 }))
+      (entry_fits search_shape.rules rows all (codes "terms") _ refl);
+  explain = if_some_more _ IsTruthText (one_of (codes "explain") rows)
+      (λ t read. subst IsTruthText (sym read.is) read.accepted)
+      (entry_fits search_shape.rules rows all (codes "explain") _ refl);
+  strong = if_some_more _ IsTruthText (one_of (codes "strong") rows)
+      (λ t read. subst IsTruthText (sym read.is) read.accepted)
+      (entry_fits search_shape.rules rows all (codes "strong") _ refl);
+}
+
+-- the subcommand that a word names, by whether it is `search`, whether it is `check` and whether it is `help`
+abbrev named : Bool → Bool → Bool → Option Shape
+named is_search is_check is_help =
+    cond (is_search || false) (Some search_shape)
+    (cond (is_check || false) (Some check_shape) (cond (is_help || false) (Some help_shape) None))
+
+stop_fits : (rows : List Row) (stop : Option (Text × List Text)) → StopsWell whole.top (names_of whole) top_is_ordinary stop
+    → entered_fault whole stop ≡ [] → check_fault whole.top rows (is_some (entered whole stop)) ≡ [] → FitsRequest (entered whole stop)
+stop_fits rows None well below check = absurd (not_empty _ _ check)
+stop_fits rows (Some p) well below check =
+    go (bytes_eq (codes "search") p.0) (bytes_eq (codes "check") p.0) (bytes_eq (codes "help") p.0) refl below check
+  where
+    go : (is_search is_check is_help : Bool) → bytes_eq (codes "help") p.0 ≡ is_help
+        → option_map_or (λ s. level_fault s [] nothing_held p.1 false []) (named is_search is_check is_help) [] ≡ []
+        → check_fault whole.top rows (is_some (option_map (λ s. rows_at s p.1) (named is_search is_check is_help))) ≡ []
+        → FitsRequest (option_map (λ s. rows_at s p.1) (named is_search is_check is_help))
+    go true is_check is_help e under check =
+        let left = level_leaves search_shape [] search_is_ordinary p.1 false [] under in
+        inl (refl, search_fits _ left.ready left.checked)
+    go false true is_help e under check = inr refl
+    go false false true e under check =
+        let name : codes "help" ≡ p.0 = (bytes_eq-Decides (codes "help") p.0).0 e in
+        let bad : true ≡ false = subst (AsksNoHelp whole.top (names_of whole) top_is_ordinary) (sym name) well in
+        cc
+    go false false false e under check = absurd (not_empty _ _ check)
+
+pub request_fits : (words : List Text) → fault_of lotosseq words ≡ [] → FitsRequest (subcommand_of lotosseq words)
+request_fits words e =
+    let left = level_leaves whole.top (names_of whole) top_is_ordinary (argument_words lotosseq words) _ _ e in
+    stop_fits (matches_of lotosseq words) _ left.stops left.no_fault_below left.checked

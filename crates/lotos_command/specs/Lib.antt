@@ -1,0 +1,4 @@
+pub mod Command
+pub mod Request
+pub mod Fitting
+pub mod Faults

@@ -1,0 +1,94 @@
+-- The request that the words of the command spell.
+use Rattle.std.specs.Prelude.{◌≡◌, ◌≤◌, ℕ, Bool, false, List, [], map, codes, Option, Some, None, if◌then◌else◌, option_map, option_and_then, unwrap_or, string_bytes, IfSome, ⊤}
+use Rattle.std.specs.Option.{option_map_or}
+use Rattle.std.specs.Str.{bytes_eq}
+use Rattle.std.specs.Str.Parse.{digits_value, without_leading_plus}
+use Rattle.std.specs.Borrow.{Bor}
+use Rattle.clap.specs.Words.{Row, Text, all_of, fault_of, first_of, one_of, subcommand_of}
+use Rattle.lotos_command.specs.Command.{lotosseq}
+use Rattle.lotos_command.specs.declared.command.Request.{Request}
+use Rattle.lotos_command.specs.declared.command.Request.TheVariants as asked
+use Rattle.lotos_command.specs.declared.command.SearchRequest.{SearchRequest}
+
+-- the texts of the words
+abbrev pub texts_of : List (Bor Text) → List Text
+texts_of words = map (λ word. word.now) words
+
+-- a search, with texts for strings
+pub record SearchView : Type 0 where
+  pub depth : ℕ
+  pub limit : Option ℕ
+  pub terms : ℕ
+  pub after : Option Text
+  pub explain : Bool
+  pub strong : Bool
+  pub words : List Text
+
+-- a request, with texts for strings
+pub data RequestView : Type 0 where
+  check : RequestView
+  search : SearchView → RequestView
+
+abbrev pub search_view : SearchRequest → SearchView
+search_view request = record {
+  depth = request.depth;
+  limit = request.limit;
+  terms = request.terms;
+  after = option_map string_bytes request.after;
+  explain = request.explain;
+  strong = request.strong;
+  words = map string_bytes request.words.items;
+}
+
+abbrev pub request_view : Request → RequestView
+request_view asked.Check = check
+request_view (asked.Search request) = search (search_view request)
+
+-- the number that a decimal numeral spells, which a plus sign may open
+abbrev pub number : Text → ℕ
+number text = digits_value 10 (without_leading_plus text)
+
+-- whether the flag with this name was given
+abbrev pub flag : Text → List Row → Bool
+flag name rows = option_map_or (bytes_eq (codes "true")) (one_of name rows) false
+
+-- the search that the entries of the subcommand `search` spell
+abbrev pub search_from : List Row → Option SearchView
+search_from rows = option_map (λ depth. record {
+  depth = number depth;
+  limit = option_map number (one_of (codes "limit") rows);
+  terms = option_map_or number (one_of (codes "terms") rows) 100000;
+  after = first_of (codes "after") rows;
+  explain = flag (codes "explain") rows;
+  strong = flag (codes "strong") rows;
+  words = unwrap_or (all_of (codes "words") rows) [];
+}) (one_of (codes "depth") rows)
+
+-- the request that a subcommand of this name with these entries spells
+abbrev pub request_named : Text → List Row → Option RequestView
+request_named name rows =
+    if bytes_eq name (codes "search") then option_map search (search_from rows)
+    else (if bytes_eq name (codes "check") then Some check else None)
+
+-- the request that the subcommand with its entries spells, if one was given
+abbrev pub request_from : Option (Text × List Row) → Option RequestView
+request_from given = option_and_then (λ p. request_named p.0 p.1) given
+
+-- the request that the entries spell which clap finds for the words
+abbrev pub request_of : List Text → Option RequestView
+request_of words = request_from (subcommand_of lotosseq words)
+
+-- The words, the program's own name first, spell the request: clap finds no fault in them, and its entries read as it.
+pub record RequestOf (words : List Text) (request : RequestView) : Type 0 where
+  pub faultless : fault_of lotosseq words ≡ []
+  pub reads : request_of words ≡ Some request
+
+-- the number of terms that a prefix may reach, and a limit that is given, are at least 1
+pub record HasSearchBounds (request : SearchRequest) : Type 0 where
+  pub terms : 1 ≤ request.terms
+  pub limit : IfSome request.limit (λ n. 1 ≤ n)
+
+-- a search has these bounds
+abbrev pub HasBounds : Request → Type 0
+HasBounds asked.Check = ⊤
+HasBounds (asked.Search request) = HasSearchBounds request

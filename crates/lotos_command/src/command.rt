@@ -1,0 +1,53 @@
+//! What the words of the command ask for.
+
+use std::alloc::AllocError;
+
+/// What the words of the command ask for.
+#[derive(Debug, Drop)]
+pub enum Request {
+    /// Check a specification and list its processes.
+    Check,
+    /// List the sequences that match a pattern.
+    Search(SearchRequest),
+}
+
+/// A search.
+#[derive(Debug, Drop)]
+pub struct SearchRequest {
+    /// The most steps of a derivation, internal ones counted.
+    pub depth: u8,
+    /// The most lines that are written, at least 1.
+    pub limit: Option<u32>,
+    /// The most terms that a prefix may reach, at least 1.
+    pub terms: usize,
+    /// A line of a listing: only what stands after its sequence is listed.
+    pub after: Option<String>,
+    /// Whether a line has the least word too.
+    pub explain: bool,
+    /// Whether the internal action is a label like others.
+    pub strong: bool,
+    /// The words of the pattern.
+    pub words: Vec<String>,
+}
+
+/// Why the words ask for nothing that can be done.
+#[derive(Debug, Drop)]
+pub enum CommandFault {
+    /// The words ask for help, and this is its text.
+    Help(String),
+    /// The words fit no command, and this text says why.
+    Wrong(String),
+    /// A growth of the heap was refused.
+    Memory,
+}
+
+impl From<AllocError> for CommandFault {
+    ghost use Rattle.std.specs.Prelude.{◌≡◌};
+    ghost use Rattle.lotos_command.specs.declared.command.CommandFault.TheVariants.{Memory};
+
+    ghost from_gives = { λ _ e. e ≡ Memory };
+
+    fn from(_error: AllocError) -> CommandFault {
+        CommandFault::Memory
+    }
+}
