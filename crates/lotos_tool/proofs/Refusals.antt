@@ -13,7 +13,7 @@ use Rattle.lotos_check.specs.declared.fault.CheckFault.{CheckFault}
 use Rattle.lotos_check.specs.declared.fault.CheckFault.TheVariants.{E20, E21, E22, E23, E24, E25, E26, E27, E99}
 use Rattle.lotos_tool.specs.Accepted.{Accepted}
 use Rattle.lotos_tool.specs.Answers.{IsTextRefusal}
-use Rattle.lotos_tool.specs.Reading.{ReadsWhole}
+use Rattle.lotos_device.specs.Reading.{ReadsWhole}
 use Rattle.lotos_tool.specs.Searching.{IsBroken, IsCheckFault, IsTextFault, IsUnaccepted, IsUnread, is_memory_fault}
 use Rattle.lotos_tool.specs.declared.refusal.Refusal.TheVariants as refusal
 use Rattle.lotos_tool.specs.declared.accepting.Unaccepted.{Unaccepted}

@@ -1,10 +1,6 @@
 pub mod Accepted
 pub mod Lines
-pub mod Device
-pub mod Reading
-pub mod Writing
 pub mod Answers
-pub mod Wrapped
 pub mod WriteFaults
 pub mod Searching
 pub mod Runs

@@ -4,7 +4,7 @@ use Rattle.std.specs.Io.KnownBytes.{Appends, Keeps}
 use Rattle.lotos_tool.specs.Answers.{Answers, CheckAnswers, is_input_fault}
 use Rattle.lotos_command.specs.Faults.{AreTaken, AreWrong, AskForHelp}
 use Rattle.lotos_command.specs.Request.{RequestOf, request_view}
-use Rattle.lotos_tool.specs.Writing.{AppendsBeginning}
+use Rattle.lotos_device.specs.Writing.{AppendsBeginning}
 use Rattle.lotos_tool.specs.declared.answer.Ended.{Ended}
 use Rattle.lotos_tool.specs.declared.answer.Ended.TheVariants.{Complete, Refused, Stopped}
 use Rattle.lotos_tool.specs.declared.answer.Why.{Why}

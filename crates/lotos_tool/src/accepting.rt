@@ -9,10 +9,9 @@ ghost use Rattle.lotos_tool.specs.Accepted.{Accepted};
 ghost use Rattle.lotos_tool.specs.Answers.{IsPlaceOf};
 ghost use Rattle.lotos_tool.specs.Searching.{IsBroken, IsUnaccepted, IsUnread, ReadsAccepted, is_memory_fault, is_unread};
 
-use crate::device::Source;
-use crate::reading::{ReadFault, read_text};
 use crate::refusal::Refusal;
 use lotos_check::{CheckFault, Checked, check};
+use lotos_device::{ReadFault, Source, read_text};
 use lotos_text::{TextFault, line_column, parse};
 use std::alloc::Global;
 

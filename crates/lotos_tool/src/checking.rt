@@ -4,9 +4,9 @@ ghost use Rattle.lotos_tool.specs.Answers.{CheckAnswers, is_input_fault, is_outp
 
 use crate::accepting::{Unaccepted, read_specification};
 use crate::answer::{Ended, Why};
-use crate::device::{DeviceFailed, Sink, Source};
 use crate::lines::process_lines;
-use crate::writing::{finish, write_bytes};
+use crate::writing::finish;
+use lotos_device::{DeviceFailed, Sink, Source, write_bytes};
 use std::alloc::Global;
 
 /// Reads a specification, checks it, and writes a line for each of its processes, in the order of their definitions, each

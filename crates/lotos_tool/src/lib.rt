@@ -9,22 +9,18 @@
 mod accepting;
 mod answer;
 mod checking;
-mod device;
 mod lines;
 mod listing;
 mod message;
-mod reading;
 mod refusal;
 mod running;
 mod searching;
-#[cfg(test)]
-mod tests;
 mod writing;
 
 pub use answer::{Ended, Why};
 pub use checking::check_text;
-pub use device::{DeviceFailed, FromRead, FromWrite, Sink, Source};
 pub use lotos_command::{CommandFault, Request, SearchRequest, request};
+pub use lotos_device::{DeviceFailed, FromRead, FromWrite, Sink, Source};
 pub use refusal::Refusal;
 pub use running::run;
 pub use searching::list;

@@ -7,14 +7,14 @@ ghost use Rattle.lotos_search.specs.Nexts.{going};
 ghost use Rattle.lotos_tool.specs.Answers.{is_output_fault};
 ghost use Rattle.lotos_tool.specs.Lines.{Item, line_of, spelled};
 ghost use Rattle.lotos_tool.specs.Searching.{Ends, IsHalt, IsHaltCause, IsItemOf, IsOverCause, IsSmall, is_at};
-ghost use Rattle.lotos_tool.specs.Writing.{AppendsPart};
+ghost use Rattle.lotos_device.specs.Writing.{AppendsPart};
 ghost use Rattle.lotos_tool.specs.WriteFaults.{is_write_fault};
 
 use crate::answer::{Ended, Why};
-use crate::device::{DeviceFailed, Sink};
 use crate::lines::{line, spell};
-use crate::writing::{finish, flushed, write_bytes};
+use crate::writing::{finish, flushed};
 use lotos_command::SearchRequest;
+use lotos_device::{DeviceFailed, Sink, write_bytes};
 use lotos_search::laws::items_lower_the_count;
 use lotos_search::{Found, Halt, Search};
 use lotos_terms::Label;

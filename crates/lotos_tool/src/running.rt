@@ -4,15 +4,14 @@ ghost use Rattle.std.specs.Io.KnownBytes.{Appends};
 ghost use Rattle.lotos_tool.specs.Answers.{is_output_cause, is_output_fault};
 ghost use Rattle.lotos_command.specs.Request.{texts_of};
 ghost use Rattle.lotos_tool.specs.Runs.{HelpWritten, Ran, check_status_of, status_of, stop_status_of};
-ghost use Rattle.lotos_tool.specs.Writing.{AppendsBeginning};
+ghost use Rattle.lotos_device.specs.Writing.{AppendsBeginning};
 
 use crate::answer::{Ended, Why};
 use crate::checking::check_text;
-use crate::device::{DeviceFailed, Sink, Source};
 use crate::message::{tell_failure, tell_refusal, tell_stop, tell_text};
 use crate::searching::list;
-use crate::writing::write_bytes;
 use lotos_command::{CommandFault, Request, request};
+use lotos_device::{DeviceFailed, Sink, Source, write_bytes};
 use std::alloc::Global;
 use std::io::Write;
 

@@ -11,11 +11,11 @@ ghost use Rattle.lotos_tool.specs.declared.answer.Why.TheVariants.{Memory};
 
 use crate::accepting::{Unaccepted, read_specification};
 use crate::answer::{Ended, Why};
-use crate::device::{Sink, Source};
 use crate::listing::write_listing;
 use crate::refusal::Refusal;
-use lotos_command::SearchRequest;
 use lotos_check::Checked;
+use lotos_command::SearchRequest;
+use lotos_device::{Sink, Source};
 use lotos_pattern::{Pattern, PatternFault};
 use lotos_search::{Mark, MarkFault, Search};
 use lotos_terms::Table;

@@ -1,27 +1,11 @@
-//! Writes bytes, and ends the writing.
-ghost use Rattle.std.specs.Prelude.{◌≡◌, if◌then◌else◌, false, OnOk, OnErr};
-ghost use Rattle.std.specs.Io.KnownBytes.{Appends, Keeps};
-ghost use Rattle.lotos_tool.specs.Device.{Flags};
+//! Ends the writing.
+ghost use Rattle.std.specs.Prelude.{◌≡◌, if◌then◌else◌, false};
+ghost use Rattle.std.specs.Io.KnownBytes.{Keeps};
 ghost use Rattle.lotos_tool.specs.Answers.{is_output_fault};
 ghost use Rattle.lotos_tool.specs.Searching.{IsFinished};
-ghost use Rattle.lotos_tool.specs.Writing.{AppendsPart};
 
 use crate::answer::{Ended, Why};
-use crate::device::{DeviceFailed, Sink};
-
-/// Writes all the bytes, piece by piece as the writer takes them.
-pub fn write_bytes<W: Sink>(writer: &mut W, bytes: &[u8]) -> Result<(), DeviceFailed>
-    requires { W.has_failed writer.old ≡ false }
-    ensures whole { OnOk result (Appends (W.got writer.old) (W.got writer.new) bytes.now) }
-    ensures part { OnErr result (AppendsPart (W.got writer.old) (W.got writer.new) bytes.now) }
-    ensures flag { Flags (W.has_failed writer.old) (W.has_failed writer.new) result }
-{
-    let mut at = 0;
-    while at < bytes.len() {
-        at += writer.write(&bytes[at..])?;
-    }
-    Ok(())
-}
+use lotos_device::{DeviceFailed, Sink};
 
 /// Ends the writing with one flush.
 pub fn finish<W: Sink>(writer: &mut W, last: Option<String>, lines: u64) -> Ended

@@ -2,7 +2,7 @@ use Rattle.std.proofs.Common.{ℕ, List, [], Option, Result, Ok, Err, sym, subst
 use Rattle.std.specs.Prelude.{OnOk, OnErr}
 use Rattle.std.specs.Io.KnownBytes.{Appends}
 use Rattle.std.proofs.KnownBytes.{Appends-kept}
-use Rattle.lotos_tool.specs.Writing.{AppendsBeginning, AppendsPart}
+use Rattle.lotos_device.specs.Writing.{AppendsBeginning, AppendsPart}
 use Rattle.lotos_tool.proofs.running.write_whole.Goals as goal
 
 on_ok-always : {T E : Type 0} (r : Result T E) (P : Type 0) → P → OnOk r P

@@ -1,6 +1,6 @@
 use Rattle.std.proofs.Common.{◌≡◌, ◌≤◌, ◌-◌, false, length, take}
 use Rattle.std.specs.Io.KnownBytes.{Appends}
-use Rattle.lotos_tool.proofs.writing.write_bytes.Given as goal
+use Rattle.lotos_device.proofs.writing.write_bytes.Given as goal
 
 -- the bytes before the place were got, and no write has failed
 abbrev pub invariant-loop-at : goal.invariant-loop-at

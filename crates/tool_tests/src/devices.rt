@@ -2,8 +2,8 @@
 ghost use Rattle.std.specs.Prelude.{◌≡◌, ◌≤◌, Some, take};
 
 use super::large::Awaited;
-use crate::device::{FromRead, FromWrite};
-use crate::running::run;
+use lotos_device::{FromRead, FromWrite};
+use lotos_tool::run;
 use std::alloc::Global;
 use std::io;
 use std::io::{Error, ErrorKind, Read, Write};

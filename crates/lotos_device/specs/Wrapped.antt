@@ -1,7 +1,7 @@
 -- What the two wrappers show: what they wrap, and whether they have failed.
 use Rattle.std.specs.Prelude.{Bool}
-use Rattle.lotos_tool.specs.declared.device.FromRead.{FromRead}
-use Rattle.lotos_tool.specs.declared.device.FromWrite.{FromWrite}
+use Rattle.lotos_device.specs.declared.device.FromRead.{FromRead}
+use Rattle.lotos_device.specs.declared.device.FromWrite.{FromWrite}
 
 abbrev pub wrapped_reader : {R : Type 0} → FromRead R → R
 wrapped_reader source = source.inner

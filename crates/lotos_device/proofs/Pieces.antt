@@ -3,7 +3,7 @@ use Rattle.std.proofs.Common.{◌≡◌, ℕ, ◌+◌, ◌<◌, List, Option, ta
 use Rattle.std.proofs.Math.Seq.{take-add}
 use Rattle.std.specs.Io.KnownBytes.{Appends, Keeps}
 use Rattle.std.proofs.KnownBytes.{Appends-trans, Appends-kept}
-use Rattle.lotos_tool.specs.Writing.{AppendsPart}
+use Rattle.lotos_device.specs.Writing.{AppendsPart}
 
 -- after the bytes before the place, a write took some of the rest
 pub got_more : (old mid new : Option (List ℕ)) (bytes rest : List ℕ) (at count : ℕ)

@@ -1,7 +1,7 @@
 //! What the wrappers of std's readers and writers remember.
 
 use super::devices::{ArrayWriter, SliceReader};
-use crate::device::{DeviceFailed, FromRead, FromWrite, Sink, Source};
+use lotos_device::{DeviceFailed, FromRead, FromWrite, Sink, Source};
 
 #[test]
 fn a_source_remembers_a_failed_read(rt: HostRuntime) {

@@ -1,7 +1,7 @@
 use Rattle.std.proofs.Common.{◌++◌, ◌≡◌, take, length, arith, rules, length-append}
 use Rattle.std.proofs.lemmas.List.{length-take}
 use Rattle.std.proofs.KnownBytes.{Consumes-kept, Consumes-trans}
-use Rattle.lotos_tool.proofs.reading.read_text.Goals as goal
+use Rattle.lotos_device.proofs.reading.read_text.Goals as goal
 
 -- what was taken is the text so far and what the last read gave, for which there was no room
 pub returns-in_err-extend_from_slice-clause-memory :

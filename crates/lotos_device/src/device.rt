@@ -4,8 +4,8 @@
 //! it tells them: those over memory do, and for a file or a terminal the claim is as honest as the system is.
 ghost use Rattle.std.specs.Prelude.{◌≡◌, ℕ, Bool, false, List, Option};
 ghost use Rattle.std.specs.Io.KnownBytes.{Keeps};
-ghost use Rattle.lotos_tool.specs.Device.{Reads, Writes, Flags};
-ghost use Rattle.lotos_tool.specs.Wrapped.{wrapped_reader, reader_failed, wrapped_writer, writer_failed};
+ghost use Rattle.lotos_device.specs.Device.{Reads, Writes, Flags};
+ghost use Rattle.lotos_device.specs.Wrapped.{wrapped_reader, reader_failed, wrapped_writer, writer_failed};
 
 use std::io::{Read, Write};
 

@@ -1,7 +1,7 @@
 //! Reads a whole text, and no more than a text may have.
 ghost use Rattle.std.specs.Prelude.{◌≡◌, ◌+◌, false, IfOk, IsErrOf};
 ghost use Rattle.lotos_text.specs.Profile.{longest_text};
-ghost use Rattle.lotos_tool.specs.Reading.{ReadsWhole, TakesAtMost, TakesExactly, is_device_fault};
+ghost use Rattle.lotos_device.specs.Reading.{ReadsWhole, TakesAtMost, TakesExactly, is_device_fault};
 
 use crate::device::{DeviceFailed, Source};
 use lotos_text::TEXT_LIMIT;
@@ -20,7 +20,7 @@ pub enum ReadFault {
 
 impl From<AllocError> for ReadFault {
     ghost use Rattle.std.specs.Prelude.{◌≡◌};
-    ghost use Rattle.lotos_tool.specs.declared.reading.ReadFault.TheVariants.{Memory};
+    ghost use Rattle.lotos_device.specs.declared.reading.ReadFault.TheVariants.{Memory};
 
     ghost from_gives = { λ _ e. e ≡ Memory };
 

@@ -2,8 +2,8 @@
 use Rattle.std.specs.Prelude.{◌≡◌, ℕ, ◌≤◌, Bool, true, false, List, length, Option, Result, Err}
 use Rattle.std.specs.Io.KnownBytes.{Consumes, IsAtEnd}
 use Rattle.lotos_text.specs.Profile.{longest_text}
-use Rattle.lotos_tool.specs.declared.reading.ReadFault.{ReadFault}
-use Rattle.lotos_tool.specs.declared.reading.ReadFault.TheVariants.{Device}
+use Rattle.lotos_device.specs.declared.reading.ReadFault.{ReadFault}
+use Rattle.lotos_device.specs.declared.reading.ReadFault.TheVariants.{Device}
 
 -- the text is all that was left, and no longer than a text may be
 pub record ReadsWhole (old new : Option (List ℕ)) (text : List ℕ) : Type 0 where

@@ -1,7 +1,7 @@
 use Rattle.std.proofs.Common.{◌≡◌, ◌+◌, ◌≤◌, ◌-◌, false, length}
 use Rattle.std.specs.Io.KnownBytes.{Consumes}
 use Rattle.lotos_text.specs.Profile.{longest_text}
-use Rattle.lotos_tool.proofs.reading.read_text.Given as goal
+use Rattle.lotos_device.proofs.reading.read_text.Given as goal
 
 -- the text so far is what was taken, it is not too long, and no read has failed
 abbrev pub invariant-loop-text : goal.invariant-loop-text

@@ -1,7 +1,7 @@
 use Rattle.std.proofs.Common.{arith, rules}
 use Rattle.std.proofs.lemmas.Grind.{common_steps}
-use Rattle.lotos_tool.proofs.Pieces.{got_more, got_part, on_error}
-use Rattle.lotos_tool.proofs.writing.write_bytes.Goals as goal
+use Rattle.lotos_device.proofs.Pieces.{got_more, got_part, on_error}
+use Rattle.lotos_device.proofs.writing.write_bytes.Goals as goal
 
 pub loop-at-preserved : goal.loop-at-preserved
 loop-at-preserved g c = record {

@@ -1,0 +1,4 @@
+pub mod Device
+pub mod Reading
+pub mod Wrapped
+pub mod Writing

@@ -1,0 +1,13 @@
+//! Where the bytes of a specification come from, and where those of a listing go.
+//!
+//! A [`Source`] and a [`Sink`] remember whether one of their calls has failed; [`FromRead`] and [`FromWrite`] make them of std's
+//! readers and writers. [`read_text`] reads a whole text within its bound, and [`write_bytes`] writes bytes whole.
+#![tactic(auto)]
+
+mod device;
+mod reading;
+mod writing;
+
+pub use device::{DeviceFailed, FromRead, FromWrite, Sink, Source};
+pub use reading::{ReadFault, read_text};
+pub use writing::write_bytes;
