@@ -1,8 +1,7 @@
 //! Texts from readers that give a few bytes a call, fail, or never end.
 
 use super::devices::{Blanks, SliceReader};
-use lotos_device::{FromRead, Source};
-use lotos_device::{ReadFault, read_text};
+use lotos_device::{FromRead, ReadFault, Source, read_text};
 use lotos_text::TEXT_LIMIT;
 use std::test::Fail;
 

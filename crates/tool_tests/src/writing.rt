@@ -1,8 +1,7 @@
 //! Bytes to writers that take a few bytes a call, fail, or take nothing.
 
 use super::devices::{ArrayWriter, WhenFull};
-use lotos_device::{DeviceFailed, FromWrite, Sink};
-use lotos_device::write_bytes;
+use lotos_device::{DeviceFailed, FromWrite, Sink, write_bytes};
 use std::process::Abort;
 
 const LINE: &[u8] = b"A B exit\n";
