@@ -1,6 +1,6 @@
 -- The positions of a place, as the bits of its words.
-use Rattle.std.proofs.Common.{◌≡◌, ℕ, ◌+◌, ◌-◌, ◌*◌, ◌/◌, ◌%◌, ◌^◌, ◌<◌, ◌≤◌, ◌⊎◌, inl, inr, true, false, List, length, get_or, max, Option, None, Some, sym, ap, ◌∙◌, arith, w64}
-use Rattle.std.specs.Prelude.{◌↔◌, MatchOption, bit_or, is_some, replicate, slice_set}
+use Rattle.std.proofs.Common.{◌≡◌, ℕ, ◌+◌, ◌-◌, ◌*◌, ◌/◌, ◌%◌, ◌^◌, ◌<◌, ◌≤◌, ◌⊎◌, inl, inr, List, length, get_or, sym, ap, ◌∙◌, arith, w64}
+use Rattle.std.specs.Prelude.{◌↔◌, bit_or, replicate, slice_set}
 use Rattle.std.specs.Int.{bit_at, trailing_zeros}
 use Rattle.std.proofs.Math.Nat.{div-le_self}
 use Rattle.std.proofs.lemmas.Bool.{cases_eq, cases_lt}
@@ -92,26 +92,3 @@ module _ (place : Place) (n : ℕ) where
             let off = shifted j from (omega arith) ∙ lowest.2 (j - n) (omega arith) in
             omega (arith, off, has);
       }
-
--- what the look into one word says, which begins at `start`: where `n` is its number, at `from` or where the word begins
-module _ (place : Place) (from n start : ℕ) (number : from / 64 ≤ n) (begins : start ≡ max from (n * 64)) where
-  module _ (before : (j : ℕ) → from ≤ j → j < n * 64 → Has place j → ⊥) where
-    pub none_yet : (first : Option ℕ) → false ≡ is_some first → MatchOption first ((k : ℕ) → start ≤ k → k / 64 ≡ start / 64 → Has place k → ⊥) (IsFirst place start) →
-        (j : ℕ) → from ≤ j → j < (n + 1) * 64 → Has place j → ⊥
-    none_yet None is none j behind within has = elim (cases_lt j (n * 64)) [
-      | inl h ↦ before j behind h has
-      | inr h ↦ none j (omega arith) (omega arith) has
-    ]
-    none_yet (Some k) is first j behind within has = let z : ⊥ = cc in z
-
-    pub found : (first : Option ℕ) → true ≡ is_some first → MatchOption first ((k : ℕ) → start ≤ k → k / 64 ≡ start / 64 → Has place k → ⊥) (IsFirst place start) →
-        MatchOption first ((k : ℕ) → from ≤ k → Has place k → ⊥) (IsFirst place from)
-    found None is none = absurd (let z : ⊥ = cc in z)
-    found (Some k) is first = let later = first.behind in record {
-      behind = omega arith;
-      has = first.has;
-      none_before = λ j behind earlier has. elim (cases_lt j (n * 64)) [
-        | inl h ↦ before j behind h has
-        | inr h ↦ first.none_before j (omega arith) earlier has
-      ];
-    }

@@ -49,8 +49,16 @@ impl Place {
         ensures { MatchOption result ((k : ℕ) → position ≤ k → Has self.now k → ⊥) (IsFirst self.now position) }
     {
         let words = self.words.as_slice();
-        for number in position / BITS..words.len() {
-            let first = self.first_in_word(position.max(number * BITS));
+        let number = position / BITS;
+        if number >= words.len() {
+            return None;
+        }
+        let first = self.first_in_word(position);
+        if first.is_some() {
+            return first;
+        }
+        for later in number + 1..words.len() {
+            let first = self.first_in_word(later * BITS);
             if first.is_some() {
                 return first;
             }

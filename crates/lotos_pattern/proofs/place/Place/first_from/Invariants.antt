@@ -3,5 +3,5 @@ use Rattle.lotos_pattern.specs.Positions.{Has}
 use Rattle.lotos_pattern.proofs.place.Place.first_from.Given as goal
 
 -- the words before this one have no position
-abbrev pub invariant-loop-number : goal.invariant-loop-number
-invariant-loop-number l = (j : ℕ) → l.position ≤ j → j < l.number * 64 → Has l.self j → ⊥
+abbrev pub invariant-loop-later : goal.invariant-loop-later
+invariant-loop-later l = (j : ℕ) → l.position ≤ j → j < l.later * 64 → Has l.self j → ⊥
