@@ -1,5 +1,5 @@
 -- What the last element demands, and the elements from one on.
-use Rattle.std.proofs.Common.{◌≡◌, ℕ, suc, ◌+◌, ◌-◌, ◌<◌, ◌≤◌, List, [], ◌∷◌, length, drop, sym, ap, subst, ◌∙◌, arith, Bool, get_or}
+use Rattle.std.proofs.Common.{◌≡◌, ℕ, suc, ◌+◌, ◌-◌, ◌<◌, List, [], ◌∷◌, length, drop, sym, ap, subst, ◌∙◌, arith, Bool, get_or}
 use Rattle.std.specs.Prelude.{MatchBool}
 use Rattle.std.proofs.lemmas.List.{drop_more, length-map, get_or-map, drop_all}
 use Rattle.lotos_pattern.specs.Patterns.{Element, EndLast, IsEnd}
@@ -16,11 +16,8 @@ elements_from kept i x within is =
 pub elements_at : (p : List Element) (kept : List Kept) (i : ℕ) (x : Kept) → elements_of kept ≡ p → i < length kept → x ≡ get_or kept i x → drop i p ≡ element_of x ∷ drop (i + 1) p
 elements_at p kept i x shown within is = subst (λ q. drop i q ≡ element_of x ∷ drop (i + 1) q) shown (elements_from kept i x within is)
 
-pub past_elements : (p : List Element) (kept : List Kept) (i : ℕ) → elements_of kept ≡ p → length kept ≤ i → length p ≤ i
-past_elements p kept i shown past =
-    let as_long : length (elements_of kept) ≡ length kept = length-map kept element_of in
-    let shown_long : length (elements_of kept) ≡ length p = ap length shown in
-    omega arith
+pub as_long : (p : List Element) (kept : List Kept) → elements_of kept ≡ p → length kept ≡ length p
+as_long p kept shown = sym (length-map kept element_of) ∙ ap length shown
 
 -- the last element decides
 last_decides : (p : List Element) (e : Element) → drop (length p - 1) p ≡ e ∷ [] → EndLast p ≡ IsEnd e

@@ -1,11 +1,12 @@
 -- Where a label leads from the positions of a place.
-use Rattle.std.proofs.Common.{◌≡◌, ℕ, zero, suc, ◌+◌, ◌≤◌, ◌⊎◌, inl, inr, Bool, true, false, List, [], ◌∷◌, ◌++◌, length, drop, refl, sym, ap, subst, ◌∙◌, arith}
-use Rattle.std.specs.Prelude.{◌↔◌, ◌||◌, IsTrue, MatchBool}
+use Rattle.std.proofs.Common.{◌≡◌, ℕ, zero, suc, ◌+◌, ◌<◌, ◌≤◌, ◌⊎◌, inl, inr, Option, None, Some, List, [], ◌∷◌, ◌++◌, length, drop, refl, sym, ap, subst, ◌∙◌, arith}
+use Rattle.std.specs.Prelude.{MatchOption, unwrap_or}
+use Rattle.std.proofs.lemmas.Bool.{cases_lt}
 use Rattle.std.proofs.lemmas.List.{drop_all}
 use Rattle.lotos_pattern.specs.Labels.{Label}
 use Rattle.lotos_pattern.specs.Patterns.{Element, IsJoin, Segment}
-use Rattle.lotos_pattern.specs.Positions.{Has, Place}
-use Rattle.lotos_pattern.specs.Passing.{IsMarked, Leads, LeadsOn}
+use Rattle.lotos_pattern.specs.Positions.{Has, IsFirst, Place}
+use Rattle.lotos_pattern.specs.Passing.{IsMarked, IsReachedNext, Leads, LeadsOn}
 use Rattle.lotos_pattern.specs.Taking.{Takes}
 use Rattle.lotos_pattern.specs.declared.element.Taking.{Taking}
 use Rattle.lotos_pattern.specs.declared.element.Taking.TheVariants.{Fails, Passes, Stays}
@@ -41,19 +42,12 @@ untaken Passes e p l s takes j = (l ∷ [], s, (takes []).1 refl, j, refl)
 untaken Stays e p l s takes (front, behind, segment, j, cut) = (l ∷ front, behind, (takes front).1 segment, j, ap (λ rest. l ∷ rest) cut)
 untaken Fails e p l s takes j = absurd j
 
--- the place has the positions where the label leads from the ones before `k`, and `reached` says whether the elements from `k` on
--- are reached by passing over others; the positions from `n` on are not yet looked at
-pub record IsPassing (p : List Element) (from : Place) (l : Label) (k n : ℕ) (reached : Bool) (onward : Place) : Type 0 where
-  pub reachable : reached ≡ true → (s : List Label) → IsJoin Segment (drop k p) s → Leads p from s
+-- the place has the positions where the label leads from the ones before `k`, which is reached if an element stands there
+pub record IsPassing (p : List Element) (from : Place) (l : Label) (k : ℕ) (onward : Place) : Type 0 where
+  pub reachable : k < length p → (s : List Label) → IsJoin Segment (drop k p) s → Leads p from s
   pub sound : (s : List Label) → Leads p onward s → Leads p from (l ∷ s)
   pub complete : (s : List Label) (j : ℕ) → Has from j → IsJoin Segment (drop j p) (l ∷ s) →
-      Leads p onward s ⊎ (((reached ≡ true) × IsJoin Segment (drop k p) (l ∷ s)) ⊎ (n ≤ j))
-
--- a position is reached where it was before, or where it is one of the place's
-pub record IsReached (from : Place) (k : ℕ) (was now : Bool) : Type 0 where
-  pub either : now ≡ true → (was ≡ true) ⊎ Has from k
-  pub before : was ≡ true → now ≡ true
-  pub here : Has from k → now ≡ true
+      Leads p onward s ⊎ (IsJoin Segment (drop k p) (l ∷ s) ⊎ (k < j))
 
 pub later : (k j : ℕ) → k ≤ j → (j ≡ k) ⊎ (k + 1 ≤ j)
 later zero zero h = inl refl
@@ -64,60 +58,34 @@ later (suc k) (suc j) h = elim (later k j (omega arith)) [ inl e ↦ inl (ap suc
 no_label : (l : Label) (s : List Label) → l ∷ s ≡ [] → ⊥
 no_label l s e = cc
 
-pub passing_begins : (p : List Element) (from : Place) (l : Label) (onward : Place) → ((k : ℕ) → Has onward k → ⊥) → IsPassing p from l 0 0 false onward
-passing_begins p from l onward none = record {
-  reachable = λ e. absurd (let z : ⊥ = cc in z);
+-- from the first position on
+pub passing_begins : (p : List Element) (from : Place) (l : Label) (onward : Place) (first : Option ℕ) (end : ℕ) → length p ≤ end → ((k : ℕ) → Has onward k → ⊥) →
+    MatchOption first ((k : ℕ) → 0 ≤ k → Has from k → ⊥) (IsFirst from 0) → IsPassing p from l (unwrap_or first end) onward
+passing_begins p from l onward None end long none nowhere = record {
+  reachable = λ h. absurd (omega arith);
   sound = λ s m. absurd (none m.position m.has);
-  complete = λ s j h m. inr (inr (omega arith));
+  complete = λ s j has m. absurd (nowhere j (omega arith) has);
+}
+passing_begins p from l onward (Some k) end long none first = record {
+  reachable = λ h s m. record { position = k; has = first.has; joined = m };
+  sound = λ s m. absurd (none m.position m.has);
+  complete = λ s j has m. elim (cases_lt j k) [
+    | inl h ↦ absurd (first.none_before j (omega arith) h has)
+    | inr far ↦ inr (elim (later k j far) [ inl same ↦ inl (subst (λ i. IsJoin Segment (drop i p) (l ∷ s)) same m) | inr h ↦ inr (omega arith) ])
+  ];
 }
 
-module _ (p : List Element) (from : Place) (l : Label) (k : ℕ) (onward : Place) where
-  pub reached_here : (was now : Bool) → IsPassing p from l k k was onward → IsReached from k was now → IsPassing p from l k (k + 1) now onward
-  reached_here was now i o = record {
-    reachable = λ e s m. elim (o.either e) [ inl w ↦ i.reachable w s m | inr h ↦ record { position = k; has = h; joined = m } ];
-    sound = i.sound;
-    complete = λ s j h m. elim (i.complete s j h m) [
-      | inl done ↦ inl done
-      | inr (inl (t, rest)) ↦ inr (inl (o.before t, rest))
-      | inr (inr far) ↦ elim (later k j far) [
-        | inl same ↦ inr (inl (o.here (subst (Has from) same h), subst (λ i. IsJoin Segment (drop i p) (l ∷ s)) same m))
-        | inr far ↦ inr (inr far)
-      ]
-    ];
-  }
-
-  -- an element that is not reached is passed by
-  pub passed_by : (now : Bool) → now ≡ false → IsPassing p from l k (k + 1) now onward → IsPassing p from l (k + 1) (k + 1) now onward
-  passed_by now off i = record {
-    reachable = λ e. absurd (let z : ⊥ = cc in z);
-    sound = i.sound;
-    complete = λ s j h m. elim (i.complete s j h m) [
-      | inl done ↦ inl done
-      | inr (inl (t, rest)) ↦ absurd (let z : ⊥ = cc in z)
-      | inr (inr far) ↦ inr (inr far)
-    ];
-  }
-
 -- behind the last element no label follows
-pub passing_ends : (p : List Element) (from : Place) (l : Label) (k : ℕ) (reached : Bool) (onward : Place) → length p ≤ k → IsPassing p from l k k reached onward → LeadsOn p from l onward
-passing_ends p from l k reached onward past i s =
+pub passing_ends : (p : List Element) (from : Place) (l : Label) (k : ℕ) (onward : Place) → length p ≤ k → IsPassing p from l k onward → LeadsOn p from l onward
+passing_ends p from l k onward past i s =
     let none : (j : ℕ) → k ≤ j → IsJoin Segment (drop j p) (l ∷ s) → ⊥ = λ j far m. no_label l s (subst (λ q. IsJoin Segment q (l ∷ s)) (drop_all j p (omega arith)) m) in (
       λ m. elim (i.complete s m.position m.has m.joined) [
         | inl done ↦ done
-        | inr (inl (t, rest)) ↦ absurd (none k (omega arith) rest)
-        | inr (inr far) ↦ absurd (none m.position far m.joined)
+        | inr (inl rest) ↦ absurd (none k (omega arith) rest)
+        | inr (inr far) ↦ absurd (none m.position (omega arith) m.joined)
       ],
       i.sound s,
     )
-
--- what a test decides
-pub decided : {A : Type 0} (b : Bool) → MatchBool b A (A → ⊥) → b ≡ true → A
-decided true h e = h
-decided false h e = absurd (let z : ⊥ = cc in z)
-
-pub decides : {A : Type 0} (b : Bool) → MatchBool b A (A → ⊥) → A → b ≡ true
-decides true h a = refl
-decides false h a = absurd (h a)
 
 -- how the places before and after a mark stand to each other
 record Marked (t : Taking) (p : List Element) (k : ℕ) (e : Element) (old new : Place) : Type 0 where
@@ -150,27 +118,53 @@ marked Fails p k e old new here marks = record {
 
 module _ (p : List Element) (from : Place) (l : Label) (k : ℕ) (e : Element) (here : drop k p ≡ e ∷ drop (k + 1) p) where
   -- a reached element takes the label or is passed over
-  pub passed : (now empty : Bool) (t : Taking) (old new : Place) → now ≡ true → IsPassing p from l k (k + 1) now old → Takes e l t → IsMarked t k old new →
-      MatchBool empty (Segment e []) (Segment e [] → ⊥) → IsPassing p from l (k + 1) (k + 1) empty new
-  passed now empty t old new on i takes marks may =
-      let m = marked t p k e old new here marks in record {
-        reachable = λ is s j. i.reachable on s (subst (λ q. IsJoin Segment q s) (sym here) ([], s, decided empty may is, j, refl));
+  pub passed : (t : Taking) (end n : ℕ) (old new : Place) → k < length p → length p ≤ end → IsPassing p from l k old → Takes e l t → IsMarked t k old new →
+      IsReachedNext e from k end n → IsPassing p from l n new
+  passed t end n old new within long i takes marks next =
+      let m = marked t p k e old new here marks in
+      let on : (s : List Label) → IsJoin Segment (e ∷ drop (k + 1) p) s → Leads p from s = λ s j. i.reachable within s (subst (λ q. IsJoin Segment q s) (sym here) j) in record {
+        reachable = λ h s j. elim (next.reached (omega arith)) [
+          | inl (empty, same) ↦ on s ([], s, empty, subst (λ i. IsJoin Segment (drop i p) s) same j, refl)
+          | inr has ↦ record { position = n; has = has; joined = j }
+        ];
         sound = λ s to. elim (m.only s to) [
           | inl before ↦ i.sound s before
-          | inr after ↦ i.reachable on (l ∷ s) (subst (λ q. IsJoin Segment q (l ∷ s)) (sym here) (untaken t e (drop (k + 1) p) l s takes after))
+          | inr after ↦ on (l ∷ s) (untaken t e (drop (k + 1) p) l s takes after)
         ];
-        complete = λ s j h to. elim (i.complete s j h to) [
+        complete = λ s j has to. elim (i.complete s j has to) [
           | inl done ↦ inl (m.keeps s done)
-          | inr (inl (on, rest)) ↦ elim (split e (drop (k + 1) p) l s (subst (λ q. IsJoin Segment q (l ∷ s)) here rest)) [
-            | passed_over none others ↦ inr (inl (decides empty may none, others))
+          | inr (inl rest) ↦ elim (split e (drop (k + 1) p) l s (subst (λ q. IsJoin Segment q (l ∷ s)) here rest)) [
+            | passed_over none others ↦ inr (inl (subst (λ i. IsJoin Segment (drop i p) (l ∷ s)) (sym (next.passes none)) others))
             | begun front behind segment others cut ↦ inl (m.adds s (taken t e (drop (k + 1) p) l s front behind takes segment others cut))
           ]
-          | inr (inr far) ↦ inr (inr far)
+          | inr (inr far) ↦ inr (elim (later n j (next.skips_none j far has)) [
+            | inl same ↦ inl (subst (λ i. IsJoin Segment (drop i p) (l ∷ s)) same to)
+            | inr h ↦ inr (omega arith)
+          ])
         ];
       }
 
--- what is reached at a position: what was before, or what the place has
-pub is_reached : (from : Place) (k : ℕ) (was has : Bool) → IsTrue has ↔ Has from k → IsReached from k was (was || has)
-is_reached from k true has h = record { either = λ e. inl refl; before = λ e. refl; here = λ e. refl }
-is_reached from k false true h = record { either = λ e. inr (h.0 e); before = λ e. refl; here = λ e. refl }
-is_reached from k false false h = record { either = λ e. absurd (let z : ⊥ = cc in z); before = λ e. e; here = λ e. h.1 e }
+-- the next position that is reached behind an element that may be empty
+pub reached_over : (e : Element) (from : Place) (k end : ℕ) → Segment e [] → IsReachedNext e from k end (k + 1)
+reached_over e from k end empty = record {
+  onward = omega arith;
+  reached = λ h. inl (empty, refl);
+  passes = λ h. refl;
+  skips_none = λ j far has. omega arith;
+}
+
+-- and behind one that may not
+pub reached_next : (e : Element) (from : Place) (k end : ℕ) (first : Option ℕ) → k < end → (Segment e [] → ⊥) →
+    MatchOption first ((j : ℕ) → k + 1 ≤ j → Has from j → ⊥) (IsFirst from (k + 1)) → IsReachedNext e from k end (unwrap_or first end)
+reached_next e from k end None within needed none = record {
+  onward = within;
+  reached = λ h. absurd (omega arith);
+  passes = λ empty. absurd (needed empty);
+  skips_none = λ j far has. absurd (none j (omega arith) has);
+}
+reached_next e from k end (Some n) within needed first = let behind = first.behind in record {
+  onward = omega arith;
+  reached = λ h. inr first.has;
+  passes = λ empty. absurd (needed empty);
+  skips_none = λ j far has. elim (cases_lt j n) [ inl h ↦ absurd (first.none_before j (omega arith) h has) | inr h ↦ h ];
+}

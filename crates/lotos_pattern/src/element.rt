@@ -1,6 +1,6 @@
 //! Elements of a pattern, and what a label does at them.
-ghost use Rattle.std.specs.Prelude.{MatchBool, []};
-ghost use Rattle.lotos_pattern.specs.Patterns.{EndLast, IsEnd, Segment};
+ghost use Rattle.std.specs.Prelude.{◌↔◌, ◌≤◌, ℕ, MatchBool, [], drop};
+ghost use Rattle.lotos_pattern.specs.Patterns.{EndLast, IsEnd, IsJoin, Segment};
 ghost use Rattle.lotos_pattern.specs.Elements.{element_of, elements_of};
 ghost use Rattle.lotos_pattern.specs.Taking.{Takes};
 
@@ -98,4 +98,16 @@ pub(crate) fn ends_dead(elements: &[Element]) -> bool
         Some(last) => last.is_end(),
         None => false,
     }
+}
+
+/// How many of the elements are done at least where a sequence ends: those behind may all be empty.
+pub(crate) fn least_done(elements: &[Element]) -> usize
+    ensures { (k : ℕ) → IsJoin Segment (drop k (elements_of elements.now)) [] ↔ (result ≤ k) }
+{
+    for position in (0..elements.len()).rev() {
+        if !elements[position].may_be_empty() {
+            return position + 1;
+        }
+    }
+    0
 }

@@ -2,12 +2,13 @@
 ghost use Rattle.std.specs.Prelude.{◌≡◌, ◌∷◌, ◌++◌, ◌<◌, [], List, IfErr, IfOk, MatchBool, MatchOption};
 ghost use Rattle.lotos_pattern.specs.Labels.{Label};
 ghost use Rattle.lotos_pattern.specs.Patterns.{IsObservable, Viable};
+ghost use Rattle.lotos_pattern.specs.Elements.{element_of};
 ghost use Rattle.lotos_pattern.specs.Spelling.{PatternOf, texts_of};
 ghost use Rattle.lotos_pattern.specs.Faults.{IsCause, SpellsNone};
 ghost use Rattle.lotos_pattern.specs.Places.{Accepts, Stands};
-ghost use Rattle.lotos_pattern.specs.Passing.{IsMarked, Leads, LeadsOn};
+ghost use Rattle.lotos_pattern.specs.Passing.{IsMarked, IsReachedNext, Leads, LeadsOn};
 
-use crate::element::{Element, Taking, ends_dead};
+use crate::element::{Element, Taking, ends_dead, least_done};
 use crate::fault::PatternFault;
 use crate::place::{End, Place};
 use crate::reading::read_elements;
@@ -97,14 +98,14 @@ impl Pattern {
     fn led_to(&self, place: &Place, label: &str) -> Place
         ensures { LeadsOn self.now.elements place.now label.now result }
     {
+        let elements = self.elements.as_slice();
+        let end = elements.len();
         let mut next = Place::nowhere();
-        let mut reached = false;
-        for (position, element) in self.elements.iter().enumerate() {
-            reached = reached | place.has(position);
-            if reached {
-                mark(&mut next, element.take(label), position);
-                reached = element.may_be_empty();
-            }
+        let mut position = place.first_from(0).unwrap_or(end);
+        while position < end {
+            let element = &elements[position];
+            mark(&mut next, element.take(label), position);
+            position = reached_behind(element, place, position, end);
         }
         next
     }
@@ -113,11 +114,7 @@ impl Pattern {
     fn may_end(&self, place: &Place) -> bool
         ensures { MatchBool result (Leads self.now.elements place.now []) (Leads self.now.elements place.now [] → ⊥) }
     {
-        let mut reached = false;
-        for (position, element) in self.elements.iter().enumerate() {
-            reached = (reached | place.has(position)) & element.may_be_empty();
-        }
-        reached | place.reaches(self.elements.len())
+        place.reaches(least_done(self.elements.as_slice()))
     }
 }
 
@@ -126,6 +123,19 @@ fn is_hidden(strong: bool, label: &str) -> bool
     ensures { MatchBool result (IsObservable strong label.now → ⊥) (IsObservable strong label.now) }
 {
     !strong & (label == "i")
+}
+
+/// Where the element at the position is reached, the next position that is: the one behind it where it may be empty, else the
+/// next of the place, and the end where there is none.
+fn reached_behind(element: &Element, place: &Place, position: usize, end: usize) -> usize
+    requires { position < end }
+    ensures { IsReachedNext (element_of element.now) place.now position end result }
+{
+    if element.may_be_empty() {
+        position + 1
+    } else {
+        place.first_from(position + 1).unwrap_or(end)
+    }
 }
 
 /// Marks where a label leads that does this at the element behind so many others.

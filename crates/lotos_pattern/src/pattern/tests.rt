@@ -384,6 +384,62 @@ fn holds_the_last_position(rt: HostRuntime) -> Result<(), Fail> {
     Ok(())
 }
 
+/// How many elements stand before the last: the positions behind them are about the ends of the words of a place.
+const BEFORE: [usize; 8] = [1, 62, 63, 64, 65, 127, 128, 255];
+
+/// Behind many elements the last is found, whether they are done one after another or passed over.
+#[test]
+fn holds_positions_of_each_word(rt: HostRuntime) -> Result<(), Fail> {
+    for count in BEFORE {
+        let mut words = repeated(rt.alloc(), &["A"], count)?;
+        words.push("B")?;
+        let matched = Pattern::read(rt.alloc(), words.as_slice(), false)?;
+        let mut labels = repeated(rt.alloc(), &["A"], count)?;
+        assert_eq!(rt;
+            end_behind(&matched, labels.as_slice()),
+            Some(End::No),
+            "{} done",
+            count
+        );
+        labels.push("B")?;
+        assert_eq!(rt;
+            end_behind(&matched, labels.as_slice()),
+            Some(End::Yes),
+            "{} done, B",
+            count
+        );
+        labels.push("B")?;
+        assert_eq!(rt;
+            end_behind(&matched, labels.as_slice()),
+            None,
+            "{} done, B B",
+            count
+        );
+        let mut words = repeated(rt.alloc(), &["<while>", "A"], count)?;
+        words.push("B")?;
+        let passed = Pattern::read(rt.alloc(), words.as_slice(), false)?;
+        assert_eq!(rt;
+            end_behind(&passed, &["A"]),
+            Some(End::No),
+            "{} passed over",
+            count
+        );
+        assert_eq!(rt;
+            end_behind(&passed, &["A", "B"]),
+            Some(End::Yes),
+            "{} passed over, B",
+            count
+        );
+        assert_eq!(rt;
+            end_behind(&passed, &["B", "A"]),
+            None,
+            "{} passed over, B A",
+            count
+        );
+    }
+    Ok(())
+}
+
 /// The words a number of times.
 fn repeated(
     alloc: Global,

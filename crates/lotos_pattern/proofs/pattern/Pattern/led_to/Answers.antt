@@ -1,33 +1,34 @@
-use Rattle.std.proofs.Common.{ap, ◌∙◌}
+use Rattle.std.proofs.Common.{ap, ◌∙◌, arith}
 use Rattle.lotos_pattern.specs.Elements.{elements_of}
-use Rattle.lotos_pattern.proofs.Ends.{elements_at, past_elements}
-use Rattle.lotos_pattern.proofs.Passings.{is_reached, passed, passed_by, passing_begins, passing_ends, reached_here}
+use Rattle.lotos_pattern.proofs.Ends.{as_long, elements_at}
+use Rattle.lotos_pattern.proofs.Passings.{passed, passing_begins, passing_ends}
 use Rattle.lotos_pattern.proofs.pattern.Pattern.led_to.Goals as goal
-use Rattle.lotos_pattern.proofs.pattern.Pattern.led_to.Goals.{then-reached, else-reached}
+
+pub loop-position-init : goal.loop-position-init
+loop-position-init c =
+    let shown = ap elements_of c.as_slice-elements.ensures.value ∙ ap (λ p. p.elements) c.self.view_is in
+    let long = as_long _ _ shown in
+    rw c.unwrap_or-position.ensures (passing_begins c.args.self.now.elements _ _ _ c.first_from.result _ (omega arith) c.nowhere-next.ensures c.first_from.ensures)
 
 pub loop-position-preserved : goal.loop-position-preserved
 loop-position-preserved c =
     let p = c.args.self.now.elements in
-    let shown = c.loop-position.invariant.shown in
-    let at = reached_here p c.args.place.now c.args.label.now c.loop-position.position c.loop-position.next c.loop-position.reached _ c.loop-position.invariant.passing
-    (is_reached c.args.place.now c.loop-position.position c.loop-position.reached c.has-reached.result c.has-reached.ensures) in
-    let here = elements_at p c.deref-element-items.result.now c.loop-position.position c.element-item.result shown c.loop-position-test.true c.element-item.is in
-    record {
-      shown = shown;
-      passing = elim c.if-reached.branch [
-        | then-reached w ↦ rw (w.next-is, w.reached-is) (passed p c.args.place.now c.args.label.now c.loop-position.position _ here _ _ w.take.result _ _ w.if-reached.true at w.take.ensures
-            w.mark.ensures w.may_be_empty-reached.ensures)
-        | else-reached w ↦ rw (w.next-is, w.reached-is) (passed_by p c.args.place.now c.args.label.now c.loop-position.position _ _ w.if-reached.false at)
-      ];
-    }
+    let kept = c.as_slice-elements.result.now in
+    let shown = ap elements_of c.as_slice-elements.ensures.value ∙ ap (λ p. p.elements) c.self.view_is in
+    let long = as_long p kept shown in
+    let here = elements_at p kept c.loop-position.position c.index-elements-position.result shown (omega arith) c.index-elements-position.is in
+    passed p c.args.place.now c.args.label.now c.loop-position.position _ here c.take.result _ _ _ _ (omega arith) (omega arith) c.loop-position.invariant c.take.ensures c.mark.ensures
+    c.reached_behind-position.ensures
 
-pub loop-position-init : goal.loop-position-init
-loop-position-init c = record {
-  shown = ap elements_of c.deref-element-items.ensures.value ∙ ap (λ p. p.elements) c.self.view_is;
-  passing = passing_begins _ _ _ _ c.nowhere-next.ensures;
-}
+pub loop-position-smaller : goal.loop-position-smaller
+loop-position-smaller c =
+    let shown = ap elements_of c.as_slice-elements.ensures.value ∙ ap (λ p. p.elements) c.self.view_is in
+    let long = as_long _ _ shown in
+    let onward = c.reached_behind-position.ensures.onward in
+    omega arith
 
 pub returns : goal.returns
 returns c =
-    let past = past_elements _ _ c.loop-position.position c.loop-position.invariant.shown c.loop-position-test.false in
-    passing_ends _ _ _ _ _ _ past c.loop-position.invariant.passing
+    let shown = ap elements_of c.as_slice-elements.ensures.value ∙ ap (λ p. p.elements) c.self.view_is in
+    let long = as_long _ _ shown in
+    passing_ends _ _ _ c.loop-position.position _ (omega arith) c.loop-position.invariant

@@ -2,4 +2,4 @@ use Rattle.lotos_pattern.proofs.Places.{bare}
 use Rattle.lotos_pattern.proofs.place.Place.nowhere.Goals as goal
 
 pub returns : goal.returns
-returns c k h = search bare
+returns c k = bare 5 k
