@@ -20,8 +20,8 @@ const BOUNDS: [usize; 3] = [1, 3, ALL];
 
 /// A specification, and what is known of it up to a depth.
 #[derive(Drop)]
-struct Sample<'a> {
-    behaviour: &'a str,
+struct Sample {
+    behaviour: &'static str,
     depth: u8,
     /// Which quarter of the patterns it takes.
     turn: usize,
@@ -70,7 +70,12 @@ fn recursions(rt: HostRuntime) -> Result<(), Fail> {
 }
 
 /// Compares the searches of specifications, each with a quarter of the patterns.
-fn compare(rt: &impl Abort, alloc: Global, samples: &[&str], depth: u8) -> Result<(), Fail> {
+fn compare(
+    rt: &impl Abort,
+    alloc: Global,
+    samples: &[&'static str],
+    depth: u8,
+) -> Result<(), Fail> {
     for (turn, behaviour) in samples.iter().enumerate() {
         let graph = Graph::new(alloc, behaviour, depth)?;
         let derivations = derivations(alloc, &graph, depth)?;
@@ -110,7 +115,7 @@ fn compare_depths(
     rt: &impl Abort,
     alloc: Global,
     sample: &Sample,
-    words: &[&str],
+    words: Words,
     strong: bool,
 ) -> Result<(), Fail> {
     let whole = Asked {
