@@ -9,7 +9,7 @@ const WORDS: usize = 5;
 const BITS: usize = 64;
 
 /// Where in a pattern the labels of a sequence have led. It is asked of the pattern that gave it.
-#[derive(Clone, Copy, Debug, PartialEq, Eq)]
+#[derive(Clone, Copy, Debug, PartialEq, Eq, Hash)]
 pub struct Place {
     /// For each number of elements a bit, the lowest of the first word for none, whether it is where so many are done.
     words: [u64; WORDS],

@@ -1,5 +1,5 @@
 -- What a listing says of what is asked.
-use Rattle.std.proofs.Common.{◌≡◌, ◌↔◌, ℕ, List, [], Option, None, Some, arith, inl, inr, refl, sym, subst, ◌∙◌}
+use Rattle.std.proofs.Common.{◌≡◌, ◌↔◌, ℕ, List, [], Option, false, None, Some, arith, inl, inr, refl, sym, subst, ◌∙◌}
 use Rattle.std.proofs.KnownBytes.{Consumes-nil, Keeps-refl}
 use Rattle.std.specs.declared.string.String.{String}
 use Rattle.std.specs.declared.alloc.Global.{Global}
@@ -15,7 +15,7 @@ use Rattle.lotos_search.specs.Nexts.{IsBegun, Shown}
 use Rattle.lotos_search.specs.Searched.{IsSearchOf, Searched}
 use Rattle.lotos_search.specs.declared.fault.MarkFault.{MarkFault}
 use Rattle.lotos_search.specs.declared.fault.MarkFault.TheVariants as mark_fault
-use Rattle.lotos_tool.specs.Answers.{Answers, Asks, IsMarkOf, IsMarkRefused, words_of}
+use Rattle.lotos_tool.specs.Answers.{Answers, Asks, IsMarkOf, IsMarkRefused, is_input_fault, words_of}
 use Rattle.lotos_tool.specs.Searching.{Ends, IsAskedOf, IsFaultOfMark, IsRefusedMark, ReadsAccepted}
 use Rattle.lotos_tool.specs.declared.answer.Ended.{Ended}
 use Rattle.lotos_tool.specs.declared.answer.Ended.TheVariants.{Complete, Refused, Stopped}
@@ -63,6 +63,13 @@ asks request left left' system p mark search read pattern marked begun = record 
   terms = begun.terms;
   marked = subst (IsMarkOf request.strong request.after) (sym begun.cursor) marked;
 }
+
+-- no listing ends in that the input cannot be read
+pub no_input_fault : (request : SearchRequest) (got got' : Option (List ℕ)) (q : Searched) (mark : Option (List Label)) (ended : Ended) →
+    Ends request q mark got got' ended → is_input_fault ended ≡ false
+no_input_fault request got got' q mark (Complete lines) h = refl
+no_input_fault request got got' q mark (Refused cause) h = absurd h
+no_input_fault request got got' q mark (Stopped last why) h = refl
 
 -- how its listing ends is the answer
 pub answered : (request : SearchRequest) (left left' got got' : Option (List ℕ)) (q : Searched) (mark : Option (List Label)) (ended : Ended) →

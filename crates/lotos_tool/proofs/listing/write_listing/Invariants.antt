@@ -1,4 +1,4 @@
-use Rattle.std.proofs.Common.{◌≡◌, ℕ, List, length, false}
+use Rattle.std.proofs.Common.{◌≡◌, List, length, false}
 use Rattle.lotos_search.specs.Counts.{left}
 use Rattle.lotos_search.specs.Nexts.{going}
 use Rattle.lotos_tool.specs.Answers.{IsBelow}
