@@ -1,5 +1,5 @@
 -- What a call of a source or a sink does to the bytes that it tells, and to its flag.
-use Rattle.std.specs.Prelude.{◌≡◌, ℕ, ◌<◌, ◌≤◌, Bool, List, length, take, Result, MatchResult, Option, is_err, ◌||◌}
+use Rattle.std.specs.Prelude.{◌≡◌, ℕ, ◌+◌, ◌<◌, ◌≤◌, Bool, List, length, take, Result, MatchResult, Option, is_err, ◌||◌}
 use Rattle.std.specs.Io.KnownBytes.{Keeps, Appends, Consumes, IsAtEnd}
 
 -- A read that answers n moved n bytes from the front of those left to the front of the buffer; none into a buffer with room
@@ -8,6 +8,10 @@ abbrev pub Reads : {E : Type 0} → Option (List ℕ) → Option (List ℕ) → 
 Reads old new r into = MatchResult r
     (λ n. (n ≤ length into) × Consumes old new (take n into) × (n ≡ 0 → 0 < length into → IsAtEnd new))
     (λ _. Keeps old new)
+
+-- a read that answers n gave n bytes; a failure gave none
+abbrev pub Gives : {E : Type 0} → ℕ → ℕ → Result ℕ E → Type 0
+Gives old new r = MatchResult r (λ n. new ≡ old + n) (λ _. new ≡ old)
 
 -- A write that answers n took n bytes from the front of the slice, at least one where there is one; a failure leaves what
 -- was got.

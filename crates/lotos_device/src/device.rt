@@ -4,8 +4,8 @@
 //! it tells them: those over memory do, and for a file or a terminal the claim is as honest as the system is.
 ghost use Rattle.std.specs.Prelude.{◌≡◌, ℕ, Bool, false, List, Option};
 ghost use Rattle.std.specs.Io.KnownBytes.{Keeps};
-ghost use Rattle.lotos_device.specs.Device.{Reads, Writes, Flags};
-ghost use Rattle.lotos_device.specs.Wrapped.{wrapped_reader, reader_failed, wrapped_writer, writer_failed};
+ghost use Rattle.lotos_device.specs.Device.{Gives, Reads, Writes, Flags};
+ghost use Rattle.lotos_device.specs.Wrapped.{wrapped_reader, reader_failed, reader_given, wrapped_writer, writer_failed};
 
 use std::io::{Read, Write};
 
@@ -18,6 +18,9 @@ pub trait Source {
     /// The bytes that are left, where the source tells them.
     ghost left: { Self → Option (List ℕ) };
 
+    /// How many bytes it has given since it was made, whether it tells what is left or not.
+    ghost given: { Self → ℕ };
+
     /// Whether a call has failed.
     ghost has_failed: { Self → Bool };
 
@@ -25,6 +28,7 @@ pub trait Source {
     /// none.
     fn read(&mut self, into: &mut [u8]) -> Result<usize, DeviceFailed>
         ensures bytes { Reads (left self.old) (left self.new) result into.new }
+        ensures given { Gives (given self.old) (given self.new) result }
         ensures flag { Flags (has_failed self.old) (has_failed self.new) result };
 
     /// Whether a call has failed. No call takes that back.
@@ -55,21 +59,25 @@ pub trait Sink {
         ensures { result ≡ has_failed self.now };
 }
 
-/// A source over std's reader, whose bytes it has.
+/// A source over std's reader, whose bytes it has. It counts the bytes that it gives, and a read into more room than can
+/// still be counted is a failure. No slice has 2^63 bytes, so there is none of these before 2^63 bytes are given.
 #[derive(Drop)]
 pub struct FromRead<R> {
     inner: R,
+    given: usize,
     failed: bool,
 }
 
 impl<R: Read> FromRead<R> {
-    /// Wraps a reader, as a source that has not failed.
+    /// Wraps a reader, as a source that has given nothing and has not failed.
     pub fn new(inner: R) -> FromRead<R>
         ensures inner { wrapped_reader result ≡ inner }
+        ensures given { reader_given result ≡ 0 }
         ensures unfailed { reader_failed result ≡ false }
     {
         FromRead {
             inner,
+            given: 0,
             failed: false,
         }
     }
@@ -85,11 +93,20 @@ impl<R: Read> FromRead<R> {
 impl<R: Read> Source for FromRead<R> {
     ghost left = { λ s. R.remaining (wrapped_reader s) };
 
+    ghost given = { reader_given };
+
     ghost has_failed = { reader_failed };
 
     fn read(&mut self, into: &mut [u8]) -> Result<usize, DeviceFailed> {
+        if into.len() > usize::MAX - self.given {
+            self.failed = true;
+            return Err(DeviceFailed);
+        }
         match self.inner.read(into) {
-            Ok(count) => Ok(count),
+            Ok(count) => {
+                self.given += count;
+                Ok(count)
+            }
             Err(_) => {
                 self.failed = true;
                 Err(DeviceFailed)

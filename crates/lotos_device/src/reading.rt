@@ -1,5 +1,5 @@
 //! Reads a whole text, and no more than a text may have.
-ghost use Rattle.std.specs.Prelude.{◌≡◌, ◌+◌, false, IfOk, IsErrOf};
+ghost use Rattle.std.specs.Prelude.{◌≡◌, ◌+◌, ◌≤◌, false, IfOk, IsErrOf};
 ghost use Rattle.lotos_text.specs.Profile.{longest_text};
 ghost use Rattle.lotos_device.specs.Reading.{ReadsWhole, TakesAtMost, TakesExactly, is_device_fault};
 
@@ -29,10 +29,12 @@ impl From<AllocError> for ReadFault {
     }
 }
 
-/// Reads all that the reader has left. One byte more than a text may have is the most that is taken, and is too long.
+/// Reads all that the reader has left. One byte more than a text may have is the most that is taken, whatever the reader gives,
+/// and is too long.
 pub fn read_text<R: Source>(alloc: Global, reader: &mut R) -> Result<Vec<u8>, ReadFault>
     requires { R.has_failed reader.old ≡ false }
     ensures whole { IfOk result (λ text. ReadsWhole (R.left reader.old) (R.left reader.new) text.items) }
+    ensures given { R.given reader.new ≤ R.given reader.old + (longest_text + 1) }
     ensures failed { R.has_failed reader.new ≡ is_device_fault result }
     ensures too_long { IsErrOf result ReadFault.TooLong →
         TakesExactly (R.left reader.old) (R.left reader.new) (longest_text + 1) }

@@ -1,5 +1,5 @@
 //! Reads a text and accepts its specification, or says why not.
-ghost use Rattle.std.specs.Prelude.{◌≡◌, ◌≤◌, IfOk, IfErr, false, length};
+ghost use Rattle.std.specs.Prelude.{◌≡◌, ◌+◌, ◌≤◌, IfOk, IfErr, false, length};
 ghost use Rattle.lotos_text.specs.Inside.{IsFaultInside};
 ghost use Rattle.lotos_text.specs.Profile.{longest_text};
 ghost use Rattle.lotos_text.specs.Refused.{IsRefused, SpellsNothing};
@@ -22,11 +22,13 @@ pub enum Unaccepted {
     Memory,
 }
 
-/// Reads a whole text and answers the specification that it is accepted as.
+/// Reads a whole text and answers the specification that it is accepted as. At most one byte more than a text may have is
+/// taken from the reader, whatever it gives.
 pub fn read_specification<R: Source>(alloc: Global, reader: &mut R) -> Result<Checked, Unaccepted>
     requires { R.has_failed reader.old ≡ false }
     ensures accepted { IfOk result (λ found. ReadsAccepted (R.left reader.old) (R.left reader.new) (system_of found)) }
     ensures refused { IfErr result (IsUnread (R.left reader.old) (R.left reader.new)) }
+    ensures given { R.given reader.new ≤ R.given reader.old + (longest_text + 1) }
     ensures failed { R.has_failed reader.new ≡ is_unread result }
 {
     let text = match read_text(alloc, reader) {

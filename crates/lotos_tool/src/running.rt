@@ -1,6 +1,7 @@
 //! The command from its words to its status.
-ghost use Rattle.std.specs.Prelude.{◌≡◌, ◌==◌, false, OnOk, OnErr, is_err};
+ghost use Rattle.std.specs.Prelude.{◌≡◌, ◌+◌, ◌≤◌, ◌==◌, false, OnOk, OnErr, is_err};
 ghost use Rattle.std.specs.Io.KnownBytes.{Appends};
+ghost use Rattle.lotos_text.specs.Profile.{longest_text};
 ghost use Rattle.lotos_tool.specs.Answers.{is_output_cause, is_output_fault};
 ghost use Rattle.lotos_command.specs.Request.{texts_of};
 ghost use Rattle.lotos_tool.specs.Runs.{HelpWritten, Ran, check_status_of, status_of, stop_status_of};
@@ -18,7 +19,8 @@ use std::io::Write;
 /// Runs the command and answers its status.
 ///
 /// The first of the words is the program's own name. The listing, or the help where the words ask for it, goes to `out`, and
-/// every message to `err`, whose faults change no status. The reader and the output have not failed yet.
+/// every message to `err`, whose faults change no status. At most one byte more than a text may have is taken from the reader,
+/// whatever it gives. The reader and the output have not failed yet.
 pub fn run<R: Source, W: Sink, E: Write>(
     alloc: Global,
     words: &[&str],
@@ -30,6 +32,7 @@ pub fn run<R: Source, W: Sink, E: Write>(
     requires out { W.has_failed out.old ≡ false }
     ensures ran { Ran (texts_of words.now) (R.left reader.old) (R.left reader.new) (W.got out.old) (W.got out.new)
         (R.has_failed reader.new) result }
+    ensures given { R.given reader.new ≤ R.given reader.old + (longest_text + 1) }
     ensures output { W.has_failed out.new ≡ (result == 6) }
 {
     match request(alloc, words) {

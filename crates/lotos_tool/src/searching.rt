@@ -1,5 +1,6 @@
 //! The search from end to end.
-ghost use Rattle.std.specs.Prelude.{◌≡◌, ◌≤◌, IfErr, IfOk, None, Some, false, map, string_bytes};
+ghost use Rattle.std.specs.Prelude.{◌≡◌, ◌+◌, ◌≤◌, IfErr, IfOk, None, Some, false, map, string_bytes};
+ghost use Rattle.lotos_text.specs.Profile.{longest_text};
 ghost use Rattle.lotos_check.specs.View.{system_of};
 ghost use Rattle.lotos_pattern.specs.Faults.{IsCause, SpellsNone};
 ghost use Rattle.lotos_pattern.specs.Spelling.{PatternOf, texts_of};
@@ -29,7 +30,8 @@ use std::alloc::{AllocError, Global};
 /// first is answered, with nothing written, and for the words and the mark with nothing read. A line is composed whole before
 /// its first byte is written. The listing stops when the limit's lines are written, at the first prefix that reaches more
 /// terms than the request allows, for want of memory, and where the output cannot be written. A complete listing, and one that
-/// stops at the limit or at such a prefix, ends with one flush. The reader and the writer have not failed yet.
+/// stops at the limit or at such a prefix, ends with one flush. At most one byte more than a text may have is taken from the
+/// reader, whatever it gives. The reader and the writer have not failed yet.
 pub fn list<R: Source, W: Sink>(
     alloc: Global,
     request: &SearchRequest,
@@ -40,6 +42,7 @@ pub fn list<R: Source, W: Sink>(
     requires reader { R.has_failed reader.old ≡ false }
     requires writer { W.has_failed writer.old ≡ false }
     ensures answers { Answers request.now (R.left reader.old) (R.left reader.new) (W.got writer.old) (W.got writer.new) result }
+    ensures given { R.given reader.new ≤ R.given reader.old + (longest_text + 1) }
     ensures input { R.has_failed reader.new ≡ is_input_fault result }
     ensures output { W.has_failed writer.new ≡ is_output_fault result }
 {
