@@ -1,0 +1,9 @@
+//! How each library is used, by one function for each.
+//!
+//! Every function stands on the public items and the public clauses of the libraries that it calls, and on their laws. The
+//! definitions that the contracts cite stand in `specs/`.
+#![tactic(auto)]
+
+mod matching;
+
+pub use matching::matches;
