@@ -1,9 +1,11 @@
-//! How each library is used, by one function for each.
+//! How each library is used, by one function or two for each.
 //!
 //! Every function stands on the public items and the public clauses of the libraries that it calls, and on their laws. The
 //! definitions that the contracts cite stand in `specs/`.
 #![tactic(auto)]
 
 mod matching;
+mod placing;
 
 pub use matching::matches;
+pub use placing::{Judged, fault_place};
