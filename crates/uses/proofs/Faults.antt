@@ -1,6 +1,6 @@
 -- Texts that are not accepted.
 use Rattle.std.proofs.Common.{◌≡◌, ℕ, List, subst}
-use Rattle.std.specs.Prelude.{◌≤◌, Some, None, length}
+use Rattle.std.specs.Prelude.{◌≤◌, Some}
 use Rattle.lotos_text.specs.Inside.{IsFaultInside}
 use Rattle.lotos_text.specs.Refused.{SpellsNothing}
 use Rattle.lotos_text.specs.Tree.{Def}
@@ -8,7 +8,7 @@ use Rattle.lotos_text.specs.declared.fault.TextFault.{TextFault}
 use Rattle.lotos_text.specs.declared.fault.TextFault.TheVariants as text_fault
 use Rattle.lotos_check.specs.Checking.{IsAccepted, IsNowhereAccepted}
 use Rattle.lotos_check.specs.Flat.{System}
-use Rattle.lotos_check.specs.Places.{StandsInside, offset_of}
+use Rattle.lotos_check.specs.Places.{offset_of}
 use Rattle.lotos_check.specs.declared.fault.CheckFault.{CheckFault}
 use Rattle.lotos_check.specs.declared.fault.CheckFault.TheVariants.{E20, E21, E22, E23, E24, E25, E26, E27, E99}
 use Rattle.uses.specs.Placing.{Breaks, IsAcceptedText, text_offset}

@@ -6,6 +6,8 @@
 
 mod matching;
 mod placing;
+mod resuming;
 
 pub use matching::matches;
 pub use placing::{Judged, fault_place};
+pub use resuming::{ItemFault, item_behind, second_item};
