@@ -1,0 +1,3 @@
+pub mod Matching
+pub mod Placing
+pub mod Resuming
