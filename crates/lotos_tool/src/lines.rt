@@ -22,6 +22,8 @@ pub fn spell(alloc: Global, search: &Search, labels: &[Label]) -> Result<String,
         return String::from_str(alloc, "<empty>");
     };
     let mut text = String::from_str(alloc, search.label_text(*first))?;
+    // Room for labels of one letter.
+    text.reserve(rest.len().saturating_mul(2))?;
     for label in rest {
         text.push_str(" ")?;
         text.push_str(search.label_text(*label))?;
@@ -41,7 +43,8 @@ pub fn line(
     ensures { IfOk result (λ line. (w : List Text) → AreShown search.now.searched.names word.now w →
         line.items ≡ text.now ++ explained explain w ++ 10 ∷ []) }
 {
-    let mut line = Vec::from_slice(alloc, text.as_bytes())?;
+    let mut line = Vec::with_capacity(alloc, text.len() + 1)?;
+    line.extend_from_slice(text.as_bytes())?;
     if explain {
         add_word(alloc, search, word, &mut line)?;
     }

@@ -1,11 +1,11 @@
-use Rattle.std.proofs.Common.{◌+◌, drop, rules}
+use Rattle.std.proofs.Common.{◌+◌, ◌∙◌, drop, rules}
 use Rattle.std.proofs.lemmas.List.{drop_more}
 use Rattle.lotos_terms.specs.declared.label.Label.TheVariants.{Gate}
 use Rattle.lotos_tool.proofs.Spelled.{left_at_first, left_behind, left_none, left_shown}
 use Rattle.lotos_tool.proofs.lines.spell.Goals as goal
 
 pub loop-label-init : goal.loop-label-init
-loop-label-init c = left_at_first _ _ _ _ _ _ (search rules) c.label_text.ensures.text c.in_ok-text.ensures.ok
+loop-label-init c = left_at_first _ _ _ _ _ _ (search rules) c.label_text.ensures.text (c.reserve.ensures.bytes ∙ c.in_ok-text.ensures.ok)
 
 pub label_text-requires-in-loop-label : goal.label_text-requires-in-loop-label
 label_text-requires-in-loop-label c = record {
