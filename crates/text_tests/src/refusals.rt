@@ -1,7 +1,6 @@
 //! Texts that are refused, and at which offset.
-use super::super::parse;
 use super::written::{FRONT, fault_of};
-use crate::lexer::TEXT_LIMIT;
+use lotos_text::{TEXT_LIMIT, parse};
 use std::test::Fail;
 
 #[test]

@@ -1,7 +1,6 @@
 //! Texts that spell a specification, and what they spell.
-use super::super::parse;
 use super::written::{FRONT, write_definition, write_tree};
-use crate::tree::Functionality;
+use lotos_text::{Functionality, parse};
 use std::test::Fail;
 
 #[test]

@@ -1,6 +1,6 @@
 //! How deep constructs may nest.
-use super::super::parse;
 use super::written::fault_of;
+use lotos_text::parse;
 use std::alloc::{AllocError, Global};
 use std::test::Fail;
 

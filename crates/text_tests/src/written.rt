@@ -1,6 +1,7 @@
 //! Trees and faults in a form that tables can hold.
-use crate::fault::TextFault;
-use crate::tree::{Action, Behaviour, Definition, Functionality, Placed, Specification, SyncSet};
+use lotos_text::{
+    Action, Behaviour, Definition, Functionality, Placed, Specification, SyncSet, TextFault,
+};
 use std::alloc::{AllocError, Global};
 
 /// A text up to its behaviour expression, which begins at offset 35.
