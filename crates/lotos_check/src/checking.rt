@@ -121,6 +121,3 @@ pub(crate) fn flattened(
     }
     Ok((start, processes))
 }
-
-#[cfg(test)]
-mod tests;

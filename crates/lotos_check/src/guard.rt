@@ -9,9 +9,6 @@ ghost use Rattle.lotos_check.specs.View.{flat_of, process_of};
 use crate::code::{Code, Process};
 use std::alloc::{AllocError, Global};
 
-#[cfg(test)]
-mod tests;
-
 /// Whether recursion is guarded.
 #[derive(Debug, Drop)]
 pub(crate) enum Ranking {

@@ -20,9 +20,6 @@ use crate::token::{Sign, Token, TokenKind, Word};
 use crate::tree::{Definition, Functionality, Placed, Specification};
 use std::alloc::Global;
 
-#[cfg(test)]
-mod tests;
-
 /// The most constructs that may be open at once in a text (this project's profile): parentheses, prefixes, hide forms,
 /// binary operators up to the end of their right operand, and definitions of processes.
 pub const NESTING_LIMIT: usize = 200;

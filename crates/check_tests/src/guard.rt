@@ -1,0 +1,308 @@
+//! Processes that call each other, with their unguarded calls and rankings.
+use lotos_check::{CheckFault, Checked, check};
+use lotos_text::parse;
+use std::alloc::{AllocError, Global};
+use std::process::Abort;
+use std::test::Fail;
+
+/// Where a body calls a process.
+#[derive(Clone, Copy)]
+enum Place {
+    Bare,
+    AfterPrefix,
+    LeftOfEnable,
+    RightOfEnable,
+    Hidden,
+    LeftOfPar,
+    RightOfPar,
+    LeftOfDisable,
+    RightOfDisable,
+}
+
+/// A body that calls the process at the place.
+fn called(alloc: Global, place: Place, process: usize) -> Result<String, AllocError> {
+    match place {
+        Place::Bare => format!(in alloc; "P{process} [] exit"),
+        Place::AfterPrefix => format!(in alloc; "i; P{process}"),
+        Place::LeftOfEnable => format!(in alloc; "P{process} >> exit"),
+        Place::RightOfEnable => format!(in alloc; "exit >> P{process}"),
+        Place::Hidden => format!(in alloc; "hide a in P{process}"),
+        Place::LeftOfPar => format!(in alloc; "P{process} || exit"),
+        Place::RightOfPar => format!(in alloc; "exit || P{process}"),
+        Place::LeftOfDisable => format!(in alloc; "P{process} [> exit"),
+        Place::RightOfDisable => format!(in alloc; "exit [> P{process}"),
+    }
+}
+
+/// The definition of the process of this number, with its calls in a choice.
+fn process(
+    alloc: Global,
+    number: usize,
+    calls: &[(usize, Place, usize)],
+) -> Result<String, AllocError> {
+    let mut text = format!(in alloc; "process P{number} : exit := exit")?;
+    for (caller, place, process) in calls {
+        if *caller == number {
+            let body = called(alloc, *place, *process)?;
+            text.push_str(" [] (")?;
+            text.push_str(body.as_str())?;
+            text.push_str(")")?;
+        }
+    }
+    text.push_str(" endproc ")?;
+    Ok(text)
+}
+
+/// A specification of so many processes with these calls, each from a process to one.
+fn specification(
+    alloc: Global,
+    count: usize,
+    calls: &[(usize, Place, usize)],
+) -> Result<String, AllocError> {
+    let mut text = String::from_str(alloc, "specification S : exit behaviour exit ")?;
+    if count > 0 {
+        text.push_str("where ")?;
+    }
+    for number in 0..count {
+        let definition = process(alloc, number, calls)?;
+        text.push_str(definition.as_str())?;
+    }
+    text.push_str("endspec")?;
+    Ok(text)
+}
+
+/// Whether recursion is guarded.
+#[derive(Drop)]
+enum Ranking {
+    /// The rank of each process.
+    Guarded(Vec<usize>),
+    /// The processes each of which has an unguarded call to one of them.
+    Unguarded(Vec<usize>),
+}
+
+/// The ranking of so many processes with these calls.
+fn ranked(alloc: Global, count: usize, calls: &[(usize, Place, usize)]) -> Result<Ranking, Fail> {
+    let text = specification(alloc, count, calls)?;
+    let tree = parse(alloc, text.as_bytes())?;
+    match check(alloc, tree) {
+        Ok(system) => Ok(Ranking::Guarded(ranks_of(alloc, &system)?)),
+        Err(CheckFault::E27 { set, .. }) => Ok(Ranking::Unguarded(set)),
+        Err(_) => Err("another fault than E27")?,
+    }
+}
+
+/// The rank of each process, by number.
+fn ranks_of(alloc: Global, system: &Checked) -> Result<Vec<usize>, AllocError> {
+    let mut ranks = Vec::new(alloc);
+    let processes = system.processes();
+    for (number, _process) in processes.iter().enumerate() {
+        ranks.push(system.rank(number))?;
+    }
+    Ok(ranks)
+}
+
+/// The set of processes with unguarded calls into it; none where recursion is guarded.
+fn unguarded_of(found: &Ranking) -> &[usize] {
+    match found {
+        Ranking::Guarded(_) => &[],
+        Ranking::Unguarded(set) => set.as_slice(),
+    }
+}
+
+#[test]
+fn tells_guarded_calls(rt: HostRuntime) -> Result<(), Fail> {
+    let rows = [
+        ("bare", Place::Bare, true),
+        ("under a prefix", Place::AfterPrefix, false),
+        ("left of `>>`", Place::LeftOfEnable, true),
+        ("right of `>>`", Place::RightOfEnable, false),
+        ("under a hide form", Place::Hidden, true),
+        ("left of `||`", Place::LeftOfPar, true),
+        ("right of `||`", Place::RightOfPar, true),
+        ("left of `[>`", Place::LeftOfDisable, true),
+        ("right of `[>`", Place::RightOfDisable, true),
+    ];
+    for (words, place, unguarded) in rows {
+        let found = ranked(rt.alloc(), 8, &[(7, place, 7)])?;
+        let wanted: &[usize] = if unguarded { &[7] } else { &[] };
+        assert_eq!(rt; unguarded_of(&found), wanted, "a call {}", words);
+    }
+    Ok(())
+}
+
+fn assert_ranking(
+    rt: &impl Abort,
+    words: &str,
+    found: &Ranking,
+    ranks: &[usize],
+    unguarded: &[usize],
+) {
+    match found {
+        Ranking::Guarded(numbers) => {
+            assert_eq!(rt; numbers.as_slice(), ranks, "the numbers of {}", words);
+            assert!(rt; unguarded.is_empty(), "guarded: {}", words);
+        }
+        Ranking::Unguarded(set) => {
+            assert_eq!(rt; set.as_slice(), unguarded, "the set of {}", words);
+        }
+    }
+}
+
+#[test]
+fn ranks_or_refuses(rt: HostRuntime) -> Result<(), Fail> {
+    let bare = Place::Bare;
+    let rows: [(&str, usize, &[(usize, Place, usize)], &[usize], &[usize]); 8] = [
+        ("no process", 0, &[], &[], &[]),
+        (
+            "a chain against the order",
+            3,
+            &[(0, bare, 1), (1, bare, 2)],
+            &[2, 1, 0],
+            &[],
+        ),
+        (
+            "a self-call under a prefix",
+            1,
+            &[(0, Place::AfterPrefix, 0)],
+            &[0],
+            &[],
+        ),
+        (
+            "a self-call right of `>>`",
+            1,
+            &[(0, Place::RightOfEnable, 0)],
+            &[0],
+            &[],
+        ),
+        (
+            "a self-call left of `>>`",
+            1,
+            &[(0, Place::LeftOfEnable, 0)],
+            &[],
+            &[0],
+        ),
+        (
+            "a cycle and a process that none calls",
+            3,
+            &[(0, bare, 2), (2, bare, 0)],
+            &[],
+            &[0, 2],
+        ),
+        (
+            "two cycles, and a process that calls into one",
+            5,
+            &[
+                (0, bare, 2),
+                (1, bare, 1),
+                (2, bare, 3),
+                (3, bare, 2),
+                (3, bare, 4),
+            ],
+            &[],
+            &[0, 1, 2, 3],
+        ),
+        (
+            "a cycle that a prefix breaks",
+            3,
+            &[(0, bare, 1), (1, Place::AfterPrefix, 0), (1, bare, 2)],
+            &[2, 1, 0],
+            &[],
+        ),
+    ];
+    for (words, count, calls, ranks, unguarded) in &rows {
+        let found = ranked(rt.alloc(), *count, calls)?;
+        assert_ranking(&rt, words, &found, ranks, unguarded);
+    }
+    Ok(())
+}
+
+/// The number of the last process of a long chain.
+const LAST: usize = 299;
+
+#[test]
+fn ranks_or_refuses_a_long_chain(rt: HostRuntime) -> Result<(), Fail> {
+    let mut calls = Vec::new(rt.alloc());
+    let mut falling = Vec::new(rt.alloc());
+    let mut all = Vec::new(rt.alloc());
+    for number in 0..LAST {
+        calls.push((number, Place::Bare, number + 1))?;
+        falling.push(LAST - number)?;
+        all.push(number)?;
+    }
+    falling.push(0)?;
+    all.push(LAST)?;
+    let chain = ranked(rt.alloc(), LAST + 1, calls.as_slice())?;
+    assert_ranking(&rt, "a chain of 300", &chain, falling.as_slice(), &[]);
+    calls.push((LAST, Place::Bare, 0))?;
+    let cycle = ranked(rt.alloc(), LAST + 1, calls.as_slice())?;
+    assert_ranking(&rt, "a cycle of 300", &cycle, &[], all.as_slice());
+    Ok(())
+}
+
+/// The processes that can be numbered, in the order of their ranks; where some cannot be, in the order of the text.
+fn order_of(alloc: Global, count: usize, found: &Ranking) -> Result<Vec<usize>, AllocError> {
+    let mut order = Vec::new(alloc);
+    match found {
+        Ranking::Guarded(ranks) => {
+            for wanted in 0..count {
+                for (process, rank) in ranks.iter().enumerate() {
+                    if *rank == wanted {
+                        order.push(process)?;
+                    }
+                }
+            }
+        }
+        Ranking::Unguarded(set) => {
+            for process in 0..count {
+                if !set.as_slice().contains(&process) {
+                    order.push(process)?;
+                }
+            }
+        }
+    }
+    Ok(order)
+}
+
+#[test]
+fn orders_callers_behind_their_calls(rt: HostRuntime) -> Result<(), Fail> {
+    let bare = Place::Bare;
+    let rows: [(&str, usize, &[(usize, Place, usize)], &[usize]); 6] = [
+        ("no process", 0, &[], &[]),
+        (
+            "a chain against the order",
+            3,
+            &[(0, bare, 1), (1, bare, 2)],
+            &[2, 1, 0],
+        ),
+        (
+            "a process that calls another twice",
+            2,
+            &[(0, bare, 1), (0, bare, 1)],
+            &[1, 0],
+        ),
+        (
+            "a process called by two, and one that calls both",
+            4,
+            &[(3, bare, 0), (3, bare, 2), (0, bare, 1), (2, bare, 1)],
+            &[1, 0, 2, 3],
+        ),
+        (
+            "a cycle, a process that calls into it, and one called from it",
+            4,
+            &[(0, bare, 1), (1, bare, 2), (2, bare, 1), (2, bare, 3)],
+            &[3],
+        ),
+        (
+            "a call of a process that calls itself, and one of another",
+            3,
+            &[(0, bare, 1), (0, bare, 2), (1, bare, 1)],
+            &[2],
+        ),
+    ];
+    for (words, count, calls, wanted) in &rows {
+        let found = ranked(rt.alloc(), *count, calls)?;
+        let order = order_of(rt.alloc(), *count, &found)?;
+        assert_eq!(rt; order.as_slice(), *wanted, "the order of {}", words);
+    }
+    Ok(())
+}

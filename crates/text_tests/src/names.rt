@@ -1,0 +1,48 @@
+//! Names, each read as that of a specification.
+use lotos_text::{Name, TextFault, parse};
+use std::alloc::Global;
+use std::cmp::Ordering;
+use std::test::Fail;
+
+/// The name that a word of a text is.
+fn name_of(alloc: Global, word: &str) -> Result<Name, TextFault> {
+    let text = format!(in alloc; "specification {word} : noexit behaviour stop endspec")?;
+    let tree = parse(alloc, text.as_bytes())?;
+    Ok(tree.whole.name.name.copy(alloc)?)
+}
+
+#[test]
+fn orders_names_as_their_texts(rt: HostRuntime) -> Result<(), Fail> {
+    let rows: [(&str, &str, Ordering); 8] = [
+        ("a", "a", Ordering::Equal),
+        ("Gate_1", "gATE_1", Ordering::Equal),
+        ("a", "a1", Ordering::Less),
+        ("a1", "a", Ordering::Greater),
+        ("ab", "b", Ordering::Less),
+        ("b", "ab", Ordering::Greater),
+        ("a1", "az", Ordering::Less),
+        ("az", "a_", Ordering::Less),
+    ];
+    for (left, right, wanted) in &rows {
+        let row = *left;
+        let left = name_of(rt.alloc(), left)?;
+        let right = name_of(rt.alloc(), right)?;
+        assert_eq!(rt; left.cmp(&right), *wanted, "the order of {}", row);
+        assert_eq!(rt;
+            left == right,
+            *wanted == Ordering::Equal,
+            "equality of {}",
+            row
+        );
+    }
+    Ok(())
+}
+
+#[test]
+fn copies_a_name(rt: HostRuntime) -> Result<(), Fail> {
+    let name = name_of(rt.alloc(), "Gate_1")?;
+    let copy = name.copy(rt.alloc())?;
+    assert_eq!(rt; copy.text(), "GATE_1", "the text of a copy");
+    assert!(rt; copy == name, "a copy is equal");
+    Ok(())
+}
