@@ -2,7 +2,8 @@
 
 use super::super::devices::{ArrayWriter, SliceReader, run_on};
 use super::{Answer, NOTHING, SEARCH, expect, expect_refused};
-use std::alloc::AllocError;
+use std::alloc::{AllocError, Global};
+use std::process::Abort;
 
 /// What is said of a text of one byte.
 fn refusal(byte: u8) -> &'static [u8] {
@@ -126,13 +127,7 @@ fn letters_that_are_no_ascii_are_no_lines_of_a_listing(rt: HostRuntime) {
 }
 
 /// Runs the words, and expects that they are refused before anything is read.
-fn expect_unread(
-    rt: &impl std::process::Abort,
-    alloc: std::alloc::Global,
-    name: &str,
-    words: &[&str],
-    message: &[u8],
-) {
+fn expect_unread(rt: &impl Abort, alloc: Global, name: &str, words: &[&str], message: &[u8]) {
     let reader = SliceReader::new(b"specification", 1);
     let out = ArrayWriter::new(4096);
     let err = ArrayWriter::new(4096);
