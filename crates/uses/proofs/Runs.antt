@@ -61,17 +61,10 @@ pub run_grows : (old new : Held) → Grows old new → (steps : List (Label × �
 run_grows old new grows steps m r = subst (λ n. RunTo new n steps m) (sym grows.start) (run_same old new grows old.start steps m r)
 
 -- one step more at its end
-run_push : (held : Held) (n : ℕ) (steps : List (Label × ℕ)) (m : ℕ) (s : Label × ℕ) → RunTo held n steps m → IsStep held m s →
+pub run_push : (held : Held) (n : ℕ) (steps : List (Label × ℕ)) (m : ℕ) (s : Label × ℕ) → RunTo held n steps m → IsStep held m s →
     RunTo held n (steps ++ s ∷ []) s.1
 run_push held n [] m s e step = (subst (λ k. IsStep held k s) (sym e) step, refl)
 run_push held n (x ∷ steps) m s r step = (r.0, run_push held x.1 steps m s r.1 step)
-
--- the like, where the label and the number are given by others that are equal to them
-pub run_push_as : (held : Held) (n : ℕ) (steps : List (Label × ℕ)) (m : ℕ) (k j : Label) (u v : ℕ) → k ≡ j → u ≡ v → RunTo held n steps m →
-    IsStep held m (j, v) → RunTo held n (steps ++ (k, u) ∷ []) u
-run_push_as held n steps m k j u v e f r step =
-    let named = subst (λ y. IsStep held m (y, v)) (sym e) step in
-    run_push held n steps m (k, u) r (subst (λ y. IsStep held m (k, y)) (sym f) named)
 
 pub grows_same : (held : Held) → Grows held held
 grows_same held = record { names = refl; processes = refl; start = refl; terms = λ k t h. h }

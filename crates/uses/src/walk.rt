@@ -28,8 +28,9 @@ pub fn first_run(
         let next = first_step(table, here)?;
         match next {
             None => return Ok(run),
-            Some((label, to)) => {
-                run.push((label, to))?;
+            Some(step) => {
+                let to = step.1;
+                run.push(step)?;
                 here = to;
             }
         }

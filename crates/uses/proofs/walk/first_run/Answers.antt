@@ -1,7 +1,7 @@
 use Rattle.std.proofs.Common.{◌≡◌, ◌<◌, ◌≤◌, ◌+◌, ◌∙◌, ap, arith, length, subst, sym}
 use Rattle.std.proofs.lemmas.List.{length_push}
 use Rattle.uses.specs.Walking.{IsStepIfAny}
-use Rattle.uses.proofs.Runs.{grows_same, grows_then, leads_below, run_grows, run_push_as}
+use Rattle.uses.proofs.Runs.{grows_same, grows_then, leads_below, run_grows, run_push}
 use Rattle.uses.proofs.walk.first_run.Goals as goal
 
 pub loop-init : goal.loop-init
@@ -48,8 +48,8 @@ loop-preserved c =
     record {
       grows = grows_then _ _ _ c.loop.invariant.grows grows;
       sound = c.in_ok-next.ensures.sound;
-      below = subst (λ h. h < length new.terms) (sym c.in-Some.to-is) (leads_below new c.loop.here _ step);
-      run = rw items (run_push_as new new.start c.loop.run.items c.loop.here _ _ _ _ c.in-Some.label-is c.in-Some.to-is before step);
+      below = leads_below new c.loop.here _ step;
+      run = rw items (run_push new new.start c.loop.run.items c.loop.here _ before step);
       steps = ap length items ∙ length_push c.loop.run.items _ ∙ ap (λ n. n + 1) c.loop.invariant.steps;
     }
 
