@@ -1,3 +1,4 @@
 pub mod Matching
 pub mod Placing
 pub mod Resuming
+pub mod Walking

@@ -7,7 +7,9 @@
 mod matching;
 mod placing;
 mod resuming;
+mod walk;
 
 pub use matching::matches;
 pub use placing::{Judged, fault_place};
 pub use resuming::{ItemFault, item_behind, second_item};
+pub use walk::first_run;

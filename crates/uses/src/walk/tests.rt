@@ -1,0 +1,61 @@
+//! Runs of a few specifications.
+use super::first_run;
+use lotos_check::check;
+use lotos_terms::{Label, Table};
+use lotos_text::parse;
+use std::test::Fail;
+
+/// The labels of the gates, in the order of their names.
+const A: Label = Label::Gate(0);
+
+const B: Label = Label::Gate(1);
+
+/// The functionality and the behaviour of a specification with the gates `a` and `b`, a depth, and the labels of its run.
+const RUNS: &[(&str, usize, &[Label])] = &[
+    ("noexit behaviour stop", 3, &[]),
+    ("noexit behaviour a; b; stop", 0, &[]),
+    ("noexit behaviour a; b; stop", 1, &[A]),
+    ("noexit behaviour a; b; stop", 2, &[A, B]),
+    // A deadlock after two steps.
+    ("noexit behaviour a; b; stop", 5, &[A, B]),
+    // The term behind a termination has no step.
+    (
+        "exit behaviour b; i; exit",
+        9,
+        &[B, Label::Internal, Label::Exit],
+    ),
+    // Labels ascend, so the step of `a` is the first one.
+    ("noexit behaviour b; stop [] a; stop", 9, &[A]),
+    // Neither side can do its step alone.
+    ("noexit behaviour a; stop || b; stop", 9, &[]),
+    // No deadlock at all.
+    (
+        "noexit behaviour P[a,b] where process P [x,y] : noexit := x; y; P[x,y] endproc",
+        5,
+        &[A, B, A, B, A],
+    ),
+];
+
+#[test]
+fn follows_runs(rt: HostRuntime) -> Result<(), Fail> {
+    let alloc = rt.alloc();
+    for (behaviour, depth, wanted) in RUNS {
+        let text = format!(in alloc; "specification S [a,b] : {behaviour} endspec")?;
+        let tree = parse(alloc, text.as_bytes())?;
+        let system = check(alloc, tree)?;
+        let mut table = Table::new(alloc, system)?;
+        let run = first_run(alloc, &mut table, *depth)?;
+        let mut labels = Vec::new(alloc);
+        for (label, _) in &run {
+            labels.push(*label)?;
+        }
+        assert_eq!(rt;
+            labels.as_slice(),
+            *wanted,
+            "{} at depth {}",
+            behaviour,
+            depth
+        );
+    }
+    Ok(())
+}
