@@ -5,6 +5,7 @@
 #![tactic(auto)]
 
 mod command;
+mod help;
 #[cfg(test)]
 mod tests;
 mod words;

@@ -7,8 +7,8 @@ use Rattle.lotos_text.specs.Kinds.{opens, openings}
 use Rattle.lotos_text.specs.Opens.{mark, mark_level}
 use Rattle.lotos_text.specs.Parsing.{Phrase, Limit, Within, Found, Starts, Lost, Deeper}
 use Rattle.lotos_text.specs.Phrases.{Then, Operation, Expression}
-use Rattle.lotos_text.specs.declared.expression.Infix.{Infix}
-use Rattle.lotos_text.specs.declared.expression.Infix.TheVariants as i
+use Rattle.lotos_text.specs.declared.operators.Infix.{Infix}
+use Rattle.lotos_text.specs.declared.operators.Infix.TheVariants as i
 use Rattle.lotos_text.specs.declared.token.Token.{Token}
 use Rattle.lotos_text.proofs.Firmness.{firm_operation}
 use Rattle.lotos_text.proofs.FirstToken.{starts_rank, starts_behind}

@@ -5,8 +5,8 @@ use Rattle.lotos_text.specs.Grammar.{Is, Names, one_name, more_names, Level, par
 use Rattle.lotos_text.specs.Opens.{mark}
 use Rattle.lotos_text.specs.Parsing.{Phrase, NotFirst, Found, Starts, Lost}
 use Rattle.lotos_text.specs.Phrases.{One, Before, NameList, Operation, SyncList, no_sync, some_sync}
-use Rattle.lotos_text.specs.declared.expression.Infix.{Infix}
-use Rattle.lotos_text.specs.declared.expression.Infix.TheVariants as i
+use Rattle.lotos_text.specs.declared.operators.Infix.{Infix}
+use Rattle.lotos_text.specs.declared.operators.Infix.TheVariants as i
 use Rattle.lotos_text.specs.declared.token.Sign.{Sign as SignKind}
 use Rattle.lotos_text.specs.declared.token.Sign.TheVariants as s
 use Rattle.lotos_text.specs.declared.token.Token.{Token}

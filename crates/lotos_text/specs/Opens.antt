@@ -1,8 +1,8 @@
 -- What a token begins: at the front of an operand, and behind one.
 use Rattle.std.specs.Prelude.{Option, Some, None}
 use Rattle.lotos_text.specs.Grammar.{Level, enabling, disabling, parallel, choosing}
-use Rattle.lotos_text.specs.declared.expression.Infix.{Infix}
-use Rattle.lotos_text.specs.declared.expression.Infix.TheVariants as i
+use Rattle.lotos_text.specs.declared.operators.Infix.{Infix}
+use Rattle.lotos_text.specs.declared.operators.Infix.TheVariants as i
 use Rattle.lotos_text.specs.declared.expression.Opening.{Opening}
 use Rattle.lotos_text.specs.declared.expression.Opening.TheVariants as o
 use Rattle.lotos_text.specs.declared.token.TokenKind.{TokenKind}

@@ -2,8 +2,8 @@
 use Rattle.std.specs.Prelude.{List, [], ◌∷◌, map}
 use Rattle.lotos_text.specs.Tree.{Tree, Sync, gates, all, stop, exit, prefix, choice, par, hide, enable, disable, call, Def, def, Defs, no_defs, more_defs}
 use Rattle.lotos_text.specs.Grammar.{Level, enabling, disabling, parallel, choosing, prefixing, Operator, enables, disables, synchronizes, chooses, Defined, a_specification, a_process}
-use Rattle.lotos_text.specs.declared.expression.Level.{Level as CodeLevel}
-use Rattle.lotos_text.specs.declared.expression.Level.TheVariants as l
+use Rattle.lotos_text.specs.declared.operators.Level.{Level as CodeLevel}
+use Rattle.lotos_text.specs.declared.operators.Level.TheVariants as l
 use Rattle.lotos_text.specs.declared.tree.Operator.{Operator as CodeOperator}
 use Rattle.lotos_text.specs.declared.tree.Operator.TheVariants as o
 use Rattle.lotos_text.specs.declared.parser.Defined.{Defined as CodeDefined}

@@ -11,6 +11,7 @@ mod fault;
 pub mod laws;
 mod lexer;
 mod name;
+mod operators;
 mod parser;
 mod place;
 mod token;

@@ -13,7 +13,8 @@ ghost use Rattle.lotos_text.specs.Parsing.{Found, IsLost, IsLostWithin, IsMissed
 ghost use Rattle.lotos_text.specs.Phrases.{Contents, Header, Inner, Nothing, Row, Whole};
 
 use crate::descent::{Stop, eat, expect, functionality, gate_list, placed};
-use crate::expression::{Level, behaviour};
+use crate::expression::behaviour;
+use crate::operators::Level;
 use crate::fault::TextFault;
 use crate::lexer::tokens;
 use crate::token::{Sign, Token, TokenKind, Word};

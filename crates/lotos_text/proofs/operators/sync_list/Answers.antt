@@ -3,7 +3,7 @@ use Rattle.lotos_text.specs.Parsing.{Found}
 use Rattle.lotos_text.specs.Phrases.{One, NameList, SyncList}
 use Rattle.lotos_text.proofs.Stops.{missed_on, passed_on}
 use Rattle.lotos_text.proofs.SyncLists.{found_no_sync, found_some_sync, lost_no_bar, lost_listed, lost_unbracketed, lost_unbarred}
-use Rattle.lotos_text.proofs.expression.sync_list.Goals as goal
+use Rattle.lotos_text.proofs.operators.sync_list.Goals as goal
 
 pub returns-in_err-rest-in-Some-clause-lost : goal.returns-in_err-rest-in-Some-clause-lost
 returns-in_err-rest-in-Some-clause-lost c =

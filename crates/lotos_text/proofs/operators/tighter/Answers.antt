@@ -1,7 +1,7 @@
 use Rattle.std.proofs.Common.{subst, sym, ap}
 use Rattle.lotos_text.specs.View.{level_of}
 use Rattle.lotos_text.specs.Grammar.{BindsTighter, disabling, parallel, choosing, prefixing, tighter_than_enabling, tighter_than_disabling, tighter_than_parallel, tighter_than_choosing}
-use Rattle.lotos_text.proofs.expression.tighter.Goals as goal
+use Rattle.lotos_text.proofs.operators.tighter.Goals as goal
 
 pub returns-in-Enabling : goal.returns-in-Enabling
 returns-in-Enabling c = subst (λ l. BindsTighter l disabling) (sym (ap level_of c.in-Enabling.is)) tighter_than_enabling

@@ -3,7 +3,7 @@ use Rattle.lotos_text.specs.Grammar.{enable_sign, disable_sign, interleave_sign,
 use Rattle.lotos_text.specs.Phrases.{Operation, SyncList}
 use Rattle.lotos_text.proofs.Stops.{passed_on}
 use Rattle.lotos_text.proofs.SyncLists.{is_mark, found_sign, found_sync, lost_sync}
-use Rattle.lotos_text.proofs.expression.operator.Goals as goal
+use Rattle.lotos_text.proofs.operators.operator.Goals as goal
 
 pub returns-in-Enable-clause-found : goal.returns-in-Enable-clause-found
 returns-in-Enable-clause-found c =

@@ -1,0 +1,149 @@
+//! The texts of help.
+
+pub(crate) const ABOUT: &str = "Checks a basic LOTOS specification, and lists its observable action sequences";
+
+pub(crate) const LONG_ABOUT: &str =
+    "Checks a basic LOTOS specification, and lists its observable action sequences
+
+The specification is read from standard input, and what is asked of it is written to
+standard output. A file is given by `< FILE`, as in
+  lotosseq check < ring.lotos
+`lotosseq check --help` tells of the static rules, and `lotosseq search --help` of the
+listing, its options and the words of a pattern.";
+
+pub(crate) const STATUSES: &str = "Statuses:
+  0  the specification is accepted, or the listing is complete and has lines
+  1  the listing is complete and has none
+  2  the command, the pattern, the mark or the specification is refused, or cannot
+     be read
+  3  the limit of lines is reached
+  4  a prefix reaches too many terms
+  5  memory was wanting
+  6  the output cannot be written";
+
+pub(crate) const CHECK_ABOUT: &str = "Checks the static rules and lists the processes";
+
+pub(crate) const CHECK_LONG_ABOUT: &str = "Checks the static rules and lists the processes
+
+Reads a specification in basic LOTOS from standard input. Where it breaks no static
+rule, a line is written for each process, in the order of their definitions: its name,
+the number of its gates, and `exit` or `noexit`. Else the first fault is named on
+standard error, with its line and column.
+
+For example, with the specification
+  specification S [a] : noexit behaviour P[a]
+  where process P [x] : noexit := x; P[x] endproc endspec
+the command `lotosseq check` lists
+  P 1 noexit";
+
+pub(crate) const CHECK_STATUSES: &str = "Statuses:
+  0  the specification is accepted
+  2  the command or the specification is refused, or cannot be read
+  5  memory was wanting
+  6  the output cannot be written";
+
+pub(crate) const SEARCH_ABOUT: &str = "Lists the sequences that match a pattern";
+
+pub(crate) const SEARCH_LONG_ABOUT: &str = "Lists the sequences that match a pattern
+
+Reads a specification in basic LOTOS from standard input (a file is given by `< FILE`)
+and writes a listing to standard output. The listing has every sequence that matches
+the pattern and that some derivation of at most N steps from the specification's
+behaviour shows.
+
+Each sequence stands there once, in a line of its own: its labels, separated by one
+blank, or `<empty>`. Shorter sequences stand first, and sequences of one length in
+the order of their labels: gates by their names, then `exit`.
+
+For example, with the specification
+  specification S [a,b] : exit behaviour a; b; exit endspec
+the command `lotosseq search --depth 3 a b exit` lists
+  A B exit";
+
+pub(crate) const DEPTH_HELP: &str = "The most steps of a derivation, 0 to 255";
+
+pub(crate) const DEPTH_LONG_HELP: &str = "The most steps of a derivation, 0 to 255
+
+Every step counts, those of the internal action `i` too, and so does successful
+termination. For example, `a; b; exit` shows `A B exit` with `--depth 3` and not with
+`--depth 2`.";
+
+pub(crate) const LIMIT_HELP: &str = "The most lines that are written, 1 to 1000000000";
+
+pub(crate) const LIMIT_LONG_HELP: &str = "The most lines that are written, 1 to 1000000000
+
+The search stops when so many lines are written, with status 3, also where no line
+would follow. For example, `--limit 1` writes the first line alone.";
+
+pub(crate) const TERMS_HELP: &str = "The most terms that a prefix may reach, 1 to 1000000";
+
+pub(crate) const TERMS_LONG_HELP: &str = "The most terms that a prefix may reach, 1 to 1000000
+
+A prefix is a beginning of a sequence that can still match. It reaches the terms in
+which derivations that show it end. The search stops with status 4 at the first prefix
+that reaches more. For example, with `--terms 1` the specification's behaviour
+`i; a; stop` stops the search at `<empty>`, which reaches two terms.";
+
+pub(crate) const AFTER_HELP: &str = "Lists only what stands after this line of a listing";
+
+pub(crate) const AFTER_LONG_HELP: &str = "Lists only what stands after this line of a listing
+
+LINE is a line as the listing has it, in upper or lower case; what follows ` : ` in it
+is not looked at. It need not be a line of this listing. In a shell it is quoted. For
+example, `--after \"A B\"` goes on behind the line `A B`, and `--after \"<empty>\"`
+behind the empty sequence.";
+
+pub(crate) const EXPLAIN_HELP: &str = "Writes the least word of each sequence too";
+
+pub(crate) const EXPLAIN_LONG_HELP: &str = "Writes the least word of each sequence too
+
+A line is then the sequence, ` : ` and a word: the labels of a derivation that shows
+the sequence, internal steps included. It is the shortest one, and of those the first
+in the order of labels, `i` being the last of these. For example, `i; i; a; stop` with
+`--depth 3 --explain A` lists
+  A : i i A";
+
+pub(crate) const STRONG_HELP: &str = "Makes the internal action `i` a label like others";
+
+pub(crate) const STRONG_LONG_HELP: &str = "Makes the internal action `i` a label like others
+
+Sequences then show internal steps, `i` may be a word of the pattern, and elements
+match it like other labels. For example, `i; i; a; stop` with
+`--depth 3 --strong i i A` lists
+  i i A";
+
+pub(crate) const WORDS_HELP: &str = "The words of the pattern: labels and elements";
+
+pub(crate) const WORDS_LONG_HELP: &str = "The words of the pattern
+
+A pattern is a row of at most 256 elements, and matches the sequences that are made of
+one part for each of them, in this order. With no word it matches the empty sequence
+alone. Words are read in upper or lower case. In a shell those with `<` are quoted, as
+in `'<any>'`.
+
+  A              that one label: the name of a gate, or `exit` for successful
+                 termination. For example, `A B` matches `A B`.
+  <any>          any one label. `A <any>` matches `A B`.
+  <until> A      any number of labels other than A, and then A. `<until> B` matches
+                 `B` and `A A B`.
+  <while> A      any number of labels A. `A <while> B` matches `A` and `A B B`.
+  <while> <any>  any number of labels. `<while> <any> B` matches all that ends in `B`.
+  <deadlock>     nothing, where the end is a deadlock. `A <deadlock>` matches `A`,
+                 where nothing can follow.
+  <until> <deadlock>
+                 any number of labels, where the end is a deadlock.
+
+A deadlock is a term that has no step at all, not even an internal one. These last two
+may stand only at the end. `i` is a word of a pattern only with `--strong`, as the
+internal action cannot be observed. The name of a gate that the specification does not
+have is no fault; it never matches.";
+
+pub(crate) const SEARCH_STATUSES: &str = "Statuses:
+  0  the listing is complete and has lines
+  1  the listing is complete and has none
+  2  the command, the pattern, the mark or the specification is refused, or cannot
+     be read
+  3  the limit of lines is reached
+  4  a prefix reaches too many terms
+  5  memory was wanting
+  6  the output cannot be written";
