@@ -1,5 +1,5 @@
 -- Why words ask for nothing that can be done, by the kinds of the faults that clap finds in them.
-use Rattle.std.specs.Prelude.{◌≡◌, ◌≢◌, Bool, true, List, ⊤}
+use Rattle.std.specs.Prelude.{◌≡◌, ◌≢◌, true, List, ⊤}
 use Rattle.clap.specs.Words.{IsAmong, Text, fault_of, takes}
 use Rattle.clap.specs.declared.error.kind.ErrorKind.{ErrorKind}
 use Rattle.clap.specs.declared.error.kind.ErrorKind.TheVariants as kind

@@ -1,5 +1,4 @@
 use Rattle.std.specs.Prelude.{◌++◌}
-use Rattle.std.proofs.Common.{refl}
 use Rattle.lotos_text.specs.Tree.{prefix, choice, par, hide, enable, disable}
 use Rattle.lotos_text.specs.View.{tree_of, sync_of}
 use Rattle.lotos_check.specs.Names.{texts}
