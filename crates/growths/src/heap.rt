@@ -1,0 +1,91 @@
+//! The heap, how many calls it refused, and why the program stops.
+
+use lotos_check::CheckFault;
+use lotos_pattern::PatternFault;
+use lotos_search::MarkFault;
+use lotos_text::TextFault;
+use std::alloc::{AllocError, AllocFailed, Global};
+use std::{fmt, io};
+
+/// The heap, with the count of the calls that were refused memory.
+#[derive(Drop)]
+pub struct Heap {
+    pub alloc: Global,
+    refused: u64,
+}
+
+impl Heap {
+    pub fn new(alloc: Global) -> Heap {
+        Heap { alloc, refused: 0 }
+    }
+
+    /// Counts one call more that was refused.
+    pub fn refuse(&mut self) {
+        self.refused = self.refused.saturating_add(1);
+    }
+
+    pub fn refused(&self) -> u64 {
+        self.refused
+    }
+}
+
+/// Why the program stops before its end.
+#[derive(Clone, Copy, Debug, PartialEq, Eq)]
+pub enum Stop {
+    /// A call was refused memory twice.
+    Memory,
+    /// A row is not what it is taken for.
+    Row,
+    /// A line is too long.
+    Line,
+    /// Standard output refuses bytes.
+    Output,
+}
+
+impl From<AllocError> for Stop {
+    fn from(_error: AllocError) -> Stop {
+        Stop::Memory
+    }
+}
+
+impl<T: Drop> From<AllocFailed<T>> for Stop {
+    fn from(_error: AllocFailed<T>) -> Stop {
+        Stop::Memory
+    }
+}
+
+impl From<fmt::Error> for Stop {
+    fn from(_error: fmt::Error) -> Stop {
+        Stop::Line
+    }
+}
+
+impl From<io::Error> for Stop {
+    fn from(_error: io::Error) -> Stop {
+        Stop::Output
+    }
+}
+
+impl From<TextFault> for Stop {
+    fn from(_fault: TextFault) -> Stop {
+        Stop::Row
+    }
+}
+
+impl From<CheckFault> for Stop {
+    fn from(_fault: CheckFault) -> Stop {
+        Stop::Row
+    }
+}
+
+impl From<PatternFault> for Stop {
+    fn from(_fault: PatternFault) -> Stop {
+        Stop::Row
+    }
+}
+
+impl From<MarkFault> for Stop {
+    fn from(_fault: MarkFault) -> Stop {
+        Stop::Row
+    }
+}
