@@ -1,6 +1,7 @@
 //! The texts of help.
 
-pub(crate) const ABOUT: &str = "Checks a basic LOTOS specification, and lists its observable action sequences";
+pub(crate) const ABOUT: &str =
+    "Checks a basic LOTOS specification, and lists its observable action sequences";
 
 pub(crate) const LONG_ABOUT: &str =
     "Checks a basic LOTOS specification, and lists its observable action sequences

@@ -9,7 +9,12 @@ ghost use Rattle.lotos_command.specs.Fitting.{FitsRequest, FitsSearch, IsNumberI
 ghost use Rattle.lotos_command.specs.Request.{HasBounds, HasSearchBounds, RequestOf, flag, number, request_from, request_view, search_from, search_view, texts_of};
 
 use crate::command::{CommandFault, Request, SearchRequest};
-use crate::help::{ABOUT, AFTER_HELP, AFTER_LONG_HELP, CHECK_ABOUT, CHECK_LONG_ABOUT, CHECK_STATUSES, DEPTH_HELP, DEPTH_LONG_HELP, EXPLAIN_HELP, EXPLAIN_LONG_HELP, LIMIT_HELP, LIMIT_LONG_HELP, LONG_ABOUT, SEARCH_ABOUT, SEARCH_LONG_ABOUT, SEARCH_STATUSES, STATUSES, STRONG_HELP, STRONG_LONG_HELP, TERMS_HELP, TERMS_LONG_HELP, WORDS_HELP, WORDS_LONG_HELP};
+use crate::help::{
+    ABOUT, AFTER_HELP, AFTER_LONG_HELP, CHECK_ABOUT, CHECK_LONG_ABOUT, CHECK_STATUSES, DEPTH_HELP,
+    DEPTH_LONG_HELP, EXPLAIN_HELP, EXPLAIN_LONG_HELP, LIMIT_HELP, LIMIT_LONG_HELP, LONG_ABOUT,
+    SEARCH_ABOUT, SEARCH_LONG_ABOUT, SEARCH_STATUSES, STATUSES, STRONG_HELP, STRONG_LONG_HELP,
+    TERMS_HELP, TERMS_LONG_HELP, WORDS_HELP, WORDS_LONG_HELP,
+};
 use clap::error::ErrorKind;
 use clap::{Arg, ArgAction, ArgMatches, Command, Error, value_parser};
 use std::alloc::{AllocError, Global};

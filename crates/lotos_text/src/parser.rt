@@ -14,9 +14,9 @@ ghost use Rattle.lotos_text.specs.Phrases.{Contents, Header, Inner, Nothing, Row
 
 use crate::descent::{Stop, eat, expect, functionality, gate_list, placed};
 use crate::expression::behaviour;
-use crate::operators::Level;
 use crate::fault::TextFault;
 use crate::lexer::tokens;
+use crate::operators::Level;
 use crate::token::{Sign, Token, TokenKind, Word};
 use crate::tree::{Definition, Functionality, Placed, Specification};
 use std::alloc::Global;
