@@ -5,12 +5,12 @@
 #![tactic(auto)]
 
 #[cfg(test)]
-mod checking;
+mod check_tests;
 #[cfg(test)]
-mod distinct;
+mod duplicate_tests;
 #[cfg(test)]
-mod guard;
+mod gate_scope_tests;
 #[cfg(test)]
-mod known;
+mod guardedness_tests;
 #[cfg(test)]
-mod shown;
+mod table_texts;

@@ -1,6 +1,6 @@
 //! Lines of the output, which are composed without a growth of the heap.
 
-use crate::heap::Stop;
+use crate::retry_heap::Stop;
 use arrayvec::ArrayString;
 use std::fmt::Write;
 

@@ -5,21 +5,21 @@
 //! many calls were refused stands on standard error.
 #![tactic(auto)]
 
-mod cutting;
-mod heap;
+mod ast_lines;
+mod check_calls;
+mod front_end;
+mod lexing_calls;
 mod lines;
-mod listings;
-mod marks;
-mod patterns;
-mod requests;
-mod sources;
-mod specifications;
-mod stepping;
-mod systems;
-mod texts;
-mod trees;
+mod mark_calls;
+mod pattern_calls;
+mod read_calls;
+mod request_calls;
+mod retry_heap;
+mod search_calls;
+mod system_lines;
+mod table_calls;
 
-use heap::{Heap, Stop};
+use retry_heap::{Heap, Stop};
 use std::process::ExitCode;
 
 fn main(rt: HostRuntime) -> ExitCode {
@@ -38,11 +38,11 @@ fn main(rt: HostRuntime) -> ExitCode {
 }
 
 fn all(rt: &impl Print, heap: &mut Heap) -> Result<(), Stop> {
-    cutting::rows(rt, heap)?;
-    texts::rows(rt, heap)?;
-    patterns::rows(rt, heap)?;
-    marks::rows(rt, heap)?;
-    listings::rows(rt, heap)?;
-    requests::rows(rt, heap)?;
-    sources::rows(rt, heap)
+    lexing_calls::rows(rt, heap)?;
+    check_calls::rows(rt, heap)?;
+    pattern_calls::rows(rt, heap)?;
+    mark_calls::rows(rt, heap)?;
+    search_calls::rows(rt, heap)?;
+    request_calls::rows(rt, heap)?;
+    read_calls::rows(rt, heap)
 }

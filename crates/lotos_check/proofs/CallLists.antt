@@ -4,10 +4,10 @@ use Rattle.std.specs.Prelude.{slice_get}
 use Rattle.std.proofs.Math.Seq.{take-suc}
 use Rattle.std.proofs.lemmas.List.{map-append, length-replicate}
 use Rattle.std.proofs.lemmas.Option.{slice_get_read, slice_get-map}
-use Rattle.lotos_check.specs.Names.{In}
+use Rattle.lotos_check.specs.NameLists.{In}
 use Rattle.lotos_check.specs.Flat.{FlatProcess, Pairwise, no_pair, one_pair}
 use Rattle.lotos_check.specs.Guard.{Calls, CallsUnguarded}
-use Rattle.lotos_check.specs.Guarding.{AreCalls, InRange, Lists, Ordered, waiting}
+use Rattle.lotos_check.specs.RankingSteps.{AreCalls, CallsInRange, ListsCall, AreConsistentRanks, count_unranked}
 
 -- the list that is read at a place is the one there
 pub list_at : {X : Type 0} (items_of : X → List ℕ) (edges : List X) (p : ℕ) (x : X) → p < length edges →
@@ -24,7 +24,7 @@ edges_length (calls ∷ edges) (process ∷ processes) (one_pair h all) = ap suc
 
 -- what stands in the list of a process is called by it
 pub lists_call : (edges : List (List ℕ)) (processes : List FlatProcess) → Pairwise AreCalls edges processes → (p q : ℕ) →
-    Lists edges p q → Calls processes p q
+    ListsCall edges p q → Calls processes p q
 lists_call [] [] no_pair p q (calls, e, i) = cc
 lists_call [] (process ∷ processes) all p q lists = elim all [ ]
 lists_call (calls ∷ edges) [] all p q lists = elim all [ ]
@@ -37,7 +37,7 @@ lists_call (calls ∷ edges) (process ∷ processes) (one_pair h all) (suc p) q 
 
 -- what a process calls stands in its list
 pub calls_list : (edges : List (List ℕ)) (processes : List FlatProcess) → Pairwise AreCalls edges processes → (p q : ℕ) →
-    Calls processes p q → Lists edges p q
+    Calls processes p q → ListsCall edges p q
 calls_list [] [] no_pair p q c = let e = c.stands in cc
 calls_list [] (process ∷ processes) all p q c = elim all [ ]
 calls_list (calls ∷ edges) [] all p q c = elim all [ ]
@@ -50,7 +50,7 @@ calls_list (calls ∷ edges) (process ∷ processes) (one_pair h all) (suc p) q 
 
 -- where every call goes to a process that there is, the lists hold such processes only
 pub in_range : (edges : List (List ℕ)) (processes : List FlatProcess) (count : ℕ) → count ≡ length processes →
-    Pairwise AreCalls edges processes → ((p q : ℕ) → Calls processes p q → q < count) → InRange edges
+    Pairwise AreCalls edges processes → ((p q : ℕ) → Calls processes p q → q < count) → CallsInRange edges
 in_range edges processes count counted all within = λ p q lists.
     let below = within p q (lists_call edges processes all p q lists) in
     let sized = edges_length edges processes all in
@@ -93,11 +93,11 @@ unnumbered_none zero p r e = cc
 unnumbered_none (suc n) zero r e = cc
 unnumbered_none (suc n) (suc p) r e = unnumbered_none n p r e
 
-waiting_all : (n : ℕ) → waiting (replicate n None) ≡ n
+waiting_all : (n : ℕ) → count_unranked (replicate n None) ≡ n
 waiting_all zero = refl
 waiting_all (suc n) = let later = waiting_all n in omega arith
 
-unnumbered : (edges : List (List ℕ)) (n : ℕ) → n ≡ length edges → Ordered edges (replicate n None) 0
+unnumbered : (edges : List (List ℕ)) (n : ℕ) → n ≡ length edges → AreConsistentRanks edges (replicate n None) 0
 unnumbered edges n e = record {
   sized = rw (length-replicate {A = Option ℕ} n None) e;
   counted = let all = waiting_all n in omega arith;
@@ -107,5 +107,5 @@ unnumbered edges n e = record {
 
 -- at the beginning no process has a number
 pub none_numbered : (edges : List (List ℕ)) (processes : List FlatProcess) (n : ℕ) → n ≡ length processes →
-    Pairwise AreCalls edges processes → Ordered edges (replicate n None) 0
+    Pairwise AreCalls edges processes → AreConsistentRanks edges (replicate n None) 0
 none_numbered edges processes n e all = let sized = edges_length edges processes all in unnumbered edges n (omega arith)

@@ -2,32 +2,32 @@
 use Rattle.std.proofs.Common.{◌≡◌, ◌≢◌, ℕ, ◌+◌, List, [], ◌∷◌, ◌++◌, Some, length, slice_get, refl, sym, ap, ◌∙◌, subst, inl, inr, arith, zero, suc}
 use Rattle.std.proofs.lemmas.Bool.Decides.{eqb_tells}
 use Rattle.std.proofs.lemmas.List.{length-map}
-use Rattle.lotos_text.specs.Tree.{Tree, Def, def, Defs, no_defs, more_defs, call, name_of, formals_of, body_of, inner_of}
-use Rattle.lotos_text.specs.declared.tree.Placed.{Placed}
-use Rattle.lotos_check.specs.Names.{Name, In, texts}
-use Rattle.lotos_check.specs.Scope.{Scope, Where, Scoped, Declares, here, later, Means, nearest, outward, count, within, listed, processes_of, everywhere}
-use Rattle.lotos_check.specs.Parts as parts
-use Rattle.lotos_check.specs.Parts.{Part, in_prefix, in_choice_left, in_choice_right, in_par_left, in_par_right, in_hide, in_enable_left, in_enable_right, in_disable_left, in_disable_right}
+use Rattle.lotos_text.specs.AstView.{BehaviourView, DefinitionView, def, DefinitionListView, no_defs, more_defs, call, name_of, formals_of, body_of, inner_of}
+use Rattle.lotos_text.specs.declared.ast.Placed.{Placed}
+use Rattle.lotos_check.specs.NameLists.{Name, In, texts}
+use Rattle.lotos_check.specs.Scope.{Scope, Where, Scoped, Declares, here, later, Binds, nearest, outward, count, within, definitions_in_scope, processes_of, all_definitions}
+use Rattle.lotos_check.specs.Subexpressions as parts
+use Rattle.lotos_check.specs.Subexpressions.{IsSubexpression, in_prefix, in_choice_left, in_choice_right, in_par_left, in_par_right, in_hide, in_enable_left, in_enable_right, in_disable_left, in_disable_right}
 use Rattle.lotos_check.specs.Flat.{Flat, FlatProcess, System, Pairwise, no_pair, one_pair, IsProcess, IsFlat, Resolves, of_stop, of_exit, of_prefix, of_choice, of_par, of_par_all, of_hide, of_enable, of_disable, of_call}
-use Rattle.lotos_check.specs.Bodies.{HasCall, itself, under_prefix, left_choice, right_choice, left_par, right_par, under_hide, left_enable, right_enable, left_disable, right_disable, IsBodyOf, of_whole, of_process, IsProcessOf, GoesToNamed}
-use Rattle.lotos_check.specs.Causes.{IsE23}
-use Rattle.lotos_check.specs.Checking.{IsAccepted}
-use Rattle.lotos_check.proofs.OneSystem.{paired_at}
+use Rattle.lotos_check.specs.Bodies.{ContainsCall, itself, under_prefix, left_choice, right_choice, left_par, right_par, under_hide, left_enable, right_enable, left_disable, right_disable, IsBodyOf, of_whole, of_process, IsProcessOf, GoesToNamed}
+use Rattle.lotos_check.specs.StaticFaults.{IsE23}
+use Rattle.lotos_check.specs.Acceptance.{IsAccepted}
+use Rattle.lotos_check.proofs.FlatSystemUnique.{paired_at}
 use Rattle.lotos_check.proofs.ScopedDefinitions.{in_joined, listed_count}
 
 -- in the behaviour stands a call of a name that means the process, with these gates
-record IsCalled (scope : Scope) (known : List Name) (body : Tree) (k : ℕ) (gates : List Name) : Type 0 where
+record IsCalled (scope : Scope) (known : List Name) (body : BehaviourView) (k : ℕ) (gates : List Name) : Type 0 where
   there : List Name
   name : Placed
   actuals : List Placed
-  definition : Def
-  inside : Part known body there (call name actuals)
-  means : Means scope name.name k definition
+  definition : DefinitionView
+  inside : IsSubexpression known body there (call name actuals)
+  means : Binds scope name.name k definition
   given : gates ≡ texts actuals
 
 -- the call stands in a behaviour of which this one is a part
-widened : (scope : Scope) (known more : List Name) (t u : Tree) (k : ℕ) (gates : List Name) →
-    ((there : List Name) (part : Tree) → Part known t there part → Part more u there part) →
+widened : (scope : Scope) (known more : List Name) (t u : BehaviourView) (k : ℕ) (gates : List Name) →
+    ((there : List Name) (part : BehaviourView) → IsSubexpression known t there part → IsSubexpression more u there part) →
     IsCalled scope known t k gates → IsCalled scope more u k gates
 widened scope known more t u k gates wider h = record {
   there = h.there;
@@ -40,8 +40,8 @@ widened scope known more t u k gates wider h = record {
 }
 
 -- a call by number comes from a call by name
-named_call : (scope : Scope) (known : List Name) (t : Tree) (c : Flat) (k : ℕ) (gates : List Name) →
-    Resolves scope t c → HasCall c k gates → IsCalled scope known t k gates
+named_call : (scope : Scope) (known : List Name) (t : BehaviourView) (c : Flat) (k : ℕ) (gates : List Name) →
+    Resolves scope t c → ContainsCall c k gates → IsCalled scope known t k gates
 named_call scope known t c k gates (of_call {p = p} {gs = gs} {d = d} m) itself =
     record { there = known; name = p; actuals = gs; definition = d; inside = parts.whole; means = m; given = refl }
 named_call scope known t c k gates (of_prefix x) (under_prefix h) =
@@ -98,7 +98,7 @@ module _ (all : List Scoped) (k : ℕ) (first : Scoped) (xs ys : List Scoped) (s
   stands_back n after i j v at e = stands (suc (length xs + i)) j v (omega arith) (get_back xs ys i (length xs + i) v refl e)
 
 -- the definition of that number in the list of all definitions
-record IsAt (all : List Scoped) (q : ℕ) (d : Def) : Type 0 where
+record IsAt (all : List Scoped) (q : ℕ) (d : DefinitionView) : Type 0 where
   scoped : Scoped
   stands : slice_get all q ≡ Some scoped
   same : scoped.definition ≡ d
@@ -106,21 +106,21 @@ record IsAt (all : List Scoped) (q : ℕ) (d : Def) : Type 0 where
 -- the `where` is numbered as its definitions stand in the list
 record IsNumbered (all : List Scoped) (w : Where) : Type 0 where
   scope : Scope
-  stands : StandsFrom all w.first (listed scope w.first w.defs)
+  stands : StandsFrom all w.first (definitions_in_scope scope w.first w.defs)
 
-declared_at : (all : List Scoped) (scope : Scope) (k : ℕ) (ds : Defs) → StandsFrom all k (listed scope k ds) →
-    (n : Name) (q : ℕ) (d : Def) → Declares ds k n q d → IsAt all q d
+declared_at : (all : List Scoped) (scope : Scope) (k : ℕ) (ds : DefinitionListView) → StandsFrom all k (definitions_in_scope scope k ds) →
+    (n : Name) (q : ℕ) (d : DefinitionView) → Declares ds k n q d → IsAt all q d
 declared_at all scope k (more_defs (def name formals declared body inner) ds) stands n q d here =
     let own : Scope = record { defs = inner; first = k + 1 } ∷ scope in
     let this : Scoped = record { scope = own; definition = def name formals declared body inner } in
-    let at = stands_first all k this (listed own (k + 1) inner) (listed scope (k + 1 + count inner) ds) stands in
+    let at = stands_first all k this (definitions_in_scope own (k + 1) inner) (definitions_in_scope scope (k + 1 + count inner) ds) stands in
     record { scoped = this; stands = at; same = refl }
 declared_at all scope k (more_defs (def name formals declared body inner) ds) stands n q d (later x) =
     let own : Scope = record { defs = inner; first = k + 1 } ∷ scope in
     let this : Scoped = record { scope = own; definition = def name formals declared body inner } in
-    let deep = listed own (k + 1) inner in
+    let deep = definitions_in_scope own (k + 1) inner in
     let c = listed_count own (k + 1) inner in
-    let behind = stands_back all k this deep (listed scope (k + 1 + count inner) ds) stands (k + 1 + count inner) (omega arith) in
+    let behind = stands_back all k this deep (definitions_in_scope scope (k + 1 + count inner) ds) stands (k + 1 + count inner) (omega arith) in
     declared_at all scope (k + 1 + count inner) ds behind n q d x
 declared_at all scope k no_defs stands n q d x = elim x [ ]
 
@@ -131,15 +131,15 @@ more_numbered : (all : List Scoped) (w : Where) (scope : Scope) → IsNumbered a
 more_numbered all w scope h numbered x (inl e) = subst (IsNumbered all) e h
 more_numbered all w scope h numbered x (inr i) = numbered x i
 
-listed_numbered : (all : List Scoped) (scope : Scope) (k : ℕ) (ds : Defs) → StandsFrom all k (listed scope k ds) → AllNumbered all scope →
-    (v : Scoped) → In v (listed scope k ds) → AllNumbered all v.scope
+listed_numbered : (all : List Scoped) (scope : Scope) (k : ℕ) (ds : DefinitionListView) → StandsFrom all k (definitions_in_scope scope k ds) → AllNumbered all scope →
+    (v : Scoped) → In v (definitions_in_scope scope k ds) → AllNumbered all v.scope
 listed_numbered all scope k no_defs stands numbered v i = absurd i
 listed_numbered all scope k (more_defs (def name formals declared body inner) ds) stands numbered v i =
     let w : Where = record { defs = inner; first = k + 1 } in
     let own : Scope = w ∷ scope in
     let this : Scoped = record { scope = own; definition = def name formals declared body inner } in
-    let deep = listed own (k + 1) inner in
-    let rest = listed scope (k + 1 + count inner) ds in
+    let deep = definitions_in_scope own (k + 1) inner in
+    let rest = definitions_in_scope scope (k + 1 + count inner) ds in
     let c = listed_count own (k + 1) inner in
     let front = stands_front all k this deep rest stands in
     let behind = stands_back all k this deep rest stands (k + 1 + count inner) (omega arith) in
@@ -152,7 +152,7 @@ listed_numbered all scope k (more_defs (def name formals declared body inner) ds
       ]
     ]
 
-visible_numbered : (whole : Def) (v : Scoped) → In v (everywhere whole) → AllNumbered (processes_of whole) v.scope
+visible_numbered : (whole : DefinitionView) (v : Scoped) → In v (all_definitions whole) → AllNumbered (processes_of whole) v.scope
 visible_numbered whole v i =
     let all = processes_of whole in
     let w : Where = record { defs = inner_of whole; first = 0 } in
@@ -163,7 +163,7 @@ visible_numbered whole v i =
       | inr j ↦ listed_numbered all (within whole 0 []) 0 (inner_of whole) stands top v j
     ]
 
-meant_at : (all : List Scoped) (scope : Scope) → AllNumbered all scope → (n : Name) (q : ℕ) (d : Def) → Means scope n q d → IsAt all q d
+meant_at : (all : List Scoped) (scope : Scope) → AllNumbered all scope → (n : Name) (q : ℕ) (d : DefinitionView) → Binds scope n q d → IsAt all q d
 meant_at all (w ∷ ws) numbered n q d (nearest x) =
     let h = numbered w (inl refl) in declared_at all h.scope w.first w.defs h.stands n q d x
 meant_at all (w ∷ ws) numbered n q d (outward none x) = meant_at all ws (λ v i. numbered v (inr i)) n q d x
@@ -178,8 +178,8 @@ process_at [] (p ∷ ps) h i v e = elim h [ ]
 process_at (w ∷ vs) [] h i v e = elim h [ ]
 
 -- the process of the number that a name means is the definition that it means
-called_process : (whole : Def) (s : System) → IsFlat whole s → (v : Scoped) → In v (everywhere whole) → (n : Name) (k : ℕ) (d : Def) →
-    Means v.scope n k d → IsProcessOf s k d
+called_process : (whole : DefinitionView) (s : System) → IsFlat whole s → (v : Scoped) → In v (all_definitions whole) → (n : Name) (k : ℕ) (d : DefinitionView) →
+    Binds v.scope n k d → IsProcessOf s k d
 called_process whole s flat v i n k d m =
     let at = meant_at (processes_of whole) v.scope (visible_numbered whole v i) n k d m in
     let p = process_at (processes_of whole) s.processes flat.processes k at.scoped at.stands in
@@ -191,8 +191,8 @@ called_process whole s flat v i n k d m =
     }
 
 -- a call by number in the body of a definition goes to the definition that its name means
-pub goes_to_named : (whole : Def) (s : System) → IsAccepted whole s → (v : Scoped) → In v (everywhere whole) → (b : Flat) →
-    Resolves v.scope (body_of v.definition) b → (k : ℕ) (gates : List Name) → HasCall b k gates → GoesToNamed s v k gates
+pub goes_to_named : (whole : DefinitionView) (s : System) → IsAccepted whole s → (v : Scoped) → In v (all_definitions whole) → (b : Flat) →
+    Resolves v.scope (body_of v.definition) b → (k : ℕ) (gates : List Name) → ContainsCall b k gates → GoesToNamed s v k gates
 goes_to_named whole s a v i b r k gates h =
     let c = named_call v.scope (texts (formals_of v.definition)) (body_of v.definition) b k gates r h in
     record {
@@ -209,8 +209,8 @@ goes_to_named whole s a v i b r k gates h =
     }
 
 -- a behaviour of the flat system is the body of a definition with calls by number
-body_visible : (whole : Def) (s : System) → IsFlat whole s → (b : Flat) → IsBodyOf s b →
-    (v : Scoped) × In v (everywhere whole) × Resolves v.scope (body_of v.definition) b
+body_visible : (whole : DefinitionView) (s : System) → IsFlat whole s → (b : Flat) → IsBodyOf s b →
+    (v : Scoped) × In v (all_definitions whole) × Resolves v.scope (body_of v.definition) b
 body_visible whole s flat b of_whole = (record { scope = within whole 0 []; definition = whole }, inl refl, flat.start)
 body_visible whole s flat b (of_process p process e) =
     let at = paired_at (processes_of whole) s.processes flat.processes p process e in
@@ -220,7 +220,7 @@ same_unless : (x y : ℕ) → (x ≢ y → ⊥) → x ≡ y
 same_unless x y no_other = elim (eqb_tells x y) [ inl t ↦ t.1 | inr f ↦ absurd (no_other f.1) ]
 
 -- where no call has another number of gates than its definition, each call fits its process
-pub call_fits : (whole : Def) (s : System) → IsAccepted whole s → (b : Flat) → IsBodyOf s b → (k : ℕ) (gates : List Name) → HasCall b k gates →
+pub call_fits : (whole : DefinitionView) (s : System) → IsAccepted whole s → (b : Flat) → IsBodyOf s b → (k : ℕ) (gates : List Name) → ContainsCall b k gates →
     (process : FlatProcess) × (slice_get s.processes k ≡ Some process) × (length gates ≡ length process.formals)
 call_fits whole s a b body k gates h =
     let at = body_visible whole s a.flat b body in

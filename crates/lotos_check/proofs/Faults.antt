@@ -1,24 +1,24 @@
 -- What a pass refuses breaks a static rule, and what breaks a static rule is not accepted.
 use Rattle.std.proofs.Common.{◌≡◌, ℕ, List, [], ◌∷◌, map, refl, sym, ap, ◌∙◌, subst, inl, inr, Option, Some, None, zero, suc}
 use Rattle.std.specs.Prelude.{MatchOption, slice_get}
-use Rattle.lotos_text.specs.Tree.{Def, name_of, formals_of, body_of}
-use Rattle.lotos_text.specs.declared.tree.Placed.{Placed}
-use Rattle.lotos_check.specs.Names.{In, texts}
-use Rattle.lotos_check.specs.Scope.{Scoped, everywhere, processes_of, definitions_in}
+use Rattle.lotos_text.specs.AstView.{DefinitionView, name_of, formals_of, body_of}
+use Rattle.lotos_text.specs.declared.ast.Placed.{Placed}
+use Rattle.lotos_check.specs.NameLists.{In, texts}
+use Rattle.lotos_check.specs.Scope.{Scoped, all_definitions, processes_of, definitions_in}
 use Rattle.lotos_check.specs.Flat.{Pairwise, no_pair, one_pair, System, IsFlat}
 use Rattle.lotos_check.specs.Guard.{IsE27, IsLargestUnguardedSet, IsUnguardedSet}
-use Rattle.lotos_check.specs.Checking.{IsAccepted, IsRepeat, IsFaulty, IsNowhereAccepted}
-use Rattle.lotos_check.specs.Resolved.{IsBody, IsMisnamedIn, LeftsExit, NeverExits}
-use Rattle.lotos_check.specs.Typing.{IsUntyped, IsUntypedOne}
-use Rattle.lotos_check.specs.declared.body.Resolved.{Resolved}
+use Rattle.lotos_check.specs.Acceptance.{IsAccepted, IsDuplicateFault, IsStaticFault, IsNotAccepted}
+use Rattle.lotos_check.specs.Resolution.{IsResolvedBody, IsNameFaultIn, LeftsExit, NeverExits}
+use Rattle.lotos_check.specs.FunctionalityRules.{IsFunctionalityFaultIn, IsFunctionalityFault}
+use Rattle.lotos_check.specs.declared.resolution.ResolvedBody.{ResolvedBody}
 use Rattle.lotos_check.specs.declared.fault.CheckFault.{CheckFault}
 use Rattle.lotos_check.specs.declared.fault.CheckFault.TheVariants.{E20, E21, E22, E23, E24, E25, E26, E27, E99}
 use Rattle.lotos_check.proofs.UnguardedSets.{unguarded_has_no_ranking}
 use Rattle.lotos_check.proofs.ScopedDefinitions.{everywhere_in_order}
-use Rattle.lotos_check.proofs.OneSystem.{same_processes}
+use Rattle.lotos_check.proofs.FlatSystemUnique.{same_processes}
 
 -- a name that is declared twice breaks a rule
-pub repeat_faulty : (whole : Def) (fault : CheckFault) → IsRepeat whole fault → IsFaulty whole fault
+pub repeat_faulty : (whole : DefinitionView) (fault : CheckFault) → IsDuplicateFault whole fault → IsStaticFault whole fault
 repeat_faulty whole (E20 gate) h = h
 repeat_faulty whole (E21 gate) h = absurd h
 repeat_faulty whole (E22 name) h = absurd h
@@ -30,7 +30,7 @@ repeat_faulty whole (E27 name set) h = absurd h
 repeat_faulty whole (E99 e) h = h
 
 -- a body that is refused for its names breaks a rule
-pub misnamed_faulty : (whole : Def) (fault : CheckFault) → IsMisnamedIn (everywhere whole) fault → IsFaulty whole fault
+pub misnamed_faulty : (whole : DefinitionView) (fault : CheckFault) → IsNameFaultIn (all_definitions whole) fault → IsStaticFault whole fault
 misnamed_faulty whole (E20 gate) h = absurd h.misnamed
 misnamed_faulty whole (E21 gate) h =
     let m = h.misnamed in
@@ -71,10 +71,10 @@ misnamed_faulty whole (E26 at) h = absurd h.misnamed
 misnamed_faulty whole (E27 name set) h = absurd h.misnamed
 misnamed_faulty whole (E99 e) h = tt
 
-found_at : (vs : List Scoped) (found : List Resolved) → Pairwise IsBody vs found → (i : ℕ) (d : Def) (r : Resolved) →
-    slice_get (map (λ v. v.definition) vs) i ≡ Some d → slice_get found i ≡ Some r → (v : Scoped) × In v vs × (v.definition ≡ d) × IsBody v r
+found_at : (vs : List Scoped) (found : List ResolvedBody) → Pairwise IsResolvedBody vs found → (i : ℕ) (d : DefinitionView) (r : ResolvedBody) →
+    slice_get (map (λ v. v.definition) vs) i ≡ Some d → slice_get found i ≡ Some r → (v : Scoped) × In v vs × (v.definition ≡ d) × IsResolvedBody v r
 found_at [] [] no_pair i d r e f = cc
-found_at (v ∷ vs) (x ∷ found) (one_pair h hs) zero d r e f = let g : x ≡ r = cc in (v, inl refl, (cc), subst (IsBody v) g h)
+found_at (v ∷ vs) (x ∷ found) (one_pair h hs) zero d r e f = let g : x ≡ r = cc in (v, inl refl, (cc), subst (IsResolvedBody v) g h)
 found_at (v ∷ vs) (x ∷ found) (one_pair h hs) (suc i) d r e f = let n = found_at vs found hs i d r e f in (n.0, inr n.1, n.2, n.3)
 found_at [] (x ∷ found) h i d r e f = elim h [ ]
 found_at (v ∷ vs) [] h i d r e f = elim h [ ]
@@ -86,8 +86,8 @@ never_at : (v : Scoped) (never : Option ℕ) (at : ℕ) → never ≡ Some at �
 never_at v None at e h = cc
 never_at v (Some x) at e h = let f : x ≡ at = cc in subst (NeverExits v.scope (texts (formals_of v.definition)) (body_of v.definition)) f h
 
-untyped_one : (whole : Def) (v : Scoped) (r : Resolved) (fault : CheckFault) → In v (everywhere whole) → IsBody v r →
-    IsUntypedOne v.definition r fault → IsFaulty whole fault
+untyped_one : (whole : DefinitionView) (v : Scoped) (r : ResolvedBody) (fault : CheckFault) → In v (all_definitions whole) → IsResolvedBody v r →
+    IsFunctionalityFault v.definition r fault → IsStaticFault whole fault
 untyped_one whole v r (E20 gate) i b h = absurd h
 untyped_one whole v r (E21 gate) i b h = absurd h
 untyped_one whole v r (E22 name) i b h = absurd h
@@ -104,28 +104,28 @@ untyped_one whole v r (E25 name declared) i b h = record {
   differ = h.2;
 }
 untyped_one whole v r (E26 at) i b h =
-    let n = never_at v r.never at h b.lefts in
+    let n = never_at v r.never_exits at h b.lefts in
     record {
       scope = v.scope;
       known = n.there;
       left = n.left;
       right = n.right;
       occurs = record { definition = v.definition; stands = i; inside = n.stands };
-      never = n.never;
+      never_exits = n.never_exits;
     }
 untyped_one whole v r (E27 name set) i b h = absurd h
 untyped_one whole v r (E99 e) i b h = tt
 
 -- a body that does not fit its definition breaks a rule
-pub untyped_faulty : (whole : Def) (found : List Resolved) (fault : CheckFault) → Pairwise IsBody (everywhere whole) found →
-    IsUntyped (definitions_in whole) found fault → IsFaulty whole fault
+pub untyped_faulty : (whole : DefinitionView) (found : List ResolvedBody) (fault : CheckFault) → Pairwise IsResolvedBody (all_definitions whole) found →
+    IsFunctionalityFaultIn (definitions_in whole) found fault → IsStaticFault whole fault
 untyped_faulty whole found fault bodies h =
     let e = everywhere_in_order whole in
-    let n = found_at (everywhere whole) found bodies h.index h.definition h.body (rw e at h.defined) h.stands in
-    untyped_one whole n.0 h.body fault n.1 n.3 (subst (λ d. IsUntypedOne d h.body fault) (sym n.2) h.untyped)
+    let n = found_at (all_definitions whole) found bodies h.index h.definition h.body (rw e at h.defined) h.stands in
+    untyped_one whole n.0 h.body fault n.1 n.3 (subst (λ d. IsFunctionalityFault d h.body fault) (sym n.2) h.untyped)
 
 -- a specification with an unguarded set is not accepted
-unguarded_refused : (whole : Def) (name : Placed) (set : List ℕ) → IsE27 whole name set → (system : System) → IsAccepted whole system → ⊥
+unguarded_refused : (whole : DefinitionView) (name : Placed) (set : List ℕ) → IsE27 whole name set → (system : System) → IsAccepted whole system → ⊥
 unguarded_refused whole name set h system a =
     let e = same_processes whole h.system system a.typed.distinct h.flat a.flat in
     let unguarded = subst (λ ps. IsUnguardedSet ps set) e h.unguarded.unguarded in
@@ -133,7 +133,7 @@ unguarded_refused whole name set h system a =
     unguarded_has_no_ranking system.processes set a.guarded.rank h.first unguarded stands a.guarded.falls
 
 -- what breaks a rule is not accepted
-pub faulty_refused : (whole : Def) (fault : CheckFault) → IsFaulty whole fault → IsNowhereAccepted whole fault
+pub faulty_refused : (whole : DefinitionView) (fault : CheckFault) → IsStaticFault whole fault → IsNotAccepted whole fault
 faulty_refused whole (E20 gate) h = λ system a. a.typed.distinct.gates gate h
 faulty_refused whole (E21 gate) h = λ system a. a.typed.known_gates gate h
 faulty_refused whole (E22 name) h = λ system a. a.typed.known_processes name h
@@ -145,14 +145,14 @@ faulty_refused whole (E27 name set) h = unguarded_refused whole name set.items h
 faulty_refused whole (E99 e) h = tt
 
 -- the definition of a process stands in the list of all behind the specification
-process_at : (vs : List Scoped) (i : ℕ) (d : Def) → slice_get (map (λ v. v.definition) vs) i ≡ Some d →
+process_at : (vs : List Scoped) (i : ℕ) (d : DefinitionView) → slice_get (map (λ v. v.definition) vs) i ≡ Some d →
     (v : Scoped) × (slice_get vs i ≡ Some v) × (v.definition ≡ d)
 process_at [] i d e = cc
 process_at (v ∷ vs) zero d e = (v, refl, (cc))
 process_at (v ∷ vs) (suc i) d e = process_at vs i d e
 
 -- an unguarded set that is not empty breaks the rule of guarded recursion, by the name of its first process
-pub unguarded_faulty : (whole : Def) (system : System) (set : List ℕ) (first : ℕ) (others : List ℕ) (name : Placed) (d : Def) →
+pub unguarded_faulty : (whole : DefinitionView) (system : System) (set : List ℕ) (first : ℕ) (others : List ℕ) (name : Placed) (d : DefinitionView) →
     IsFlat whole system → IsLargestUnguardedSet system.processes set → set ≡ first ∷ others →
     slice_get (definitions_in whole) (suc first) ≡ Some d → name ≡ name_of d → IsE27 whole name set
 unguarded_faulty whole system set first others name d flat unguarded begins stands named =

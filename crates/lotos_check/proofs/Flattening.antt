@@ -1,21 +1,21 @@
 -- The code of all definitions, from that of each in turn.
 use Rattle.std.proofs.Common.{◌≡◌, ℕ, ◌+◌, ◌<◌, List, [], ◌∷◌, ◌++◌, drop, length, refl, sym, ap, subst, ◌∙◌, append_assoc, append-nil, arith, zero, suc}
 use Rattle.std.proofs.lemmas.List.{drop_all}
-use Rattle.lotos_text.specs.Tree.{Def, name_of, formals_of, declared_of}
-use Rattle.lotos_text.specs.View.{definition_of}
-use Rattle.lotos_text.specs.declared.tree.Definition.{Definition, out-Definition}
-use Rattle.lotos_check.specs.Names.{texts}
-use Rattle.lotos_check.specs.View.{flat_of, process_of}
-use Rattle.lotos_check.specs.Checking.{IsMade, AreMade, none_made, one_made, IsFlattened, made}
-use Rattle.lotos_check.specs.declared.body.Resolved.{Resolved}
-use Rattle.lotos_check.specs.declared.code.Code.{Code}
-use Rattle.lotos_check.specs.declared.code.Process.{Process}
-use Rattle.lotos_check.proofs.Listings.{shown}
+use Rattle.lotos_text.specs.AstView.{DefinitionView, name_of, formals_of, declared_of}
+use Rattle.lotos_text.specs.AstOf.{definition_view}
+use Rattle.lotos_text.specs.declared.ast.Definition.{Definition, out-Definition}
+use Rattle.lotos_check.specs.NameLists.{texts}
+use Rattle.lotos_check.specs.CheckedView.{flat_of, process_of}
+use Rattle.lotos_check.specs.Acceptance.{IsProcessOfBody, AreProcessesOfBodies, no_processes, one_process, IsFlattened, flattens}
+use Rattle.lotos_check.specs.declared.resolution.ResolvedBody.{ResolvedBody}
+use Rattle.lotos_check.specs.declared.resolved.Code.{Code}
+use Rattle.lotos_check.specs.declared.resolved.Process.{Process}
+use Rattle.lotos_check.proofs.DefinitionOrder.{shown}
 
 -- a process is a definition with a code, if it has the definition's parts and that code
-pub made_of : (d : Definition) (found : Resolved) (process : Process) → process.name ≡ (out-Definition d).name.name →
+pub made_of : (d : Definition) (found : ResolvedBody) (process : Process) → process.name ≡ (out-Definition d).name.name →
     process.formals.items ≡ texts (out-Definition d).formals.items → process.functionality ≡ (out-Definition d).functionality →
-    process.body ≡ found.code → IsMade (definition_of d) found (process_of process)
+    process.body ≡ found.code → IsProcessOfBody (definition_view d) found (process_of process)
 made_of d found process n f g b = record {
   name = n ∙ sym (ap (λ t. (name_of t).name) (shown d));
   formals = f ∙ sym (ap (λ t. texts (formals_of t)) (shown d));
@@ -23,12 +23,12 @@ made_of d found process n f g b = record {
   body = ap flat_of b;
 }
 
-module _ (definitions : List Def) (found : List Resolved) where
+module _ (definitions : List DefinitionView) (found : List ResolvedBody) where
   -- so far this start and these processes were made; the rest of what was found is to come
-  pub record Flattens (index : ℕ) (rest : List Resolved) (start : Code) (processes : List Process) : Type 0 where
+  pub record Flattens (index : ℕ) (rest : List ResolvedBody) (start : Code) (processes : List Process) : Type 0 where
     pub sized : index + length rest ≡ length definitions
     pub begin : index ≡ 0 → (processes ≡ []) × (rest ≡ found)
-    pub more : 0 < index → (others : List Process) → AreMade (drop index definitions) rest others →
+    pub more : 0 < index → (others : List Process) → AreProcessesOfBodies (drop index definitions) rest others →
         IsFlattened definitions found start (processes ++ others)
 
   -- at first nothing is made
@@ -36,7 +36,7 @@ module _ (definitions : List Def) (found : List Resolved) where
   flattens_none start e = record { sized = omega arith; begin = λ _. (refl, refl); more = λ h. absurd (omega arith) }
 
 -- the first gives the behaviour
-pub flattens_first : (definitions : List Def) (found : List Resolved) (one : Resolved) (rest : List Resolved) (start : Code) (processes : List Process) →
+pub flattens_first : (definitions : List DefinitionView) (found : List ResolvedBody) (one : ResolvedBody) (rest : List ResolvedBody) (start : Code) (processes : List Process) →
     Flattens definitions found 0 (one ∷ rest) start processes → Flattens definitions found 1 rest one.code processes
 flattens_first [] found one rest start processes h = absurd (let e = h.sized in omega arith)
 flattens_first (d ∷ ds) found one rest start processes h =
@@ -46,34 +46,34 @@ flattens_first (d ∷ ds) found one rest start processes h =
       begin = λ e. absurd (omega arith);
       more = λ _ others m.
           subst (λ t. IsFlattened (d ∷ ds) t one.code (processes ++ others)) b.1
-          (subst (λ t. IsFlattened (d ∷ ds) (one ∷ rest) one.code (t ++ others)) (sym b.0) (made refl m));
+          (subst (λ t. IsFlattened (d ∷ ds) (one ∷ rest) one.code (t ++ others)) (sym b.0) (flattens refl m));
     }
 
 -- each other one gives a process
-pub flattens_more : (definitions : List Def) (found : List Resolved) (index : ℕ) (one : Resolved) (rest : List Resolved) (start : Code)
-    (processes : List Process) (d : Def) (process : Process) → 0 < index → drop index definitions ≡ d ∷ drop (index + 1) definitions →
-    IsMade d one (process_of process) → Flattens definitions found index (one ∷ rest) start processes →
+pub flattens_more : (definitions : List DefinitionView) (found : List ResolvedBody) (index : ℕ) (one : ResolvedBody) (rest : List ResolvedBody) (start : Code)
+    (processes : List Process) (d : DefinitionView) (process : Process) → 0 < index → drop index definitions ≡ d ∷ drop (index + 1) definitions →
+    IsProcessOfBody d one (process_of process) → Flattens definitions found index (one ∷ rest) start processes →
     Flattens definitions found (index + 1) rest start (processes ++ process ∷ [])
 flattens_more definitions found index one rest start processes d process p e m h = record {
   sized = let s = h.sized in omega arith;
   begin = λ z. absurd (omega arith);
   more = λ _ others made_others.
       subst (λ t. IsFlattened definitions found start t) (sym (append_assoc processes (process ∷ []) others))
-      (h.more p (process ∷ others) (subst (λ t. AreMade t (one ∷ rest) (process ∷ others)) (sym e) (one_made m made_others)));
+      (h.more p (process ∷ others) (subst (λ t. AreProcessesOfBodies t (one ∷ rest) (process ∷ others)) (sym e) (one_process m made_others)));
 }
 
 -- at the end all is made
-pub flattens_all : (definitions : List Def) (found : List Resolved) (index : ℕ) (start : Code) (processes : List Process) →
+pub flattens_all : (definitions : List DefinitionView) (found : List ResolvedBody) (index : ℕ) (start : Code) (processes : List Process) →
     0 < length found → Flattens definitions found index [] start processes → IsFlattened definitions found start processes
 flattens_all definitions found zero start processes p h =
     absurd (let e = ap length (h.begin refl).1 in omega arith)
 flattens_all definitions found (suc index) start processes p h =
     let none : drop (suc index) definitions ≡ [] = drop_all (suc index) definitions (let s = h.sized in omega arith) in
     subst (λ t. IsFlattened definitions found start t) (append-nil processes)
-    (h.more (omega arith) [] (subst (λ t. AreMade t [] []) (sym none) none_made))
+    (h.more (omega arith) [] (subst (λ t. AreProcessesOfBodies t [] []) (sym none) no_processes))
 
 -- a step of the code at the first
-pub flattens_first_step : (definitions : List Def) (found : List Resolved) (index : ℕ) (one : Resolved) (all rest : List Resolved) (start after : Code)
+pub flattens_first_step : (definitions : List DefinitionView) (found : List ResolvedBody) (index : ℕ) (one : ResolvedBody) (all rest : List ResolvedBody) (start after : Code)
     (processes others : List Process) → index ≡ 0 → all ≡ one ∷ rest → after ≡ one.code → others ≡ processes →
     Flattens definitions found index all start processes → Flattens definitions found (index + 1) rest after others
 flattens_first_step definitions found index one all rest start after processes others i a s p h =
@@ -83,9 +83,9 @@ flattens_first_step definitions found index one all rest start after processes o
     (rw (s, p) (flattens_first definitions found one rest start processes k))
 
 -- a step of the code at each other one
-pub flattens_more_step : (definitions : List Def) (found : List Resolved) (index : ℕ) (one : Resolved) (all rest : List Resolved) (start after : Code)
-    (processes others : List Process) (d : Def) (process : Process) → (index ≡ 0 → ⊥) → all ≡ one ∷ rest → after ≡ start → others ≡ processes ++ process ∷ [] →
-    drop index definitions ≡ d ∷ drop (index + 1) definitions → IsMade d one (process_of process) →
+pub flattens_more_step : (definitions : List DefinitionView) (found : List ResolvedBody) (index : ℕ) (one : ResolvedBody) (all rest : List ResolvedBody) (start after : Code)
+    (processes others : List Process) (d : DefinitionView) (process : Process) → (index ≡ 0 → ⊥) → all ≡ one ∷ rest → after ≡ start → others ≡ processes ++ process ∷ [] →
+    drop index definitions ≡ d ∷ drop (index + 1) definitions → IsProcessOfBody d one (process_of process) →
     Flattens definitions found index all start processes → Flattens definitions found (index + 1) rest after others
 flattens_more_step definitions found index one all rest start after processes others d process i a s p e m h =
     let k : Flattens definitions found index (one ∷ rest) start processes = rw a at h in

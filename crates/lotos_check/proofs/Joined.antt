@@ -4,27 +4,27 @@ use Rattle.std.proofs.Common.{◌≡◌, ℕ, ◌+◌, ◌<◌, List, [], Some, 
 use Rattle.std.specs.Prelude.{slice_get}
 use Rattle.std.proofs.lemmas.List.{length-map}
 use Rattle.std.proofs.lemmas.Option.{slice_get_within, slice_get-get_or, slice_get-map, slice_get_read}
-use Rattle.lotos_text.specs.Tree.{Def, name_of, formals_of, inner_of}
-use Rattle.lotos_text.specs.declared.tree.Placed.{Placed}
-use Rattle.lotos_check.specs.Names.{Name, In, texts}
-use Rattle.lotos_check.specs.Scope.{count, everywhere, definitions_in, processes_of}
+use Rattle.lotos_text.specs.AstView.{DefinitionView, name_of, formals_of, inner_of}
+use Rattle.lotos_text.specs.declared.ast.Placed.{Placed}
+use Rattle.lotos_check.specs.NameLists.{Name, In, texts}
+use Rattle.lotos_check.specs.Scope.{count, all_definitions, definitions_in, processes_of}
 use Rattle.lotos_check.specs.Flat.{System, IsFlat}
 use Rattle.lotos_check.specs.Guard.{Calls, IsGuarded, IsE27}
-use Rattle.lotos_check.specs.Guarding.{IsUnguarded}
-use Rattle.lotos_check.specs.Resolved.{Adds}
-use Rattle.lotos_check.specs.Checking.{AreRanks, IsFlattened}
-use Rattle.lotos_check.specs.View.{flat_of, process_of}
-use Rattle.lotos_check.specs.declared.body.Resolved.{Resolved}
-use Rattle.lotos_check.specs.declared.code.Code.{Code}
-use Rattle.lotos_check.specs.declared.code.Process.{Process}
+use Rattle.lotos_check.specs.RankingSteps.{IsUnguarded}
+use Rattle.lotos_check.specs.Resolution.{AddsBodies}
+use Rattle.lotos_check.specs.Acceptance.{AreRanks, IsFlattened}
+use Rattle.lotos_check.specs.CheckedView.{flat_of, process_of}
+use Rattle.lotos_check.specs.declared.resolution.ResolvedBody.{ResolvedBody}
+use Rattle.lotos_check.specs.declared.resolved.Code.{Code}
+use Rattle.lotos_check.specs.declared.resolved.Process.{Process}
 use Rattle.lotos_check.proofs.Faults.{unguarded_faulty}
-use Rattle.lotos_check.proofs.Listings.{in_order}
+use Rattle.lotos_check.proofs.DefinitionOrder.{in_order}
 use Rattle.lotos_check.proofs.ScopedDefinitions.{definitions_count, everywhere_in_order}
 use Rattle.lotos_check.proofs.Rules.{walked, flat_system}
-use Rattle.lotos_check.proofs.OneSystem.{calls_within, paired_length}
+use Rattle.lotos_check.proofs.FlatSystemUnique.{calls_within, paired_length}
 
 -- the list has all definitions of the specification
-module _ {W : Type 0} (view : W → Def) (definitions : List W) (whole : Def) (listed : map view definitions ≡ definitions_in whole) where
+module _ {W : Type 0} (view : W → DefinitionView) (definitions : List W) (whole : DefinitionView) (listed : map view definitions ≡ definitions_in whole) where
   -- it is longer than the number of processes
   pub inner_below : (limit : ℕ) → length definitions < limit → 0 + count (inner_of whole) < limit
   inner_below limit h =
@@ -34,11 +34,11 @@ module _ {W : Type 0} (view : W → Def) (definitions : List W) (whole : Def) (l
       omega arith
 
   -- something was found of each
-  pub found_length : (found : List Resolved) → Adds (everywhere whole) [] found → length definitions ≡ length found
+  pub found_length : (found : List ResolvedBody) → AddsBodies (all_definitions whole) [] found → length definitions ≡ length found
   found_length found adds =
-      let bodies = paired_length (everywhere whole) found (walked whole found adds) in
+      let bodies = paired_length (all_definitions whole) found (walked whole found adds) in
       let order = ap length (everywhere_in_order whole) in
-      let all = length-map (everywhere whole) (λ v. v.definition) in
+      let all = length-map (all_definitions whole) (λ v. v.definition) in
       let seen = length-map definitions view in
       let same = ap length listed in
       omega arith
@@ -52,7 +52,7 @@ module _ {W : Type 0} (view : W → Def) (definitions : List W) (whole : Def) (l
       let within = slice_get_within system.processes k call.1.process call.1.stands in
       let processes = paired_length (processes_of whole) system.processes flat.processes in
       let order = ap length (everywhere_in_order whole) in
-      let all = length-map (everywhere whole) (λ v. v.definition) in
+      let all = length-map (all_definitions whole) (λ v. v.definition) in
       let seen = length-map definitions view in
       let same = ap length listed in
       omega arith
@@ -69,14 +69,14 @@ module _ {W : Type 0} (view : W → Def) (definitions : List W) (whole : Def) (l
       unguarded_faulty whole system set unguarded.first unguarded.others name (view w) flat unguarded.unguarded unguarded.begins stands named
 
 -- what was found, and the code made of it, is the flat system
-pub flat_joined : (whole : Def) (found : List Resolved) (formals : List Name) (start : Code) (processes : List Process) →
-    Adds (everywhere whole) [] found → IsFlattened (definitions_in whole) found start processes → formals ≡ texts (formals_of whole) →
+pub flat_joined : (whole : DefinitionView) (found : List ResolvedBody) (formals : List Name) (start : Code) (processes : List Process) →
+    AddsBodies (all_definitions whole) [] found → IsFlattened (definitions_in whole) found start processes → formals ≡ texts (formals_of whole) →
     IsFlat whole (record { formals = formals; start = flat_of start; processes = map process_of processes })
 flat_joined whole found formals start processes adds flattened named =
     flat_system whole found formals start processes (walked whole found adds) (rw in_order at flattened) named
 
 -- every unguarded call of the code goes to one of its processes
-pub calls_below : (whole : Def) (formals : List Name) (start : Code) (processes : List Process) →
+pub calls_below : (whole : DefinitionView) (formals : List Name) (start : Code) (processes : List Process) →
     IsFlat whole (record { formals = formals; start = flat_of start; processes = map process_of processes }) →
     (p q : ℕ) → Calls (map process_of processes) p q → q < length processes
 calls_below whole formals start processes flat p q calls =
@@ -85,7 +85,7 @@ calls_below whole formals start processes flat p q calls =
     omega arith
 
 -- a flat system whose processes have numbers that fall is guarded
-pub guarded_by : (whole : Def) (system : System) (ranks : List ℕ) → IsFlat whole system → AreRanks system.processes ranks → IsGuarded system
+pub guarded_by : (whole : DefinitionView) (system : System) (ranks : List ℕ) → IsFlat whole system → AreRanks system.processes ranks → IsGuarded system
 guarded_by whole system ranks flat given = record {
   rank = λ p. get_or ranks p 0;
   falls = λ p q calls.

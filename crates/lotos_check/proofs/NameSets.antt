@@ -13,8 +13,8 @@ use Rattle.std.proofs.lemmas.List.Filters.{dedup_is}
 use Rattle.std.proofs.lemmas.List.Kept.{Contains-dedup, Contains-from_dedup, IsStrictlySortedBy-dedup}
 use Rattle.std.proofs.lemmas.List.Sorted.{Contains-permutation, IsPermutation-sym}
 use Rattle.std.proofs.lemmas.Slice.Eq.{bytes_eq-Decides}
-use Rattle.lotos_text.specs.declared.tree.Placed.{Placed}
-use Rattle.lotos_check.specs.Names.{Name, In, texts, Below, Ascends, none, one, more, IsSetOf}
+use Rattle.lotos_text.specs.declared.ast.Placed.{Placed}
+use Rattle.lotos_check.specs.NameLists.{Name, In, texts, Below, IsAscendingNames, none, one, more, IsSetOf}
 
 -- a member of the list stands at a place
 placed_in : {X : Type 0} (x : X) (xs : List X) → In x xs → Contains xs x
@@ -44,7 +44,7 @@ below (a ∷ xs) [] e = cc
 below (a ∷ xs) (b ∷ ys) e = below_by a b xs ys (below xs ys) (nat_cmp a b) refl e
 
 -- names each of which is less than those behind it ascend
-ascending : (names : List Name) → IsStrictlySortedBy (slice_cmp nat_cmp) names → Ascends names
+ascending : (names : List Name) → IsStrictlySortedBy (slice_cmp nat_cmp) names → IsAscendingNames names
 unfolding IsStrictlySortedBy
 ascending [] sorted = none
 ascending (x ∷ []) sorted = one

@@ -4,7 +4,7 @@ use Rattle.std.specs.Prelude.{not}
 use Rattle.std.specs.List.{list_any}
 use Rattle.std.specs.Str.{bytes_eq}
 use Rattle.std.proofs.lemmas.Slice.Eq.{bytes_eq-Decides}
-use Rattle.lotos_check.specs.Names.{Name, In}
+use Rattle.lotos_check.specs.NameLists.{Name, In}
 
 -- a test that finds the name says that it is among the keys
 pub in_if_any : {K : Type 0} (now : K → Name) (n : Name) (ks : List K) → list_any (λ k. bytes_eq n (now k)) ks ≡ true →

@@ -2,37 +2,37 @@
 use Rattle.std.specs.Prelude.{◌≡◌, ℕ, List, ◌++◌, length, Option, Some, None, MatchOption}
 use Rattle.std.specs.Option.{option_or}
 use Rattle.std.proofs.Common.{refl, subst}
-use Rattle.lotos_text.specs.Tree.{Tree, Sync, prefix, choice, par, hide, enable, disable, call, Def, formals_of}
-use Rattle.lotos_text.specs.declared.tree.Action.{Action}
-use Rattle.lotos_text.specs.declared.tree.Functionality.TheVariants as f
-use Rattle.lotos_text.specs.declared.tree.Placed.{Placed}
-use Rattle.lotos_check.specs.Names.{Name, In, texts}
-use Rattle.lotos_check.specs.Scope.{Scope, Means}
-use Rattle.lotos_check.specs.Parts.{Part, whole, in_prefix, in_choice_left, in_choice_right, in_par_left, in_par_right, in_hide, in_enable_left, in_enable_right, in_disable_left, in_disable_right, Uses}
-use Rattle.lotos_check.specs.Functionalities.{Func}
-use Rattle.lotos_check.specs.Resolved.{GatesKnown, CallsFit, LeftsExit, NeverExits, IsMisnamed}
+use Rattle.lotos_text.specs.AstView.{BehaviourView, SyncView, prefix, choice, par, hide, enable, disable, call, DefinitionView, formals_of}
+use Rattle.lotos_text.specs.declared.ast.Action.{Action}
+use Rattle.lotos_text.specs.declared.ast.Functionality.TheVariants as f
+use Rattle.lotos_text.specs.declared.ast.Placed.{Placed}
+use Rattle.lotos_check.specs.NameLists.{Name, In, texts}
+use Rattle.lotos_check.specs.Scope.{Scope, Binds}
+use Rattle.lotos_check.specs.Subexpressions.{IsSubexpression, whole, in_prefix, in_choice_left, in_choice_right, in_par_left, in_par_right, in_hide, in_enable_left, in_enable_right, in_disable_left, in_disable_right, UsesGate}
+use Rattle.lotos_check.specs.Functionality.{Func}
+use Rattle.lotos_check.specs.Resolution.{GatesDeclared, CallsFit, LeftsExit, NeverExits, IsNameFault}
 use Rattle.lotos_check.specs.declared.fault.CheckFault.{CheckFault}
 use Rattle.lotos_check.specs.declared.fault.CheckFault.TheVariants.{E20, E21, E22, E23, E24, E25, E26, E27, E99}
 
 -- each part of the operand is a part of the behaviour
-abbrev pub Lifts : List Name → Tree → List Name → Tree → Type 0
-Lifts inner operand known body = (there : List Name) (part : Tree) → Part inner operand there part → Part known body there part
+abbrev pub Lifts : List Name → BehaviourView → List Name → BehaviourView → Type 0
+Lifts inner operand known body = (there : List Name) (part : BehaviourView) → IsSubexpression inner operand there part → IsSubexpression known body there part
 
 -- the behaviour itself, or a part of an operand
-pub data Portion (inner known : List Name) (left right body : Tree) : List Name → Tree → Type 0 where
+pub data Portion (inner known : List Name) (left right body : BehaviourView) : List Name → BehaviourView → Type 0 where
   itself : Portion inner known left right body known body
-  of_left : {there : List Name} {part : Tree} → Part inner left there part → Portion inner known left right body there part
-  of_right : {there : List Name} {part : Tree} → Part inner right there part → Portion inner known left right body there part
+  of_left : {there : List Name} {part : BehaviourView} → IsSubexpression inner left there part → Portion inner known left right body there part
+  of_right : {there : List Name} {part : BehaviourView} → IsSubexpression inner right there part → Portion inner known left right body there part
 
 -- the parts of the behaviour are itself and the parts of its operands; one operand stands on both sides
-pub record HasOperands (inner known : List Name) (left right body : Tree) : Type 0 where
+pub record HasOperands (inner known : List Name) (left right body : BehaviourView) : Type 0 where
   pub from_left : Lifts inner left known body
   pub from_right : Lifts inner right known body
-  pub splits : (there : List Name) (part : Tree) → Part known body there part → Portion inner known left right body there part
+  pub splits : (there : List Name) (part : BehaviourView) → IsSubexpression known body there part → Portion inner known left right body there part
 
-module _ (scope : Scope) (inner known : List Name) (operand body : Tree) (lift : Lifts inner operand known body) where
+module _ (scope : Scope) (inner known : List Name) (operand body : BehaviourView) (lift : Lifts inner operand known body) where
   -- a fault in an operand is a fault of the behaviour
-  pub misnamed_lift : (fault : CheckFault) → IsMisnamed scope inner operand fault → IsMisnamed scope known body fault
+  pub misnamed_lift : (fault : CheckFault) → IsNameFault scope inner operand fault → IsNameFault scope known body fault
   misnamed_lift (E20 gate) h = h
   misnamed_lift (E21 gate) h = record {
     there = h.there;
@@ -71,32 +71,32 @@ module _ (scope : Scope) (inner known : List Name) (operand body : Tree) (lift :
     left = h.left;
     right = h.right;
     stands = lift h.there (enable h.left at h.right) h.stands;
-    never = h.never;
+    never_exits = h.never_exits;
   }
 
-module _ (scope : Scope) (inner known : List Name) (left right body : Tree) (has : HasOperands inner known left right body) where
-  gates_at : ((gate : Placed) → Uses body gate → In gate.name known) → GatesKnown inner left → GatesKnown inner right →
-      (there : List Name) (part : Tree) (gate : Placed) → Portion inner known left right body there part → Uses part gate →
+module _ (scope : Scope) (inner known : List Name) (left right body : BehaviourView) (has : HasOperands inner known left right body) where
+  gates_at : ((gate : Placed) → UsesGate body gate → In gate.name known) → GatesDeclared inner left → GatesDeclared inner right →
+      (there : List Name) (part : BehaviourView) (gate : Placed) → Portion inner known left right body there part → UsesGate part gate →
       In gate.name there
   gates_at head first second there part gate itself uses = head gate uses
   gates_at head first second there part gate (of_left p) uses = first there part gate p uses
   gates_at head first second there part gate (of_right p) uses = second there part gate p uses
 
   -- the gates are known that the behaviour itself uses, and those that its operands use
-  pub gates_joined : ((gate : Placed) → Uses body gate → In gate.name known) → GatesKnown inner left → GatesKnown inner right →
-      GatesKnown known body
+  pub gates_joined : ((gate : Placed) → UsesGate body gate → In gate.name known) → GatesDeclared inner left → GatesDeclared inner right →
+      GatesDeclared known body
   gates_joined head first second there part gate stands uses =
       gates_at head first second there part gate (has.splits there part stands) uses
 
   calls_at : ((name : Placed) (actuals : List Placed) → body ≡ call name actuals → ⊥) → CallsFit scope inner left →
-      CallsFit scope inner right → (there : List Name) (part : Tree) (name : Placed) (actuals : List Placed) →
+      CallsFit scope inner right → (there : List Name) (part : BehaviourView) (name : Placed) (actuals : List Placed) →
       Portion inner known left right body there part → part ≡ call name actuals →
-      (k : ℕ) × (d : Def) × Means scope name.name k d × (length (formals_of d) ≡ length actuals)
+      (k : ℕ) × (d : DefinitionView) × Binds scope name.name k d × (length (formals_of d) ≡ length actuals)
   calls_at head first second there part name actuals itself e = absurd (head name actuals e)
   calls_at head first second there part name actuals (of_left p) e =
-      first there name actuals (subst (λ t. Part inner left there t) e p)
+      first there name actuals (subst (λ t. IsSubexpression inner left there t) e p)
   calls_at head first second there part name actuals (of_right p) e =
-      second there name actuals (subst (λ t. Part inner right there t) e p)
+      second there name actuals (subst (λ t. IsSubexpression inner right there t) e p)
 
   -- the calls of the operands fit, and so do those of a behaviour that is no call
   pub calls_joined : ((name : Placed) (actuals : List Placed) → body ≡ call name actuals → ⊥) → CallsFit scope inner left →
@@ -104,23 +104,23 @@ module _ (scope : Scope) (inner known : List Name) (left right body : Tree) (has
   calls_joined head first second there name actuals stands =
       calls_at head first second there (call name actuals) name actuals (has.splits there (call name actuals) stands) refl
 
-  lefts_at : ((a b : Tree) (at : ℕ) → body ≡ enable a at b → Func scope a f.Exit) → LeftsExit scope inner left →
-      LeftsExit scope inner right → (there : List Name) (part a b : Tree) (at : ℕ) →
+  lefts_at : ((a b : BehaviourView) (at : ℕ) → body ≡ enable a at b → Func scope a f.Exit) → LeftsExit scope inner left →
+      LeftsExit scope inner right → (there : List Name) (part a b : BehaviourView) (at : ℕ) →
       Portion inner known left right body there part → part ≡ enable a at b → Func scope a f.Exit
   lefts_at head first second there part a b at itself e = head a b at e
   lefts_at head first second there part a b at (of_left p) e =
-      first there a b at (subst (λ t. Part inner left there t) e p)
+      first there a b at (subst (λ t. IsSubexpression inner left there t) e p)
   lefts_at head first second there part a b at (of_right p) e =
-      second there a b at (subst (λ t. Part inner right there t) e p)
+      second there a b at (subst (λ t. IsSubexpression inner right there t) e p)
 
   -- the left operands of `>>` in the operands have exit, and so has that of the behaviour itself, where it is one
-  pub lefts_joined : ((a b : Tree) (at : ℕ) → body ≡ enable a at b → Func scope a f.Exit) → LeftsExit scope inner left →
+  pub lefts_joined : ((a b : BehaviourView) (at : ℕ) → body ≡ enable a at b → Func scope a f.Exit) → LeftsExit scope inner left →
       LeftsExit scope inner right → LeftsExit scope known body
   lefts_joined head first second there a b at stands =
       lefts_at head first second there (enable a at b) a b at (has.splits there (enable a at b) stands) refl
 
   -- the first `>>` whose left operand has noexit, where the behaviour itself is none
-  pub never_joined : ((a b : Tree) (at : ℕ) → body ≡ enable a at b → Func scope a f.Exit) → (m n : Option ℕ) →
+  pub never_joined : ((a b : BehaviourView) (at : ℕ) → body ≡ enable a at b → Func scope a f.Exit) → (m n : Option ℕ) →
       MatchOption m (LeftsExit scope inner left) (NeverExits scope inner left) →
       MatchOption n (LeftsExit scope inner right) (NeverExits scope inner right) →
       MatchOption (option_or m n) (LeftsExit scope known body) (NeverExits scope known body)
@@ -128,42 +128,42 @@ module _ (scope : Scope) (inner known : List Name) (left right body : Tree) (has
   never_joined head None (Some at) h k = never_lift scope inner known right body has.from_right at k
   never_joined head (Some at) n h k = never_lift scope inner known left body has.from_left at h
 
-splits_prefix : (known : List Name) (action : Action) (body : Tree) (there : List Name) (part : Tree) →
-    Part known (prefix action body) there part → Portion known known body body (prefix action body) there part
+splits_prefix : (known : List Name) (action : Action) (body : BehaviourView) (there : List Name) (part : BehaviourView) →
+    IsSubexpression known (prefix action body) there part → Portion known known body body (prefix action body) there part
 splits_prefix known action body there part whole = itself
 splits_prefix known action body there part (in_prefix p) = of_left p
 
-splits_hide : (known : List Name) (gates : List Placed) (body : Tree) (there : List Name) (part : Tree) →
-    Part known (hide gates body) there part → Portion (texts gates ++ known) known body body (hide gates body) there part
+splits_hide : (known : List Name) (gates : List Placed) (body : BehaviourView) (there : List Name) (part : BehaviourView) →
+    IsSubexpression known (hide gates body) there part → Portion (texts gates ++ known) known body body (hide gates body) there part
 splits_hide known gates body there part whole = itself
 splits_hide known gates body there part (in_hide p) = of_left p
 
-splits_choice : (known : List Name) (left right : Tree) (there : List Name) (part : Tree) →
-    Part known (choice left right) there part → Portion known known left right (choice left right) there part
+splits_choice : (known : List Name) (left right : BehaviourView) (there : List Name) (part : BehaviourView) →
+    IsSubexpression known (choice left right) there part → Portion known known left right (choice left right) there part
 splits_choice known left right there part whole = itself
 splits_choice known left right there part (in_choice_left p) = of_left p
 splits_choice known left right there part (in_choice_right p) = of_right p
 
-splits_par : (known : List Name) (left right : Tree) (sync : Sync) (there : List Name) (part : Tree) →
-    Part known (par left sync right) there part → Portion known known left right (par left sync right) there part
+splits_par : (known : List Name) (left right : BehaviourView) (sync : SyncView) (there : List Name) (part : BehaviourView) →
+    IsSubexpression known (par left sync right) there part → Portion known known left right (par left sync right) there part
 splits_par known left right sync there part whole = itself
 splits_par known left right sync there part (in_par_left p) = of_left p
 splits_par known left right sync there part (in_par_right p) = of_right p
 
-splits_enable : (known : List Name) (left right : Tree) (at : ℕ) (there : List Name) (part : Tree) →
-    Part known (enable left at right) there part → Portion known known left right (enable left at right) there part
+splits_enable : (known : List Name) (left right : BehaviourView) (at : ℕ) (there : List Name) (part : BehaviourView) →
+    IsSubexpression known (enable left at right) there part → Portion known known left right (enable left at right) there part
 splits_enable known left right at there part whole = itself
 splits_enable known left right at there part (in_enable_left p) = of_left p
 splits_enable known left right at there part (in_enable_right p) = of_right p
 
-splits_disable : (known : List Name) (left right : Tree) (there : List Name) (part : Tree) →
-    Part known (disable left right) there part → Portion known known left right (disable left right) there part
+splits_disable : (known : List Name) (left right : BehaviourView) (there : List Name) (part : BehaviourView) →
+    IsSubexpression known (disable left right) there part → Portion known known left right (disable left right) there part
 splits_disable known left right there part whole = itself
 splits_disable known left right there part (in_disable_left p) = of_left p
 splits_disable known left right there part (in_disable_right p) = of_right p
 
 -- the behaviour of a prefix is its one operand
-pub of_prefix : (known : List Name) (action : Action) (body : Tree) → HasOperands known known body body (prefix action body)
+pub of_prefix : (known : List Name) (action : Action) (body : BehaviourView) → HasOperands known known body body (prefix action body)
 of_prefix known action body = record {
   from_left = λ there part p. in_prefix p;
   from_right = λ there part p. in_prefix p;
@@ -171,7 +171,7 @@ of_prefix known action body = record {
 }
 
 -- the behaviour of a hide form is its one operand, in which its gates are known too
-pub of_hide : (known : List Name) (gates : List Placed) (body : Tree) →
+pub of_hide : (known : List Name) (gates : List Placed) (body : BehaviourView) →
     HasOperands (texts gates ++ known) known body body (hide gates body)
 of_hide known gates body = record {
   from_left = λ there part p. in_hide p;
@@ -180,7 +180,7 @@ of_hide known gates body = record {
 }
 
 -- the operands of a choice
-pub of_choice : (known : List Name) (left right : Tree) → HasOperands known known left right (choice left right)
+pub of_choice : (known : List Name) (left right : BehaviourView) → HasOperands known known left right (choice left right)
 of_choice known left right = record {
   from_left = λ there part p. in_choice_left p;
   from_right = λ there part p. in_choice_right p;
@@ -188,7 +188,7 @@ of_choice known left right = record {
 }
 
 -- the operands of a parallel expression
-pub of_par : (known : List Name) (left right : Tree) (sync : Sync) → HasOperands known known left right (par left sync right)
+pub of_par : (known : List Name) (left right : BehaviourView) (sync : SyncView) → HasOperands known known left right (par left sync right)
 of_par known left right sync = record {
   from_left = λ there part p. in_par_left p;
   from_right = λ there part p. in_par_right p;
@@ -196,7 +196,7 @@ of_par known left right sync = record {
 }
 
 -- the operands of a `>>`
-pub of_enable : (known : List Name) (left right : Tree) (at : ℕ) → HasOperands known known left right (enable left at right)
+pub of_enable : (known : List Name) (left right : BehaviourView) (at : ℕ) → HasOperands known known left right (enable left at right)
 of_enable known left right at = record {
   from_left = λ there part p. in_enable_left p;
   from_right = λ there part p. in_enable_right p;
@@ -204,7 +204,7 @@ of_enable known left right at = record {
 }
 
 -- the operands of a `[>`
-pub of_disable : (known : List Name) (left right : Tree) → HasOperands known known left right (disable left right)
+pub of_disable : (known : List Name) (left right : BehaviourView) → HasOperands known known left right (disable left right)
 of_disable known left right = record {
   from_left = λ there part p. in_disable_left p;
   from_right = λ there part p. in_disable_right p;

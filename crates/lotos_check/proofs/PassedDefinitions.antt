@@ -3,36 +3,36 @@ use Rattle.std.proofs.Common.{◌≡◌, ◌⊎◌, List, [], ◌∷◌, ◌++�
 use Rattle.std.specs.Prelude.{not, if◌then◌else◌}
 use Rattle.std.specs.List.{list_any}
 use Rattle.std.specs.Str.{bytes_eq}
-use Rattle.lotos_text.specs.Tree.{Def, def, name_of, formals_of, inner_of}
-use Rattle.lotos_text.specs.View.{tree_of, row_of, definition_of, definitions_of}
-use Rattle.lotos_text.specs.declared.tree.Placed.{Placed}
-use Rattle.lotos_text.specs.declared.tree.Definition.{Definition, out-Definition, fold_out-Definition}
-use Rattle.lotos_check.specs.Names.{Name, IsSecond, AreDistinct}
+use Rattle.lotos_text.specs.AstView.{DefinitionView, def, name_of, formals_of, inner_of}
+use Rattle.lotos_text.specs.AstOf.{behaviour_view, definition_list_view, definition_view, definitions_view}
+use Rattle.lotos_text.specs.declared.ast.Placed.{Placed}
+use Rattle.lotos_text.specs.declared.ast.Definition.{Definition, out-Definition, fold_out-Definition}
+use Rattle.lotos_check.specs.NameLists.{Name, IsDuplicate, AreDistinct}
 use Rattle.lotos_check.specs.Scope.{declared_names}
-use Rattle.lotos_check.specs.Causes.{IsDistinct}
-use Rattle.lotos_check.specs.Checking.{IsRepeat}
+use Rattle.lotos_check.specs.StaticFaults.{IsDistinct}
+use Rattle.lotos_check.specs.Acceptance.{IsDuplicateFault}
 use Rattle.lotos_check.specs.declared.fault.CheckFault.{CheckFault}
 use Rattle.lotos_check.specs.declared.fault.CheckFault.TheVariants.{E20, E24}
-use Rattle.lotos_check.proofs.SeenNames.{Seen, seen_none, seen_more, seen_again, seen_all}
+use Rattle.lotos_check.proofs.VisibleNames.{Seen, seen_none, seen_more, seen_again, seen_all}
 use Rattle.lotos_check.proofs.Enclosed.{Among, repeat_inside, repeats_gate, repeats_process, distinct_whole}
 
 -- a definition of the program is seen by its parts
-pub parts_seen : (x : Definition) → definition_of x ≡
+pub parts_seen : (x : Definition) → definition_view x ≡
     def (out-Definition x).name (out-Definition x).formals.items (out-Definition x).functionality
-    (tree_of (out-Definition x).body) (definitions_of (out-Definition x).inner.items)
-parts_seen x = fold_out-Definition Def (λ d. def d.name d.formals.items d.functionality (tree_of d.body) (row_of d.inner.items)) x
+    (behaviour_view (out-Definition x).body) (definitions_view (out-Definition x).inner.items)
+parts_seen x = fold_out-Definition DefinitionView (λ d. def d.name d.formals.items d.functionality (behaviour_view d.body) (definition_list_view d.inner.items)) x
 
 -- of these definitions only the rest is left; the names of the passed ones are distinct and are the keys
 pub record Passed {K : Type 0} (now : K → Name) (keys : List K) (all rest : List Definition) : Type 0 where
-  pub names : Seen (map now keys) (declared_names (definitions_of all)) (declared_names (definitions_of rest))
-  pub done : (d : Def) → Among d (definitions_of all) → IsDistinct d ⊎ Among d (definitions_of rest)
-  pub left : (d : Def) → Among d (definitions_of rest) → Among d (definitions_of all)
+  pub names : Seen (map now keys) (declared_names (definitions_view all)) (declared_names (definitions_view rest))
+  pub done : (d : DefinitionView) → Among d (definitions_view all) → IsDistinct d ⊎ Among d (definitions_view rest)
+  pub left : (d : DefinitionView) → Among d (definitions_view rest) → Among d (definitions_view all)
 
 -- at the start none was passed
 pub passed_none : {K : Type 0} (now : K → Name) (keys : List K) (all : List Definition) → keys ≡ [] → Passed now keys all all
 passed_none now keys all none = record {
-  names = subst (λ ks. Seen (map now ks) (declared_names (definitions_of all)) (declared_names (definitions_of all))) (sym none)
-      (seen_none (declared_names (definitions_of all)));
+  names = subst (λ ks. Seen (map now ks) (declared_names (definitions_view all)) (declared_names (definitions_view all))) (sym none)
+      (seen_none (declared_names (definitions_view all)));
   done = λ d a. inr a;
   left = λ d a. a;
 }
@@ -41,70 +41,70 @@ passed_none now keys all none = record {
 module _ {K : Type 0} (now : K → Name) (old new : List K) (key : K) (all rest left : List Definition) (x : Definition) (n : Name)
     (passed : Passed now old all rest) (next : rest ≡ x ∷ left) (text : n ≡ (out-Definition x).name.name)
     (added : Bool) (says : added ≡ not (list_any (λ k. bytes_eq n (now k)) old)) where
-  names_next : declared_names (definitions_of rest) ≡ name_of (definition_of x) ∷ declared_names (definitions_of left)
-  names_next = ap (λ ds. declared_names (definitions_of ds)) next
+  names_next : declared_names (definitions_view rest) ≡ name_of (definition_view x) ∷ declared_names (definitions_view left)
+  names_next = ap (λ ds. declared_names (definitions_view ds)) next
 
-  text_seen : n ≡ (name_of (definition_of x)).name
+  text_seen : n ≡ (name_of (definition_view x)).name
   text_seen = text ∙ ap (λ d. (name_of d).name) (sym (parts_seen x))
 
-  among_next : Among (definition_of x) (definitions_of all)
-  among_next = passed.left (definition_of x) (subst (λ ds. Among (definition_of x) (definitions_of ds)) (sym next) (inl refl))
+  among_next : Among (definition_view x) (definitions_view all)
+  among_next = passed.left (definition_view x) (subst (λ ds. Among (definition_view x) (definitions_view ds)) (sym next) (inl refl))
 
   -- a definition that repeats nothing, and whose name was put behind the keys, is passed
   pub passed_more : added ≡ true → now key ≡ n → new ≡ (if list_any (λ k. bytes_eq n (now k)) old then old else old ++ key ∷ []) →
-      IsDistinct (definition_of x) → Passed now new all left
+      IsDistinct (definition_view x) → Passed now new all left
   passed_more put is_text grows distinct = record {
-    names = seen_more now old new key _ _ (declared_names (definitions_of left)) (name_of (definition_of x))
+    names = seen_more now old new key _ _ (declared_names (definitions_view left)) (name_of (definition_view x))
         n passed.names names_next text_seen added says put is_text grows;
     done = λ d a. elim (passed.done d a) [
       | inl h ↦ inl h
-      | inr h ↦ elim (subst (λ ds. Among d (definitions_of ds)) next h) [
+      | inr h ↦ elim (subst (λ ds. Among d (definitions_view ds)) next h) [
         | inl e ↦ inl
             (subst IsDistinct e distinct)
         | inr b ↦ inr b
       ]
     ];
-    left = λ d a. passed.left d (subst (λ ds. Among d (definitions_of ds)) (sym next) (inr a));
+    left = λ d a. passed.left d (subst (λ ds. Among d (definitions_view ds)) (sym next) (inr a));
   }
 
   module _ (whole : Definition) (inner : all ≡ (out-Definition whole).inner.items) where
-    inner_seen : definitions_of all ≡ inner_of (definition_of whole)
-    inner_seen = ap definitions_of inner ∙ ap inner_of (sym (parts_seen whole))
+    inner_seen : definitions_view all ≡ inner_of (definition_view whole)
+    inner_seen = ap definitions_view inner ∙ ap inner_of (sym (parts_seen whole))
 
     -- where the name was not put behind the keys, it is declared for the second time
-    pub passed_again : (p : Placed) → p ≡ (out-Definition x).name → added ≡ false → IsRepeat (definition_of whole) (E24 p)
+    pub passed_again : (p : Placed) → p ≡ (out-Definition x).name → added ≡ false → IsDuplicateFault (definition_view whole) (E24 p)
     passed_again p same stayed =
-        let second = seen_again now old new key _ _ (declared_names (definitions_of left)) (name_of (definition_of x))
+        let second = seen_again now old new key _ _ (declared_names (definitions_view left)) (name_of (definition_view x))
         n passed.names names_next text_seen added says stayed in
-        let here = subst (λ ds. IsSecond (name_of (definition_of x)) (declared_names ds)) inner_seen second in
-        repeats_process (definition_of whole) p (subst (λ q. IsSecond q (declared_names (inner_of (definition_of whole))))
+        let here = subst (λ ds. IsDuplicate (name_of (definition_view x)) (declared_names ds)) inner_seen second in
+        repeats_process (definition_view whole) p (subst (λ q. IsDuplicate q (declared_names (inner_of (definition_view whole))))
         (sym (same ∙ ap name_of (sym (parts_seen x)))) here)
 
     -- a fault of x is one of the whole
-    pub passed_inside : (fault : CheckFault) → IsRepeat (definition_of x) fault → IsRepeat (definition_of whole) fault
-    passed_inside fault h = repeat_inside (definition_of whole) (definition_of x)
-        (subst (Among (definition_of x)) inner_seen among_next) fault h
+    pub passed_inside : (fault : CheckFault) → IsDuplicateFault (definition_view x) fault → IsDuplicateFault (definition_view whole) fault
+    passed_inside fault h = repeat_inside (definition_view whole) (definition_view x)
+        (subst (Among (definition_view x)) inner_seen among_next) fault h
 
 -- a formal gate that stands twice is a fault of the whole
 pub gate_again : (whole : Definition) (gate : Placed) (formals : List Placed) → formals ≡ (out-Definition whole).formals.items →
-    IsSecond gate formals →
-    IsRepeat (definition_of whole) (E20 gate)
+    IsDuplicate gate formals →
+    IsDuplicateFault (definition_view whole) (E20 gate)
 gate_again whole gate formals same second =
-    repeats_gate (definition_of whole) gate (subst (IsSecond gate) (same ∙ ap formals_of (sym (parts_seen whole))) second)
+    repeats_gate (definition_view whole) gate (subst (IsDuplicate gate) (same ∙ ap formals_of (sym (parts_seen whole))) second)
 
 -- where all were passed and the formals are distinct, the whole repeats nothing
 pub passed_all : {K : Type 0} (now : K → Name) (keys : List K) (all rest : List Definition) (whole : Definition)
     (formals : List Placed) →
     Passed now keys all rest → rest ≡ [] → all ≡ (out-Definition whole).inner.items →
     formals ≡ (out-Definition whole).formals.items →
-    AreDistinct formals → IsDistinct (definition_of whole)
+    AreDistinct formals → IsDistinct (definition_view whole)
 passed_all now keys all rest whole formals passed none inner gates distinct =
-    let row = ap definitions_of inner ∙ ap inner_of (sym (parts_seen whole)) in
-    let names = seen_all _ _ _ passed.names (ap (λ ds. declared_names (definitions_of ds)) none) in
-    distinct_whole (definition_of whole)
+    let row = ap definitions_view inner ∙ ap inner_of (sym (parts_seen whole)) in
+    let names = seen_all _ _ _ passed.names (ap (λ ds. declared_names (definitions_view ds)) none) in
+    distinct_whole (definition_view whole)
     (subst AreDistinct (gates ∙ ap formals_of (sym (parts_seen whole))) distinct)
     (subst (λ ds. AreDistinct (declared_names ds)) row names)
     (λ d a. elim (passed.done d (subst (Among d) (sym row) a)) [
       | inl h ↦ h
-      | inr b ↦ absurd (subst (λ ds. Among d (definitions_of ds)) none b)
+      | inr b ↦ absurd (subst (λ ds. Among d (definitions_view ds)) none b)
     ])

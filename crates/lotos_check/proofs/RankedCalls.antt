@@ -1,14 +1,14 @@
 -- The ranks of both processes of an unguarded call.
 use Rattle.std.proofs.Common.{◌≡◌, ℕ, ◌<◌, List, Some, length, slice_get, get_or, arith}
 use Rattle.std.proofs.lemmas.Option.{slice_get_within, slice_get-get_or}
-use Rattle.lotos_text.specs.Tree.{Def}
+use Rattle.lotos_text.specs.AstView.{DefinitionView}
 use Rattle.lotos_check.specs.Flat.{System, IsFlat}
 use Rattle.lotos_check.specs.Guard.{Calls}
-use Rattle.lotos_check.specs.Checking.{AreRanks}
-use Rattle.lotos_check.proofs.OneSystem.{calls_within}
+use Rattle.lotos_check.specs.Acceptance.{AreRanks}
+use Rattle.lotos_check.proofs.FlatSystemUnique.{calls_within}
 
 -- both processes of an unguarded call have a rank, and that of the called one is smaller
-pub call_falls : (whole : Def) (s : System) (ranks : List ℕ) → IsFlat whole s → AreRanks s.processes ranks →
+pub call_falls : (whole : DefinitionView) (s : System) (ranks : List ℕ) → IsFlat whole s → AreRanks s.processes ranks →
     (p q : ℕ) → Calls s.processes p q → (r t : ℕ) × (slice_get ranks p ≡ Some r) × (slice_get ranks q ≡ Some t) × (t < r)
 call_falls whole s ranks flat ranked p q h =
     let all = ranked.all in

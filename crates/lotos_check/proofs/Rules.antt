@@ -1,27 +1,27 @@
 -- From what the passes find to the static rules and to the flat system.
 use Rattle.std.proofs.Common.{◌≡◌, ℕ, List, [], ◌∷◌, length, map, refl, sym, ap, ◌∙◌, subst, inl, inr, Option, Some, None}
 use Rattle.std.specs.Prelude.{MatchOption}
-use Rattle.lotos_text.specs.Tree.{Tree, Def, formals_of, declared_of, body_of, inner_of}
-use Rattle.lotos_text.specs.declared.tree.Placed.{Placed}
-use Rattle.lotos_text.specs.declared.tree.Functionality.{Functionality}
-use Rattle.lotos_text.specs.declared.tree.Functionality.TheVariants.{Exit, NoExit}
-use Rattle.lotos_check.specs.Names.{Name, In, texts}
-use Rattle.lotos_check.specs.Scope.{Scope, Scoped, DistinctScope, IsDefinition, within, processes_of, everywhere, definitions_in, row_in}
-use Rattle.lotos_check.specs.Functionalities.{Func, of_stop, of_exit, of_prefix, of_hide, of_choice, of_disable, of_par, of_enable, of_call}
+use Rattle.lotos_text.specs.AstView.{BehaviourView, DefinitionView, formals_of, declared_of, body_of, inner_of}
+use Rattle.lotos_text.specs.declared.ast.Placed.{Placed}
+use Rattle.lotos_text.specs.declared.ast.Functionality.{Functionality}
+use Rattle.lotos_text.specs.declared.ast.Functionality.TheVariants.{Exit, NoExit}
+use Rattle.lotos_check.specs.NameLists.{Name, In, texts}
+use Rattle.lotos_check.specs.Scope.{Scope, Scoped, IsDistinctScope, IsDefinition, within, processes_of, all_definitions, definitions_in, row_in}
+use Rattle.lotos_check.specs.Functionality.{Func, of_stop, of_exit, of_prefix, of_hide, of_choice, of_disable, of_par, of_enable, of_call}
 use Rattle.lotos_check.specs.Flat.{Pairwise, no_pair, one_pair, IsProcess, IsFlat, Resolves}
-use Rattle.lotos_check.specs.View.{flat_of, process_of}
-use Rattle.lotos_check.specs.Causes.{IsDistinct, WellTyped, IsE21, IsE22, IsE23, IsE25, IsE26}
-use Rattle.lotos_check.specs.Resolved.{IsBody, Adds, LeftsExit, NeverExits}
-use Rattle.lotos_check.specs.Typing.{IsTyped}
-use Rattle.lotos_check.specs.Checking.{AreMade, none_made, one_made, IsFlattened, made}
-use Rattle.lotos_check.specs.declared.body.Resolved.{Resolved}
-use Rattle.lotos_check.specs.declared.code.Code.{Code}
-use Rattle.lotos_check.specs.declared.code.Process.{Process}
-use Rattle.lotos_check.proofs.OneMeaning.{one_meant}
+use Rattle.lotos_check.specs.CheckedView.{flat_of, process_of}
+use Rattle.lotos_check.specs.StaticFaults.{IsDistinct, WellTyped, IsE21, IsE22, IsE23, IsE25, IsE26}
+use Rattle.lotos_check.specs.Resolution.{IsResolvedBody, AddsBodies, LeftsExit, NeverExits}
+use Rattle.lotos_check.specs.FunctionalityRules.{HasDeclaredFunctionality}
+use Rattle.lotos_check.specs.Acceptance.{AreProcessesOfBodies, no_processes, one_process, IsFlattened, flattens}
+use Rattle.lotos_check.specs.declared.resolution.ResolvedBody.{ResolvedBody}
+use Rattle.lotos_check.specs.declared.resolved.Code.{Code}
+use Rattle.lotos_check.specs.declared.resolved.Process.{Process}
+use Rattle.lotos_check.proofs.BindingUnique.{one_meant}
 use Rattle.lotos_check.proofs.ScopedDefinitions.{everywhere_in_order, visible_distinct, listed_row}
 
 -- a behaviour has one functionality where names have one meaning
-pub one_functionality : (scope : Scope) → DistinctScope scope → (t : Tree) (f g : Functionality) → Func scope t f → Func scope t g → f ≡ g
+pub one_functionality : (scope : Scope) → IsDistinctScope scope → (t : BehaviourView) (f g : Functionality) → Func scope t f → Func scope t g → f ≡ g
 one_functionality scope distinct t f g of_stop of_stop = refl
 one_functionality scope distinct t f g of_exit of_exit = refl
 one_functionality scope distinct t f g (of_prefix x) (of_prefix y) = one_functionality scope distinct _ f g x y
@@ -51,16 +51,16 @@ paired_twice view (x ∷ xs) [] p q = elim p [ ]
 paired_twice view (x ∷ xs) (y ∷ ys) (one_pair a p) (one_pair b q) = one_pair (a, b) (paired_twice view xs ys p q)
 
 -- what the walk found, by the definitions where they stand
-pub walked : (whole : Def) (found : List Resolved) → Adds (everywhere whole) [] found → Pairwise IsBody (everywhere whole) found
-walked whole found adds = subst (λ t. Pairwise IsBody (everywhere whole) t) (sym adds.joined) adds.found
+pub walked : (whole : DefinitionView) (found : List ResolvedBody) → AddsBodies (all_definitions whole) [] found → Pairwise IsResolvedBody (all_definitions whole) found
+walked whole found adds = subst (λ t. Pairwise IsResolvedBody (all_definitions whole) t) (sym adds.joined) adds.found
 
-module _ (whole : Def) (found : List Resolved) (distinct : IsDistinct whole) (bodies : Pairwise IsBody (everywhere whole) found)
-    (typed : Pairwise IsTyped (definitions_in whole) found) where
-  one_found : (scope : Scope) (d : Def) → IsDefinition whole scope d →
-      (r : Resolved) × (IsBody (record { scope = scope; definition = d }) r × IsTyped d r)
+module _ (whole : DefinitionView) (found : List ResolvedBody) (distinct : IsDistinct whole) (bodies : Pairwise IsResolvedBody (all_definitions whole) found)
+    (typed : Pairwise HasDeclaredFunctionality (definitions_in whole) found) where
+  one_found : (scope : Scope) (d : DefinitionView) → IsDefinition whole scope d →
+      (r : ResolvedBody) × (IsResolvedBody (record { scope = scope; definition = d }) r × HasDeclaredFunctionality d r)
   one_found scope d stands =
-      let both = paired_twice (λ v. v.definition) (everywhere whole) found bodies
-      (subst (λ t. Pairwise IsTyped t found) (everywhere_in_order whole) typed) in
+      let both = paired_twice (λ v. v.definition) (all_definitions whole) found bodies
+      (subst (λ t. Pairwise HasDeclaredFunctionality t found) (everywhere_in_order whole) typed) in
       paired both (record { scope = scope; definition = d }) stands
 
   no_unknown_gate : (p : Placed) → IsE21 whole p → ⊥
@@ -88,7 +88,7 @@ module _ (whole : Def) (found : List Resolved) (distinct : IsDistinct whole) (bo
       let scoped = visible_distinct whole distinct (record { scope = h.scope; definition = h.definition }) h.stands in
       h.differ (one_functionality h.scope scoped (body_of h.definition) h.other r.0.functionality h.has r.1.0.has ∙ r.1.1.same ∙ sym h.says)
 
-  all_exit : (scope : Scope) (known : List Name) (body : Tree) (at : Option ℕ) → at ≡ None →
+  all_exit : (scope : Scope) (known : List Name) (body : BehaviourView) (at : Option ℕ) → at ≡ None →
       MatchOption at (LeftsExit scope known body) (NeverExits scope known body) → LeftsExit scope known body
   all_exit scope known body None e h = h
   all_exit scope known body (Some at) e h = cc
@@ -98,8 +98,8 @@ module _ (whole : Def) (found : List Resolved) (distinct : IsDistinct whole) (bo
       let d = h.occurs.definition in
       let r = one_found h.scope d h.occurs.stands in
       let scoped = visible_distinct whole distinct (record { scope = h.scope; definition = d }) h.occurs.stands in
-      let exits = all_exit h.scope (texts (formals_of d)) (body_of d) r.0.never r.1.1.exits r.1.0.lefts h.known h.left h.right at h.occurs.inside in
-      let e : Exit ≡ NoExit = one_functionality h.scope scoped h.left Exit NoExit exits h.never in
+      let exits = all_exit h.scope (texts (formals_of d)) (body_of d) r.0.never_exits r.1.1.exits r.1.0.lefts h.known h.left h.right at h.occurs.inside in
+      let e : Exit ≡ NoExit = one_functionality h.scope scoped h.left Exit NoExit exits h.never_exits in
       cc
 
   -- what the passes find without a fault is well typed
@@ -113,10 +113,10 @@ module _ (whole : Def) (found : List Resolved) (distinct : IsDistinct whole) (bo
     left_exits = no_stuck_enabling;
   }
 
-flat_processes : (vs : List Scoped) (found : List Resolved) (processes : List Process) → Pairwise IsBody vs found →
-    AreMade (map (λ v. v.definition) vs) found processes → Pairwise IsProcess vs (map process_of processes)
-flat_processes [] [] [] no_pair none_made = no_pair
-flat_processes (v ∷ vs) (r ∷ found) (p ∷ processes) (one_pair b bodies) (one_made m all) =
+flat_processes : (vs : List Scoped) (found : List ResolvedBody) (processes : List Process) → Pairwise IsResolvedBody vs found →
+    AreProcessesOfBodies (map (λ v. v.definition) vs) found processes → Pairwise IsProcess vs (map process_of processes)
+flat_processes [] [] [] no_pair no_processes = no_pair
+flat_processes (v ∷ vs) (r ∷ found) (p ∷ processes) (one_pair b bodies) (one_process m all) =
     one_pair
     (record {
       name = m.name;
@@ -130,18 +130,18 @@ flat_processes (v ∷ vs) [] processes b a = elim b [ ]
 flat_processes [] [] (p ∷ processes) b a = elim a [ ]
 flat_processes (v ∷ vs) (r ∷ found) [] b a = elim a [ ]
 
-flat_all : (v : Scoped) (vs : List Scoped) (ds : List Def) (found : List Resolved) (start : Code) (processes : List Process) →
-    ds ≡ map (λ v. v.definition) vs → Pairwise IsBody (v ∷ vs) found → IsFlattened (v.definition ∷ ds) found start processes →
+flat_all : (v : Scoped) (vs : List Scoped) (ds : List DefinitionView) (found : List ResolvedBody) (start : Code) (processes : List Process) →
+    ds ≡ map (λ v. v.definition) vs → Pairwise IsResolvedBody (v ∷ vs) found → IsFlattened (v.definition ∷ ds) found start processes →
     Resolves v.scope (body_of v.definition) (flat_of start) × Pairwise IsProcess vs (map process_of processes)
-flat_all v vs ds (r ∷ found) start processes e (one_pair b bodies) (made s all) = (
+flat_all v vs ds (r ∷ found) start processes e (one_pair b bodies) (flattens s all) = (
   subst (λ t. Resolves v.scope (body_of v.definition) t) (sym s) b.code,
-  flat_processes vs found processes bodies (subst (λ t. AreMade t found processes) e all),
+  flat_processes vs found processes bodies (subst (λ t. AreProcessesOfBodies t found processes) e all),
 )
 flat_all v vs ds [] start processes e b m = elim b [ ]
 
 -- the code of all definitions is the flat system
-pub flat_system : (whole : Def) (found : List Resolved) (formals : List Name) (start : Code) (processes : List Process) →
-    Pairwise IsBody (everywhere whole) found → IsFlattened (whole ∷ row_in (inner_of whole)) found start processes → formals ≡ texts (formals_of whole) →
+pub flat_system : (whole : DefinitionView) (found : List ResolvedBody) (formals : List Name) (start : Code) (processes : List Process) →
+    Pairwise IsResolvedBody (all_definitions whole) found → IsFlattened (whole ∷ row_in (inner_of whole)) found start processes → formals ≡ texts (formals_of whole) →
     IsFlat whole (record { formals = formals; start = flat_of start; processes = map process_of processes })
 flat_system whole found formals start processes bodies flattened named =
     let both = flat_all (record { scope = within whole 0 []; definition = whole }) (processes_of whole) (row_in (inner_of whole)) found start processes

@@ -1,44 +1,44 @@
 -- All definitions with what is visible in them: how many, in which order, and which definitions enclose them.
 use Rattle.std.proofs.Common.{◌≡◌, ℕ, ◌+◌, ◌<◌, ◌≤◌, ◌⊎◌, List, [], ◌∷◌, ◌++◌, length, map, refl, sym, ap, subst, inl, inr, arith, length-append}
 use Rattle.std.proofs.lemmas.List.{map-append, length-map}
-use Rattle.lotos_text.specs.Tree.{Def, def, Defs, no_defs, more_defs, inner_of}
-use Rattle.lotos_check.specs.Names.{Name, In}
-use Rattle.lotos_check.specs.Scope.{Scope, Where, Scoped, Declares, here, later, Means, nearest, outward, count, within, listed, processes_of, everywhere, definitions_in, row_in, DistinctScope}
-use Rattle.lotos_check.specs.Causes.{IsDistinct}
+use Rattle.lotos_text.specs.AstView.{DefinitionView, def, DefinitionListView, no_defs, more_defs, inner_of}
+use Rattle.lotos_check.specs.NameLists.{Name, In}
+use Rattle.lotos_check.specs.Scope.{Scope, Where, Scoped, Declares, here, later, Binds, nearest, outward, count, within, definitions_in_scope, processes_of, all_definitions, definitions_in, row_in, IsDistinctScope}
+use Rattle.lotos_check.specs.StaticFaults.{IsDistinct}
 
 -- how many definitions are listed
-pub listed_count : (scope : Scope) (k : ℕ) (ds : Defs) → length (listed scope k ds) ≡ count ds
+pub listed_count : (scope : Scope) (k : ℕ) (ds : DefinitionListView) → length (definitions_in_scope scope k ds) ≡ count ds
 listed_count scope k no_defs = refl
 listed_count scope k (more_defs (def name formals declared body inner) ds) =
     let own = record { defs = inner; first = k + 1 } ∷ scope in
     let i = listed_count own (k + 1) inner in
     let r = listed_count scope (k + 1 + count inner) ds in
-    let j = length-append (listed own (k + 1) inner) (listed scope (k + 1 + count inner) ds) in
+    let j = length-append (definitions_in_scope own (k + 1) inner) (definitions_in_scope scope (k + 1 + count inner) ds) in
     omega arith
 
 -- which definitions are listed does not depend on the scope
-pub listed_row : (scope : Scope) (k : ℕ) (ds : Defs) → row_in ds ≡ map (λ v. v.definition) (listed scope k ds)
+pub listed_row : (scope : Scope) (k : ℕ) (ds : DefinitionListView) → row_in ds ≡ map (λ v. v.definition) (definitions_in_scope scope k ds)
 listed_row scope k no_defs = refl
 listed_row scope k (more_defs (def name formals declared body inner) ds) =
     let own = record { defs = inner; first = k + 1 } ∷ scope in
     let i = listed_row own (k + 1) inner in
     let r = listed_row scope (k + 1 + count inner) ds in
-    let j = map-append (λ v. v.definition) (listed own (k + 1) inner) (listed scope (k + 1 + count inner) ds) in
-    let both : row_in inner ++ row_in ds ≡ map (λ v. v.definition) (listed own (k + 1) inner ++ listed scope (k + 1 + count inner) ds) =
+    let j = map-append (λ v. v.definition) (definitions_in_scope own (k + 1) inner) (definitions_in_scope scope (k + 1 + count inner) ds) in
+    let both : row_in inner ++ row_in ds ≡ map (λ v. v.definition) (definitions_in_scope own (k + 1) inner ++ definitions_in_scope scope (k + 1 + count inner) ds) =
     rw (i, r) (sym j) in
     ap (λ t. def name formals declared body inner ∷ t) both
 
 -- the definitions of a specification in order are those with what is visible in them
-pub everywhere_in_order : (whole : Def) → definitions_in whole ≡ map (λ v. v.definition) (everywhere whole)
+pub everywhere_in_order : (whole : DefinitionView) → definitions_in whole ≡ map (λ v. v.definition) (all_definitions whole)
 everywhere_in_order (def name formals declared body inner) =
     ap (λ t. def name formals declared body inner ∷ t) (listed_row (within (def name formals declared body inner) 0 []) 0 inner)
 
 -- how many definitions a specification has
-pub definitions_count : (whole : Def) → length (definitions_in whole) ≡ 1 + count (inner_of whole)
+pub definitions_count : (whole : DefinitionView) → length (definitions_in whole) ≡ 1 + count (inner_of whole)
 definitions_count (def name formals declared body inner) =
     let e = ap length (listed_row [] 0 inner) in
     let c = listed_count [] 0 inner in
-    let m = length-map (listed [] 0 inner) (λ v. v.definition) in
+    let m = length-map (definitions_in_scope [] 0 inner) (λ v. v.definition) in
     omega arith
 
 -- what stands in two lists joined stands in one of them
@@ -57,27 +57,27 @@ in_right x [] ys i = i
 in_right x (y ∷ xs) ys i = inr (in_right x xs ys i)
 
 -- the `where` is that of a definition of the specification, and its processes are among those of the specification
-pub record IsWhereOf (whole : Def) (w : Where) : Type 0 where
+pub record IsWhereOf (whole : DefinitionView) (w : Where) : Type 0 where
   pub scoped : Scoped
-  pub stands : In scoped (everywhere whole)
+  pub stands : In scoped (all_definitions whole)
   pub same : w.defs ≡ inner_of scoped.definition
   pub fits : w.first + count w.defs ≤ count (inner_of whole)
 
-abbrev AllWheres : Def → Scope → Type 0
+abbrev AllWheres : DefinitionView → Scope → Type 0
 AllWheres whole scope = (w : Where) → In w scope → IsWhereOf whole w
 
-more_wheres : (whole : Def) (w : Where) (scope : Scope) → IsWhereOf whole w → AllWheres whole scope → AllWheres whole (w ∷ scope)
+more_wheres : (whole : DefinitionView) (w : Where) (scope : Scope) → IsWhereOf whole w → AllWheres whole scope → AllWheres whole (w ∷ scope)
 more_wheres whole w scope h all x (inl e) = subst (IsWhereOf whole) e h
 more_wheres whole w scope h all x (inr i) = all x i
 
-listed_wheres : (whole : Def) (scope : Scope) (k : ℕ) (ds : Defs) → ((v : Scoped) → In v (listed scope k ds) → In v (everywhere whole)) →
-    k + count ds ≤ count (inner_of whole) → AllWheres whole scope → (v : Scoped) → In v (listed scope k ds) → AllWheres whole v.scope
+listed_wheres : (whole : DefinitionView) (scope : Scope) (k : ℕ) (ds : DefinitionListView) → ((v : Scoped) → In v (definitions_in_scope scope k ds) → In v (all_definitions whole)) →
+    k + count ds ≤ count (inner_of whole) → AllWheres whole scope → (v : Scoped) → In v (definitions_in_scope scope k ds) → AllWheres whole v.scope
 listed_wheres whole scope k no_defs sub fits all v i = absurd i
 listed_wheres whole scope k (more_defs (def name formals declared body inner) ds) sub fits all v i =
     let own = record { defs = inner; first = k + 1 } ∷ scope in
     let this : Scoped = record { scope = own; definition = def name formals declared body inner } in
-    let deep = listed own (k + 1) inner in
-    let rest = listed scope (k + 1 + count inner) ds in
+    let deep = definitions_in_scope own (k + 1) inner in
+    let rest = definitions_in_scope scope (k + 1 + count inner) ds in
     let here_fits : (k + 1) + count inner ≤ count (inner_of whole) = omega arith in
     let here : IsWhereOf whole (record { defs = inner; first = k + 1 }) =
     record { scoped = this; stands = sub this (inl refl); same = refl; fits = here_fits } in
@@ -91,7 +91,7 @@ listed_wheres whole scope k (more_defs (def name formals declared body inner) ds
     ]
 
 -- each `where` that is visible in a definition of the specification is that of one
-pub visible_wheres : (whole : Def) (v : Scoped) → In v (everywhere whole) → (w : Where) → In w v.scope → IsWhereOf whole w
+pub visible_wheres : (whole : DefinitionView) (v : Scoped) → In v (all_definitions whole) → (w : Where) → In w v.scope → IsWhereOf whole w
 visible_wheres whole v i =
     let own : Where = record { defs = inner_of whole; first = 0 } in
     let top : Scoped = record { scope = own ∷ []; definition = whole } in
@@ -103,26 +103,26 @@ visible_wheres whole v i =
     ]
 
 -- where names are distinct, no visible `where` declares one twice
-pub visible_distinct : (whole : Def) → IsDistinct whole → (v : Scoped) → In v (everywhere whole) → DistinctScope v.scope
+pub visible_distinct : (whole : DefinitionView) → IsDistinct whole → (v : Scoped) → In v (all_definitions whole) → IsDistinctScope v.scope
 visible_distinct whole distinct v i w j p s =
     let h = visible_wheres whole v i w j in
     let e = h.same in
     distinct.processes p (record { scope = h.scoped.scope; definition = h.scoped.definition; stands = h.stands; second = rw e at s })
 
-declares_below : (ds : Defs) (k : ℕ) (n : Name) (q : ℕ) (d : Def) → Declares ds k n q d → q < k + count ds
+declares_below : (ds : DefinitionListView) (k : ℕ) (n : Name) (q : ℕ) (d : DefinitionView) → Declares ds k n q d → q < k + count ds
 declares_below (more_defs (def name formals declared body inner) ds) k n q d here = omega arith
 declares_below (more_defs (def name formals declared body inner) ds) k n q d (later x) =
     let r = declares_below ds (k + 1 + count inner) n q d x in omega arith
 declares_below no_defs k n q d x = elim x [ ]
 
-means_below : (whole : Def) (scope : Scope) → AllWheres whole scope → (n : Name) (q : ℕ) (d : Def) → Means scope n q d → q < count (inner_of whole)
+means_below : (whole : DefinitionView) (scope : Scope) → AllWheres whole scope → (n : Name) (q : ℕ) (d : DefinitionView) → Binds scope n q d → q < count (inner_of whole)
 means_below whole (w ∷ ws) all n q d (nearest x) =
     let r = declares_below w.defs w.first n q d x in let f = (all w (inl refl)).fits in omega arith
 means_below whole (w ∷ ws) all n q d (outward none x) = means_below whole ws (λ v i. all v (inr i)) n q d x
 means_below whole [] all n q d x = elim x [ ]
 
 -- the number that a name means anywhere in the specification is that of one of its processes
-pub meant_below : (whole : Def) (v : Scoped) → In v (everywhere whole) → (n : Name) (q : ℕ) (d : Def) → Means v.scope n q d → q < length (processes_of whole)
+pub meant_below : (whole : DefinitionView) (v : Scoped) → In v (all_definitions whole) → (n : Name) (q : ℕ) (d : DefinitionView) → Binds v.scope n q d → q < length (processes_of whole)
 meant_below whole v i n q d m =
     let r = means_below whole v.scope (visible_wheres whole v i) n q d m in
     let c = listed_count (within whole 0 []) 0 (inner_of whole) in

@@ -1,6 +1,6 @@
 -- The unguarded calls of a behaviour, from those of its parts.
 use Rattle.std.proofs.Common.{◌≡◌, ◌↔◌, ◌⊎◌, ℕ, List, [], ◌∷◌, ◌++◌, Option, refl, inl, inr}
-use Rattle.lotos_check.specs.Names.{Name, In}
+use Rattle.lotos_check.specs.NameLists.{Name, In}
 use Rattle.lotos_check.specs.Flat.{Flat, choice, par, hide, enable, disable, call}
 use Rattle.lotos_check.specs.Guard.{CallsUnguarded, itself, left_choice, right_choice, left_par, right_par, under_hide, left_enable, left_disable, right_disable}
 

@@ -3,11 +3,11 @@ use Rattle.std.proofs.Common.{◌≡◌, ℕ, ◌+◌, ◌<◌, zero, suc, List,
 use Rattle.std.specs.Prelude.{slice_get}
 use Rattle.std.proofs.lemmas.List.{length-map}
 use Rattle.std.proofs.lemmas.Option.{slice_get_within, slice_get-get_or, slice_get-map}
-use Rattle.lotos_check.specs.Names.{In}
+use Rattle.lotos_check.specs.NameLists.{In}
 use Rattle.lotos_check.specs.Flat.{FlatProcess, Pairwise}
 use Rattle.lotos_check.specs.Guard.{IsLargestUnguardedSet, IsRanking, IsUnguardedSet}
-use Rattle.lotos_check.specs.Guarding.{AreCalls, AreWaiting, IsNumbered, IsUnguarded}
-use Rattle.lotos_check.specs.Checking.{AreRanks}
+use Rattle.lotos_check.specs.RankingSteps.{AreCalls, AreUnranked, AreMaximalRanks, IsUnguarded}
+use Rattle.lotos_check.specs.Acceptance.{AreRanks}
 use Rattle.lotos_check.proofs.CallLists.{edges_length, lists_call, calls_list}
 
 falls_from : (processes : List FlatProcess) (set : List ℕ) (rank : ℕ → ℕ) → IsUnguardedSet processes set →
@@ -25,7 +25,7 @@ unguarded_has_no_ranking processes set rank p unguarded stands falls =
     falls_from processes set rank unguarded falls (rank p + 1) p (omega arith) stands
 
 module _ (edges : List (List ℕ)) (processes : List FlatProcess) (ranks : List (Option ℕ))
-    (all : Pairwise AreCalls edges processes) (given : IsNumbered edges ranks) where
+    (all : Pairwise AreCalls edges processes) (given : AreMaximalRanks edges ranks) where
   descent : (other : List ℕ) → IsUnguardedSet processes other → (n p r : ℕ) → r < n → slice_get ranks p ≡ Some (Some r) → In p other → ⊥
   descent other unguarded zero p r below has stands = omega (arith, below)
   descent other unguarded (suc n) p r below has stands =
@@ -49,7 +49,7 @@ module _ (edges : List (List ℕ)) (processes : List FlatProcess) (ranks : List 
       let inside : p < length ranks = omega arith in
       waits_at other unguarded p stands _ (slice_get-get_or ranks p None inside)
 
-  largest : (set : List ℕ) → AreWaiting set ranks → IsLargestUnguardedSet processes set
+  largest : (set : List ℕ) → AreUnranked set ranks → IsLargestUnguardedSet processes set
   largest set waiting = record {
     unguarded = λ p stands.
         let next = given.stuck p ((waiting.same p).0 stands) in
@@ -59,7 +59,7 @@ module _ (edges : List (List ℕ)) (processes : List FlatProcess) (ranks : List 
   }
 
   -- the processes without a number are the largest such set
-  pub is_unguarded : (set : List ℕ) → AreWaiting set ranks → (set ≡ [] → ⊥) → IsUnguarded processes set
+  pub is_unguarded : (set : List ℕ) → AreUnranked set ranks → (set ≡ [] → ⊥) → IsUnguarded processes set
   is_unguarded [] waiting some = absurd (some refl)
   is_unguarded (first ∷ others) waiting some = record {
     first = first;

@@ -1,13 +1,13 @@
 -- The flat system of a specification: its behaviour and its processes, with calls by number.
 use Rattle.std.specs.Prelude.{◌≡◌, ℕ, List, [], ◌∷◌, Option, Some, None}
-use Rattle.lotos_text.specs.Tree as t
-use Rattle.lotos_text.specs.Tree.{Tree, Def, name_of, formals_of, declared_of, body_of}
-use Rattle.lotos_text.specs.declared.tree.Placed.{Placed}
-use Rattle.lotos_text.specs.declared.tree.Functionality.{Functionality}
-use Rattle.lotos_text.specs.declared.tree.Action.{Action}
-use Rattle.lotos_text.specs.declared.tree.Action.TheVariants.{Internal, Gate}
-use Rattle.lotos_check.specs.Names.{Name, texts, IsSetOf}
-use Rattle.lotos_check.specs.Scope.{Scope, Means, Scoped, within, processes_of}
+use Rattle.lotos_text.specs.AstView as t
+use Rattle.lotos_text.specs.AstView.{BehaviourView, DefinitionView, name_of, formals_of, declared_of, body_of}
+use Rattle.lotos_text.specs.declared.ast.Placed.{Placed}
+use Rattle.lotos_text.specs.declared.ast.Functionality.{Functionality}
+use Rattle.lotos_text.specs.declared.ast.Action.{Action}
+use Rattle.lotos_text.specs.declared.ast.Action.TheVariants.{Internal, Gate}
+use Rattle.lotos_check.specs.NameLists.{Name, texts, IsSetOf}
+use Rattle.lotos_check.specs.Scope.{Scope, Binds, Scoped, within, processes_of}
 
 -- A behaviour with calls by number. A prefix of none is one of the internal action; a parallel expression on none
 -- synchronizes on all gates.
@@ -40,21 +40,21 @@ action_of Internal = None
 action_of (Gate g) = Some g.name
 
 -- where these processes are visible, the behaviour is that one with calls by number
-pub data Resolves (scope : Scope) : Tree → Flat → Type 0 where
+pub data Resolves (scope : Scope) : BehaviourView → Flat → Type 0 where
   of_stop : Resolves scope t.stop stop
   of_exit : Resolves scope t.exit exit
-  of_prefix : {a : Action} {b : Tree} {c : Flat} → Resolves scope b c → Resolves scope (t.prefix a b) (prefix (action_of a) c)
-  of_choice : {l r : Tree} {c e : Flat} → Resolves scope l c → Resolves scope r e → Resolves scope (t.choice l r) (choice c e)
-  of_par : {l r : Tree} {gs : List Placed} {names : List Name} {c e : Flat} →
+  of_prefix : {a : Action} {b : BehaviourView} {c : Flat} → Resolves scope b c → Resolves scope (t.prefix a b) (prefix (action_of a) c)
+  of_choice : {l r : BehaviourView} {c e : Flat} → Resolves scope l c → Resolves scope r e → Resolves scope (t.choice l r) (choice c e)
+  of_par : {l r : BehaviourView} {gs : List Placed} {names : List Name} {c e : Flat} →
       Resolves scope l c → IsSetOf names gs → Resolves scope r e → Resolves scope (t.par l (t.gates gs) r) (par c (Some names) e)
-  of_par_all : {l r : Tree} {c e : Flat} → Resolves scope l c → Resolves scope r e →
+  of_par_all : {l r : BehaviourView} {c e : Flat} → Resolves scope l c → Resolves scope r e →
       Resolves scope (t.par l t.all r) (par c None e)
-  of_hide : {gs : List Placed} {names : List Name} {b : Tree} {c : Flat} →
+  of_hide : {gs : List Placed} {names : List Name} {b : BehaviourView} {c : Flat} →
       IsSetOf names gs → Resolves scope b c → Resolves scope (t.hide gs b) (hide names c)
-  of_enable : {l r : Tree} {at : ℕ} {c e : Flat} →
+  of_enable : {l r : BehaviourView} {at : ℕ} {c e : Flat} →
       Resolves scope l c → Resolves scope r e → Resolves scope (t.enable l at r) (enable c e)
-  of_disable : {l r : Tree} {c e : Flat} → Resolves scope l c → Resolves scope r e → Resolves scope (t.disable l r) (disable c e)
-  of_call : {p : Placed} {gs : List Placed} {k : ℕ} {d : Def} → Means scope p.name k d →
+  of_disable : {l r : BehaviourView} {c e : Flat} → Resolves scope l c → Resolves scope r e → Resolves scope (t.disable l r) (disable c e)
+  of_call : {p : Placed} {gs : List Placed} {k : ℕ} {d : DefinitionView} → Binds scope p.name k d →
       Resolves scope (t.call p gs) (call k (texts gs))
 
 -- the process is this definition, with calls by number
@@ -70,7 +70,7 @@ pub data Pairwise {X Y : Type 0} (P : X → Y → Type 0) : List X → List Y �
   one_pair : {x : X} {y : Y} {xs : List X} {ys : List Y} → P x y → Pairwise P xs ys → Pairwise P (x ∷ xs) (y ∷ ys)
 
 -- the flat system of the specification
-pub record IsFlat (whole : Def) (system : System) : Type 0 where
+pub record IsFlat (whole : DefinitionView) (system : System) : Type 0 where
   pub formals : system.formals ≡ texts (formals_of whole)
   pub start : Resolves (within whole 0 []) (body_of whole) system.start
   pub processes : Pairwise IsProcess (processes_of whole) system.processes

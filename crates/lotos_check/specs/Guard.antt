@@ -1,8 +1,8 @@
 -- Guarded recursion.
 use Rattle.std.specs.Prelude.{◌≡◌, ℕ, ◌<◌, List, [], ◌∷◌, Option, Some, slice_get}
-use Rattle.lotos_text.specs.Tree.{Def, name_of}
-use Rattle.lotos_text.specs.declared.tree.Placed.{Placed}
-use Rattle.lotos_check.specs.Names.{Name, In}
+use Rattle.lotos_text.specs.AstView.{DefinitionView, name_of}
+use Rattle.lotos_text.specs.declared.ast.Placed.{Placed}
+use Rattle.lotos_check.specs.NameLists.{Name, In}
 use Rattle.lotos_check.specs.Scope.{Scoped, processes_of}
 use Rattle.lotos_check.specs.Flat.{Flat, choice, par, hide, enable, disable, call, FlatProcess, System, IsFlat}
 
@@ -38,19 +38,19 @@ abbrev pub IsUnguardedSet : List FlatProcess → List ℕ → Type 0
 IsUnguardedSet processes set = (p : ℕ) → In p set → (q : ℕ) × Calls processes p q × In q set
 
 -- each number is smaller than the next
-pub data Rises : List ℕ → Type 0 where
-  none : Rises []
-  one : {x : ℕ} → Rises (x ∷ [])
-  more : {x y : ℕ} {ys : List ℕ} → x < y → Rises (y ∷ ys) → Rises (x ∷ y ∷ ys)
+pub data IsAscending : List ℕ → Type 0 where
+  none : IsAscending []
+  one : {x : ℕ} → IsAscending (x ∷ [])
+  more : {x y : ℕ} {ys : List ℕ} → x < y → IsAscending (y ∷ ys) → IsAscending (x ∷ y ∷ ys)
 
 -- the largest set of that kind: every other lies inside it
 pub record IsLargestUnguardedSet (processes : List FlatProcess) (set : List ℕ) : Type 0 where
   pub unguarded : IsUnguardedSet processes set
   pub largest : (other : List ℕ) → IsUnguardedSet processes other → (p : ℕ) → In p other → In p set
-  pub rises : Rises set
+  pub rises : IsAscending set
 
 -- recursion is not guarded: the largest set is not empty, and this is the name of its first process
-pub record IsE27 (whole : Def) (name : Placed) (set : List ℕ) : Type 0 where
+pub record IsE27 (whole : DefinitionView) (name : Placed) (set : List ℕ) : Type 0 where
   pub system : System
   pub flat : IsFlat whole system
   pub unguarded : IsLargestUnguardedSet system.processes set

@@ -1,22 +1,22 @@
 -- What a process name means: the definition of that name in the nearest enclosing `where`.
 use Rattle.std.specs.Prelude.{ℕ, ◌+◌, List, [], ◌∷◌, ◌++◌}
-use Rattle.lotos_text.specs.Tree.{Def, def, Defs, no_defs, more_defs, name_of, inner_of}
-use Rattle.lotos_text.specs.declared.tree.Placed.{Placed}
-use Rattle.lotos_check.specs.Names.{Name, In, AreDistinct}
+use Rattle.lotos_text.specs.AstView.{DefinitionView, def, DefinitionListView, no_defs, more_defs, name_of, inner_of}
+use Rattle.lotos_text.specs.declared.ast.Placed.{Placed}
+use Rattle.lotos_check.specs.NameLists.{Name, In, AreDistinct}
 
 -- the names of the definitions of one `where`
-abbrev pub declared_names : Defs → List Placed
+abbrev pub declared_names : DefinitionListView → List Placed
 declared_names no_defs = []
 declared_names (more_defs d ds) = name_of d ∷ declared_names ds
 
 -- how many definitions there are, inner ones among them
-abbrev pub count : Defs → ℕ
+abbrev pub count : DefinitionListView → ℕ
 count no_defs = 0
 count (more_defs (def name formals declared body inner) ds) = 1 + count inner + count ds
 
 -- a `where`, and the number of its first definition
 pub record Where : Type 0 where
-  pub defs : Defs
+  pub defs : DefinitionListView
   pub first : ℕ
 
 -- the enclosing `where`s, the nearest first
@@ -24,59 +24,59 @@ abbrev pub Scope : Type 0
 Scope = List Where
 
 -- of definitions that are numbered from there on, each followed at once by its inner ones, this one has the name and number
-pub data Declares : Defs → ℕ → Name → ℕ → Def → Type 0 where
-  here : {d : Def} {ds : Defs} {k : ℕ} → Declares (more_defs d ds) k (name_of d).name k d
-  later : {d e : Def} {ds : Defs} {k j : ℕ} {n : Name} →
+pub data Declares : DefinitionListView → ℕ → Name → ℕ → DefinitionView → Type 0 where
+  here : {d : DefinitionView} {ds : DefinitionListView} {k : ℕ} → Declares (more_defs d ds) k (name_of d).name k d
+  later : {d e : DefinitionView} {ds : DefinitionListView} {k j : ℕ} {n : Name} →
       Declares ds (k + 1 + count (inner_of d)) n j e → Declares (more_defs d ds) k n j e
 
 -- the name means the process of that number
-pub data Means : Scope → Name → ℕ → Def → Type 0 where
-  nearest : {w : Where} {ws : Scope} {n : Name} {k : ℕ} {d : Def} → Declares w.defs w.first n k d → Means (w ∷ ws) n k d
-  outward : {w : Where} {ws : Scope} {n : Name} {k : ℕ} {d : Def} →
-      ((j : ℕ) (e : Def) → Declares w.defs w.first n j e → ⊥) → Means ws n k d → Means (w ∷ ws) n k d
+pub data Binds : Scope → Name → ℕ → DefinitionView → Type 0 where
+  nearest : {w : Where} {ws : Scope} {n : Name} {k : ℕ} {d : DefinitionView} → Declares w.defs w.first n k d → Binds (w ∷ ws) n k d
+  outward : {w : Where} {ws : Scope} {n : Name} {k : ℕ} {d : DefinitionView} →
+      ((j : ℕ) (e : DefinitionView) → Declares w.defs w.first n j e → ⊥) → Binds ws n k d → Binds (w ∷ ws) n k d
 
 -- what is visible inside a definition, where its own definitions are numbered from there on
-abbrev pub within : Def → ℕ → Scope → Scope
+abbrev pub within : DefinitionView → ℕ → Scope → Scope
 within d first scope = record { defs = inner_of d; first = first } ∷ scope
 
 -- a definition, and the `where`s that are visible in it, its own the nearest
 pub record Scoped : Type 0 where
   pub scope : Scope
-  pub definition : Def
+  pub definition : DefinitionView
 
 -- the definitions, numbered from there on, each followed at once by its inner ones, where the scope encloses them
-abbrev pub listed : Scope → ℕ → Defs → List Scoped
-listed scope first no_defs = []
-listed scope first (more_defs (def name formals declared body inner) ds) =
+abbrev pub definitions_in_scope : Scope → ℕ → DefinitionListView → List Scoped
+definitions_in_scope scope first no_defs = []
+definitions_in_scope scope first (more_defs (def name formals declared body inner) ds) =
     record { scope = record { defs = inner; first = first + 1 } ∷ scope; definition = def name formals declared body inner }
-    ∷ listed (record { defs = inner; first = first + 1 } ∷ scope) (first + 1) inner ++ listed scope (first + 1 + count inner) ds
+    ∷ definitions_in_scope (record { defs = inner; first = first + 1 } ∷ scope) (first + 1) inner ++ definitions_in_scope scope (first + 1 + count inner) ds
 
 -- a definition whose inner ones are numbered from there on, followed by these
-abbrev pub listed_with : Scope → ℕ → Def → List Scoped
-listed_with scope first d =
-    record { scope = within d first scope; definition = d } ∷ listed (within d first scope) first (inner_of d)
+abbrev pub definition_in_scope : Scope → ℕ → DefinitionView → List Scoped
+definition_in_scope scope first d =
+    record { scope = within d first scope; definition = d } ∷ definitions_in_scope (within d first scope) first (inner_of d)
 
 -- the processes of a specification, in the order of their numbers
-abbrev pub processes_of : Def → List Scoped
-processes_of whole = listed (within whole 0 []) 0 (inner_of whole)
+abbrev pub processes_of : DefinitionView → List Scoped
+processes_of whole = definitions_in_scope (within whole 0 []) 0 (inner_of whole)
 
 -- the specification, followed by its processes
-abbrev pub everywhere : Def → List Scoped
-everywhere whole = listed_with [] 0 whole
+abbrev pub all_definitions : DefinitionView → List Scoped
+all_definitions whole = definition_in_scope [] 0 whole
 
 -- the definition stands in the specification, and the scope is visible in it
-abbrev pub IsDefinition : Def → Scope → Def → Type 0
-IsDefinition whole scope d = In {X = Scoped} (record { scope = scope; definition = d }) (everywhere whole)
+abbrev pub IsDefinition : DefinitionView → Scope → DefinitionView → Type 0
+IsDefinition whole scope d = In {X = Scoped} (record { scope = scope; definition = d }) (all_definitions whole)
 
 -- no `where` of the scope declares a name twice
-abbrev pub DistinctScope : Scope → Type 0
-DistinctScope scope = (w : Where) → In w scope → AreDistinct (declared_names w.defs)
+abbrev pub IsDistinctScope : Scope → Type 0
+IsDistinctScope scope = (w : Where) → In w scope → AreDistinct (declared_names w.defs)
 
 -- a definition, followed by all that stand inside it, each followed at once by its inner ones; and the same of a row
 abbrev mutual
-  pub definitions_in : Def → List Def
+  pub definitions_in : DefinitionView → List DefinitionView
   definitions_in (def name formals declared body inner) = def name formals declared body inner ∷ row_in inner
 
-  pub row_in : Defs → List Def
+  pub row_in : DefinitionListView → List DefinitionView
   row_in no_defs = []
   row_in (more_defs d ds) = definitions_in d ++ row_in ds

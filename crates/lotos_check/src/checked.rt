@@ -1,9 +1,9 @@
 //! Checked specifications.
 ghost use Rattle.std.specs.Prelude.{◌≡◌, ◌<◌, Some, length, map, slice_get};
-ghost use Rattle.lotos_check.specs.Shown.{flat_of, process_of};
-ghost use Rattle.lotos_check.specs.Kept.{Keeps};
+ghost use Rattle.lotos_check.specs.FlatOf.{flat_of, process_of};
+ghost use Rattle.lotos_check.specs.CheckedInvariant.{IsCheckedSystem};
 
-use crate::code::{Code, Process};
+use crate::resolved::{Code, Process};
 use lotos_text::Name;
 
 /// A specification that meets the static rules, with its processes numbered from 0 in the order of their definitions, each
@@ -14,11 +14,11 @@ pub struct Checked {
     pub(crate) start: Code,
     pub(crate) processes: Vec<Process>,
     pub(crate) ranks: Vec<usize>,
-    ghost kept: { ∥ Keeps (record { formals = gates.items; start = flat_of start; processes = map process_of processes.items }) ranks.items ∥₁ },
+    ghost kept: { ∥ IsCheckedSystem (record { formals = gates.items; start = flat_of start; processes = map process_of processes.items }) ranks.items ∥₁ },
 }
 
 impl Checked {
-    ghost use Rattle.lotos_check.specs.View.{ranks_of, system_of};
+    ghost use Rattle.lotos_check.specs.CheckedView.{ranks_of, system_of};
 
     /// The formal gates of the specification, in their order.
     pub fn gates(&self) -> &[Name]
@@ -37,7 +37,7 @@ impl Checked {
     /// The behaviour of the specification, which with the processes meets the static rules.
     pub fn start(&self) -> &Code
         ensures start { flat_of result.now ≡ (system_of self.now).start }
-        ensures kept { ∥ Keeps (system_of self.now) (ranks_of self.now) ∥₁ }
+        ensures kept { ∥ IsCheckedSystem (system_of self.now) (ranks_of self.now) ∥₁ }
     {
         &self.start
     }
@@ -47,7 +47,7 @@ impl Checked {
     pub fn rank(&self, process: usize) -> usize
         requires { process < length (system_of self.now).processes }
         ensures place { slice_get (ranks_of self.now) process ≡ Some result }
-        ensures kept { ∥ Keeps (system_of self.now) (ranks_of self.now) ∥₁ }
+        ensures kept { ∥ IsCheckedSystem (system_of self.now) (ranks_of self.now) ∥₁ }
     {
         self.ranks[process]
     }

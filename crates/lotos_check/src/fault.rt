@@ -1,6 +1,6 @@
 //! Why a specification breaks a static rule.
 ghost use Rattle.std.specs.Prelude.{◌≡◌, IfOk, alloc_error};
-ghost use Rattle.lotos_check.specs.Places.{offset_of};
+ghost use Rattle.lotos_check.specs.FaultOffsets.{offset_of};
 ghost use Rattle.lotos_check.specs.declared.fault.CheckFault.TheVariants.{E99};
 
 use lotos_text::{Functionality, Placed};
@@ -32,7 +32,7 @@ pub enum CheckFault {
     #[error("E24 process {} is declared twice", .0.name.text())]
     E24(Placed),
     /// The declared functionality is not that of the body.
-    #[error("E25 {} {}", .name.name.text(), Declared(*.declared))]
+    #[error("E25 {} {}", .name.name.text(), FunctionalityText(*.declared))]
     E25 {
         name: Placed,
         declared: Functionality,
@@ -88,9 +88,9 @@ impl<T: Drop> From<AllocFailed<T>> for CheckFault {
 
 /// A declared functionality, and the other one, which the body has.
 #[derive(Clone, Copy, Debug)]
-struct Declared(Functionality);
+struct FunctionalityText(Functionality);
 
-impl fmt::Display for Declared {
+impl fmt::Display for FunctionalityText {
     fn fmt<W: fmt::Write>(&self, f: &mut fmt::Formatter<W>) -> fmt::Result {
         f.write_str(match self.0 {
             Functionality::Exit => "is declared exit and is noexit",
@@ -100,7 +100,7 @@ impl fmt::Display for Declared {
 }
 
 /// The same name at the same place.
-pub(crate) fn copied(alloc: Global, placed: &Placed) -> Result<Placed, AllocError>
+pub(crate) fn copy_placed(alloc: Global, placed: &Placed) -> Result<Placed, AllocError>
     ensures { IfOk result (λ p. p ≡ placed.now) }
 {
     let name = placed.name.copy(alloc)?;

@@ -1,19 +1,19 @@
 //! Laws over the definitions. Each is the contract of a function that does nothing.
 ghost use Rattle.std.specs.Prelude.{◌≡◌, ◌<◌, ℕ, List, Some, length, slice_get};
-ghost use Rattle.lotos_text.specs.Tree.{Def, body_of};
-ghost use Rattle.lotos_check.specs.Names.{In, Name};
-ghost use Rattle.lotos_check.specs.Scope.{DistinctScope, Means, Scope, Scoped, everywhere};
-ghost use Rattle.lotos_check.specs.Causes.{IsDistinct};
-ghost use Rattle.lotos_check.specs.Bodies.{GoesToNamed, HasCall, IsBodyOf, NoneTwice};
-ghost use Rattle.lotos_check.specs.Checking.{AreRanks, IsAccepted, IsFaulty, IsNowhereAccepted};
+ghost use Rattle.lotos_text.specs.AstView.{DefinitionView, body_of};
+ghost use Rattle.lotos_check.specs.NameLists.{In, Name};
+ghost use Rattle.lotos_check.specs.Scope.{IsDistinctScope, Binds, Scope, Scoped, all_definitions};
+ghost use Rattle.lotos_check.specs.StaticFaults.{IsDistinct};
+ghost use Rattle.lotos_check.specs.Bodies.{GoesToNamed, ContainsCall, IsBodyOf, AreDistinctNames};
+ghost use Rattle.lotos_check.specs.Acceptance.{AreRanks, IsAccepted, IsStaticFault, IsNotAccepted};
 ghost use Rattle.lotos_check.specs.Flat.{Flat, FlatProcess, IsFlat, Resolves, System};
 ghost use Rattle.lotos_check.specs.Guard.{Calls, IsRanking, IsUnguardedSet};
 ghost use Rattle.lotos_check.specs.declared.fault.CheckFault.{CheckFault};
 
 /// A name has one meaning where no `where` declares a name twice.
-pub fn one_meaning()
-    ensures { (scope : Scope) → DistinctScope scope → (n : Name) (i j : ℕ) (d e : Def) →
-        Means scope n i d → Means scope n j e → (i ≡ j) × (d ≡ e) }
+pub fn binding_is_unique()
+    ensures { (scope : Scope) → IsDistinctScope scope → (n : Name) (i j : ℕ) (d e : DefinitionView) →
+        Binds scope n i d → Binds scope n j e → (i ≡ j) × (d ≡ e) }
 {}
 
 /// No numbering falls at every unguarded call where each process of a set that is not empty has one into the set.
@@ -23,14 +23,14 @@ pub fn unguarded_unranked()
 {}
 
 /// A specification has one flat system, where its names are distinct.
-pub fn one_system()
-    ensures { (whole : Def) (s r : System) → IsDistinct whole → IsFlat whole s → IsFlat whole r →
+pub fn flat_system_is_unique()
+    ensures { (whole : DefinitionView) (s r : System) → IsDistinct whole → IsFlat whole s → IsFlat whole r →
         s ≡ r }
 {}
 
 /// In the flat system of a specification every unguarded call goes to a process that there is.
 pub fn calls_in_range()
-    ensures { (whole : Def) (s : System) → IsFlat whole s → (p q : ℕ) → Calls s.processes p q →
+    ensures { (whole : DefinitionView) (s : System) → IsFlat whole s → (p q : ℕ) → Calls s.processes p q →
         q < length s.processes }
 {}
 
@@ -38,31 +38,31 @@ pub fn calls_in_range()
 /// in the body of a definition stands there by name, and its process has the name and the formal gates of the definition that
 /// the name means.
 pub fn calls_fit()
-    ensures fit { (whole : Def) (s : System) → IsAccepted whole s → (b : Flat) → IsBodyOf s b →
-        (k : ℕ) (gates : List Name) → HasCall b k gates → (process : FlatProcess)
+    ensures fit { (whole : DefinitionView) (s : System) → IsAccepted whole s → (b : Flat) → IsBodyOf s b →
+        (k : ℕ) (gates : List Name) → ContainsCall b k gates → (process : FlatProcess)
         × (slice_get s.processes k ≡ Some process) × (length gates ≡ length process.formals) }
-    ensures named { (whole : Def) (s : System) → IsAccepted whole s → (v : Scoped) →
-        In v (everywhere whole) → (b : Flat) → Resolves v.scope (body_of v.definition) b →
-        (k : ℕ) (gates : List Name) → HasCall b k gates → GoesToNamed s v k gates }
+    ensures named { (whole : DefinitionView) (s : System) → IsAccepted whole s → (v : Scoped) →
+        In v (all_definitions whole) → (b : Flat) → Resolves v.scope (body_of v.definition) b →
+        (k : ℕ) (gates : List Name) → ContainsCall b k gates → GoesToNamed s v k gates }
 {}
 
 /// The formal gates of an accepted specification are distinct, and those of each of its processes.
 pub fn distinct_formals()
-    ensures specification { (whole : Def) (s : System) → IsAccepted whole s → NoneTwice s.formals }
-    ensures processes { (whole : Def) (s : System) → IsAccepted whole s →
+    ensures specification { (whole : DefinitionView) (s : System) → IsAccepted whole s → AreDistinctNames s.formals }
+    ensures processes { (whole : DefinitionView) (s : System) → IsAccepted whole s →
         (p : ℕ) (process : FlatProcess) → slice_get s.processes p ≡ Some process →
-        NoneTwice process.formals }
+        AreDistinctNames process.formals }
 {}
 
 /// The ranks of a flat system's processes fall at every unguarded call, and both of its processes have one.
 pub fn ranks_fall()
-    ensures { (whole : Def) (s : System) (ranks : List ℕ) → IsFlat whole s →
+    ensures { (whole : DefinitionView) (s : System) (ranks : List ℕ) → IsFlat whole s →
         AreRanks s.processes ranks → (p q : ℕ) → Calls s.processes p q → (r t : ℕ)
         × (slice_get ranks p ≡ Some r) × (slice_get ranks q ≡ Some t) × (t < r) }
 {}
 
 /// A specification with the fact of a fault is not accepted.
 pub fn faulty_is_refused()
-    ensures { (whole : Def) (fault : CheckFault) → IsFaulty whole fault →
-        IsNowhereAccepted whole fault }
+    ensures { (whole : DefinitionView) (fault : CheckFault) → IsStaticFault whole fault →
+        IsNotAccepted whole fault }
 {}

@@ -7,21 +7,21 @@
 //! [`laws`].
 #![tactic(auto)]
 
-mod body;
+mod body_walk;
 mod checked;
-mod checking;
-mod code;
-mod distinct;
+mod definition_order;
+mod duplicates;
 mod fault;
-mod guard;
-mod known;
+mod functionality_check;
+mod gate_scope;
+mod guardedness;
 pub mod laws;
-mod listing;
-mod table;
-mod typing;
-mod walk;
+mod process_scope;
+mod resolution;
+mod resolved;
+mod static_check;
 
 pub use checked::Checked;
-pub use checking::check;
-pub use code::{Code, Process};
 pub use fault::CheckFault;
+pub use resolved::{Code, Process};
+pub use static_check::check;

@@ -3,7 +3,7 @@ use Rattle.std.proofs.Common.{◌≡◌, refl, true, false, codes, List, [], ◌
 use Rattle.clap.specs.Words.{Text, fault_of, is_simple, is_simple_and_free, takes}
 use Rattle.clap.specs.declared.error.kind.ErrorKind.TheVariants.{UnknownArgument, ValueValidation}
 use Rattle.clap.proofs.OnLiterals.{clap_on_literals}
-use Rattle.lotos_command.specs.Command.{lotosseq}
+use Rattle.lotos_command.specs.CommandRules.{lotosseq}
 use Rattle.lotos_command.specs.Request.{RequestOf, check, search}
 
 pub simple_and_free : is_simple_and_free lotosseq ≡ true

@@ -4,20 +4,20 @@ use Rattle.clap.specs.Words.{HasKind, IsAmong, Text, fault_of, kind_of}
 use Rattle.clap.specs.declared.error.Error.{Error}
 use Rattle.clap.specs.declared.error.kind.ErrorKind.{ErrorKind}
 use Rattle.clap.specs.declared.error.kind.ErrorKind.TheVariants as kind
-use Rattle.lotos_command.specs.Command.{lotosseq}
-use Rattle.lotos_command.specs.Faults.{IsFaultBy, IsFaultOf}
+use Rattle.lotos_command.specs.CommandRules.{lotosseq}
+use Rattle.lotos_command.specs.CommandFaults.{IsFaultOfKind, IsFaultOf}
 use Rattle.lotos_command.specs.declared.command.CommandFault.{CommandFault}
 use Rattle.lotos_command.specs.declared.command.CommandFault.TheVariants.{Help, Memory, Wrong}
 
 -- a fault for want of memory is one
-pub memory_known : (k : ErrorKind) (fault : CommandFault) → k ≡ kind.OutOfMemory → IsFaultBy k fault → fault ≡ Memory
+pub memory_known : (k : ErrorKind) (fault : CommandFault) → k ≡ kind.OutOfMemory → IsFaultOfKind k fault → fault ≡ Memory
 memory_known k (Help text) memory is = absurd (let e : kind.OutOfMemory ≡ kind.DisplayHelp = sym memory ∙ is in cc)
 memory_known k (Wrong text) memory is = absurd (is.1 memory)
 memory_known k Memory memory is = refl
 
 -- the words have the fault that clap found in them
 pub fault_known : (words : List Text) (error : Error) (fault : CommandFault) → HasKind (fault_of lotosseq words) error
-    → IsFaultBy (kind_of error) fault → IsFaultOf words fault
+    → IsFaultOfKind (kind_of error) fault → IsFaultOf words fault
 fault_known words error (Help text) (inl memory) is = absurd (let e : kind.OutOfMemory ≡ kind.DisplayHelp = sym memory ∙ is in cc)
 fault_known words error (Help text) (inr among) is = subst (λ k. IsAmong k (fault_of lotosseq words)) is among
 fault_known words error (Wrong text) (inl memory) is = absurd (is.1 memory)

@@ -8,8 +8,8 @@ use Rattle.clap.specs.Walk.{Held, Outcome, Row, Rule, Text, Waiting, after_flag,
 use Rattle.clap.specs.Kinds.{Kinds, or_else}
 use Rattle.clap.specs.Faults.{bundle_fault, bundle_step_fault, flag_word_fault, flags_fault, long_fault, option_fault, react_fault, short_fault}
 use Rattle.clap.specs.declared.error.kind.ErrorKind.TheVariants as kind
-use Rattle.lotos_command.proofs.NoKinds.{both_empty}
-use Rattle.lotos_command.proofs.ReadyRows.{Each, IsOrdinary, IsReady}
+use Rattle.lotos_command.proofs.KindsAbsent.{both_empty}
+use Rattle.lotos_command.proofs.ReadyArguments.{Each, IsOrdinary, IsReady}
 use Rattle.lotos_command.proofs.FaultlessUses.{found_is_ordinary, reacted_keeps, settled_keeps}
 
 module _ (rules : List Rule) (again : Bool) (ordinary : Each (IsOrdinary rules) rules) where

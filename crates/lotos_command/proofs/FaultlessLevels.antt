@@ -11,8 +11,8 @@ use Rattle.clap.specs.Kinds.{Kinds, or_else, request_kinds}
 use Rattle.clap.specs.Faults.{check_fault, default_fault, defaults_fault, flag_word_fault, level_fault, other_fault, positional_fault, settle_fault, step_fault, stray_fault, turn_fault, values_fault, walk_fault, word_fault}
 use Rattle.clap.specs.declared.error.kind.ErrorKind.TheVariants as kind
 use Rattle.clap.specs.declared.parser.matches.ValueSource.TheVariants.{DefaultValue}
-use Rattle.lotos_command.proofs.NoKinds.{both_empty, not_empty}
-use Rattle.lotos_command.proofs.ReadyRows.{Each, IsOrdinary, IsReady, values_keep}
+use Rattle.lotos_command.proofs.KindsAbsent.{both_empty, not_empty}
+use Rattle.lotos_command.proofs.ReadyArguments.{Each, IsOrdinary, IsReady, values_keep}
 use Rattle.lotos_command.proofs.FaultlessUses.{settled_keeps}
 use Rattle.lotos_command.proofs.FaultlessFlags.{flag_word_keeps}
 

@@ -8,8 +8,8 @@ use Rattle.clap.specs.Faults.{action_fault, react_fault, repeat_fault, settle_fa
 use Rattle.clap.specs.declared.builder.action.ArgAction.{ArgAction}
 use Rattle.clap.specs.declared.builder.action.ArgAction.TheVariants as action
 use Rattle.clap.specs.declared.parser.matches.ValueSource.TheVariants.{CommandLine}
-use Rattle.lotos_command.proofs.NoKinds.{both_empty, not_empty}
-use Rattle.lotos_command.proofs.ReadyRows.{Each, IsFilled, IsOrdinary, IsReady, counts, each_found, values_keep, without_keeps}
+use Rattle.lotos_command.proofs.KindsAbsent.{both_empty, not_empty}
+use Rattle.lotos_command.proofs.ReadyArguments.{Each, IsFilled, IsOrdinary, IsReady, counts, each_found, values_keep, without_keeps}
 
 -- a use with as many values as are wanted has one, where one is wanted
 use_is_filled : (least most : ℕ) (values : List Text) (a : Rule) → range_kinds least most (length values) ≡ [] → 1 ≤ least

@@ -1,9 +1,9 @@
 pub mod FaultKinds
-pub mod NoKinds
-pub mod ReadyRows
+pub mod KindsAbsent
+pub mod ReadyArguments
 pub mod FaultlessUses
 pub mod FaultlessFlags
 pub mod FaultlessLevels
-pub mod EntryReads
+pub mod EntryReading
 pub mod RequestFits
 pub mod CommandFacts

@@ -19,11 +19,11 @@ use Rattle.clap.specs.Takes.{is_given}
 use Rattle.clap.specs.Kinds.{value_kinds}
 use Rattle.clap.specs.Faults.{check_fault, entered_fault, fault_of, level_fault, values_fault}
 use Rattle.clap.specs.declared.error.kind.ErrorKind.TheVariants as kind
-use Rattle.lotos_command.specs.Command.{lotosseq}
-use Rattle.lotos_command.specs.Fitting.{FitsRequest, FitsSearch, IsNumberIn, IsTruthText}
+use Rattle.lotos_command.specs.CommandRules.{lotosseq}
+use Rattle.lotos_command.specs.EntryRules.{FitsRequest, FitsSearch, IsNumberIn, IsTruthText}
 use Rattle.lotos_command.specs.Request.{number}
-use Rattle.lotos_command.proofs.NoKinds.{both_empty, not_empty}
-use Rattle.lotos_command.proofs.ReadyRows.{Each, IsOrdinary, IsReady, counts, each_found}
+use Rattle.lotos_command.proofs.KindsAbsent.{both_empty, not_empty}
+use Rattle.lotos_command.proofs.ReadyArguments.{Each, IsOrdinary, IsReady, counts, each_found}
 use Rattle.lotos_command.proofs.FaultlessLevels.{AsksNoHelp, StopsWell, level_leaves}
 
 -- ---- an entry

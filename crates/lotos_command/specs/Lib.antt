@@ -1,4 +1,4 @@
-pub mod Command
+pub mod CommandRules
 pub mod Request
-pub mod Fitting
-pub mod Faults
+pub mod EntryRules
+pub mod CommandFaults

@@ -5,7 +5,7 @@ use Rattle.std.specs.Str.{bytes_eq}
 use Rattle.std.specs.Str.Parse.{digits_value, without_leading_plus}
 use Rattle.std.specs.Borrow.{Bor}
 use Rattle.clap.specs.Words.{Row, Text, all_of, fault_of, first_of, one_of, subcommand_of}
-use Rattle.lotos_command.specs.Command.{lotosseq}
+use Rattle.lotos_command.specs.CommandRules.{lotosseq}
 use Rattle.lotos_command.specs.declared.command.Request.{Request}
 use Rattle.lotos_command.specs.declared.command.Request.TheVariants as asked
 use Rattle.lotos_command.specs.declared.command.SearchRequest.{SearchRequest}

@@ -5,10 +5,10 @@
 #![tactic(auto)]
 
 mod command;
+mod command_line;
 mod help;
 #[cfg(test)]
 mod tests;
-mod words;
 
 pub use command::{CommandFault, Request, SearchRequest};
-pub use words::request;
+pub use command_line::request;

@@ -1,4 +1,4 @@
-pub mod Device
-pub mod Reading
-pub mod Wrapped
-pub mod Writing
+pub mod DeviceContracts
+pub mod TextInput
+pub mod WrappedDevices
+pub mod ByteOutput

@@ -4,8 +4,8 @@
 //! it tells them: those over memory do, and for a file or a terminal the claim is as honest as the system is.
 ghost use Rattle.std.specs.Prelude.{◌≡◌, ℕ, Bool, false, List, Option};
 ghost use Rattle.std.specs.Io.KnownBytes.{Keeps};
-ghost use Rattle.lotos_device.specs.Device.{Gives, Reads, Writes, Flags};
-ghost use Rattle.lotos_device.specs.Wrapped.{wrapped_reader, reader_failed, reader_given, wrapped_writer, writer_failed};
+ghost use Rattle.lotos_device.specs.DeviceContracts.{CountsGiven, Reads, Accepts, SetsFailed};
+ghost use Rattle.lotos_device.specs.WrappedDevices.{wrapped_reader, reader_failed, reader_given, wrapped_writer, writer_failed};
 
 use std::io::{Read, Write};
 
@@ -28,8 +28,8 @@ pub trait Source {
     /// none.
     fn read(&mut self, into: &mut [u8]) -> Result<usize, DeviceFailed>
         ensures bytes { Reads (left self.old) (left self.new) result into.new }
-        ensures given { Gives (given self.old) (given self.new) result }
-        ensures flag { Flags (has_failed self.old) (has_failed self.new) result };
+        ensures given { CountsGiven (given self.old) (given self.new) result }
+        ensures flag { SetsFailed (has_failed self.old) (has_failed self.new) result };
 
     /// Whether a call has failed. No call takes that back.
     fn failed(&self) -> bool
@@ -46,13 +46,13 @@ pub trait Sink {
 
     /// Takes bytes from the front of `bytes` and answers how many: at least one, where there is one.
     fn write(&mut self, bytes: &[u8]) -> Result<usize, DeviceFailed>
-        ensures bytes { Writes (got self.old) (got self.new) result bytes.now }
-        ensures flag { Flags (has_failed self.old) (has_failed self.new) result };
+        ensures bytes { Accepts (got self.old) (got self.new) result bytes.now }
+        ensures flag { SetsFailed (has_failed self.old) (has_failed self.new) result };
 
     /// Passes on what was got.
     fn flush(&mut self) -> Result<(), DeviceFailed>
         ensures bytes { Keeps (got self.old) (got self.new) }
-        ensures flag { Flags (has_failed self.old) (has_failed self.new) result };
+        ensures flag { SetsFailed (has_failed self.old) (has_failed self.new) result };
 
     /// Whether a call has failed. No call takes that back.
     fn failed(&self) -> bool

@@ -4,10 +4,10 @@
 //! readers and writers. [`read_text`] reads a whole text within its bound, and [`write_bytes`] writes bytes whole.
 #![tactic(auto)]
 
+mod byte_output;
 mod device;
-mod reading;
-mod writing;
+mod text_input;
 
+pub use byte_output::write_bytes;
 pub use device::{DeviceFailed, FromRead, FromWrite, Sink, Source};
-pub use reading::{ReadFault, read_text};
-pub use writing::write_bytes;
+pub use text_input::{ReadFault, read_text};

@@ -2,8 +2,8 @@
 use Rattle.std.proofs.Common.{◌≡◌, ℕ, suc, ◌+◌, ◌-◌, ◌<◌, List, [], ◌∷◌, length, drop, sym, ap, subst, ◌∙◌, arith, Bool, get_or}
 use Rattle.std.specs.Prelude.{MatchBool}
 use Rattle.std.proofs.lemmas.List.{drop_more, length-map, get_or-map, drop_all}
-use Rattle.lotos_pattern.specs.Patterns.{Element, EndLast, IsEnd}
-use Rattle.lotos_pattern.specs.Elements.{element_of, elements_of}
+use Rattle.lotos_pattern.specs.Patterns.{Element, LastDemandsDeadlock, IsEnd}
+use Rattle.lotos_pattern.specs.ElementView.{element_of, elements_of}
 use Rattle.lotos_pattern.specs.declared.element.Element.{Element as Kept}
 
 -- the elements from a kept one on
@@ -20,7 +20,7 @@ pub as_long : (p : List Element) (kept : List Kept) → elements_of kept ≡ p �
 as_long p kept shown = sym (length-map kept element_of) ∙ ap length shown
 
 -- the last element decides
-last_decides : (p : List Element) (e : Element) → drop (length p - 1) p ≡ e ∷ [] → EndLast p ≡ IsEnd e
+last_decides : (p : List Element) (e : Element) → drop (length p - 1) p ≡ e ∷ [] → LastDemandsDeadlock p ≡ IsEnd e
 last_decides [] e is = absurd (let none : [] ≡ e ∷ [] = is in let z : ⊥ = cc in z)
 last_decides (f ∷ []) e is = let same : f ∷ [] ≡ e ∷ [] = is in ap IsEnd cc
 last_decides (f ∷ g ∷ p) e is =
@@ -28,7 +28,7 @@ last_decides (f ∷ g ∷ p) e is =
     last_decides (g ∷ p) e (subst (λ i. drop i (f ∷ g ∷ p) ≡ e ∷ []) shorter is)
 
 pub last_kept : (kept : List Kept) (x : Kept) (answer : Bool) → 0 < length kept → x ≡ get_or kept (length kept - 1) x →
-    MatchBool answer (IsEnd (element_of x)) (IsEnd (element_of x) → ⊥) → MatchBool answer (EndLast (elements_of kept)) (EndLast (elements_of kept) → ⊥)
+    MatchBool answer (IsEnd (element_of x)) (IsEnd (element_of x) → ⊥) → MatchBool answer (LastDemandsDeadlock (elements_of kept)) (LastDemandsDeadlock (elements_of kept) → ⊥)
 last_kept kept x answer some is h =
     let i = length kept - 1 in
     let as_long : length (elements_of kept) ≡ length kept = length-map kept element_of in

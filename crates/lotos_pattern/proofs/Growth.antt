@@ -5,19 +5,19 @@ use Rattle.std.specs.Borrow.{Bor}
 use Rattle.std.proofs.lemmas.List.{append-nil, length-append, map-append}
 use Rattle.std.proofs.lemmas.List.Elements.{All-cons, All-nil}
 use Rattle.std.proofs.lemmas.Option.{slice_get_within}
-use Rattle.lotos_pattern.specs.Patterns.{Element, EndLast, EndsLast, IsJoin, any, deadlock, one, until, until_deadlock, while, while_any}
+use Rattle.lotos_pattern.specs.Patterns.{Element, LastDemandsDeadlock, OnlyLastDemandsDeadlock, IsJoin, any, deadlock, one, until, until_deadlock, while, while_any}
 use Rattle.lotos_pattern.specs.Spelling.{PatternOf, Spelling, Text, texts_of}
-use Rattle.lotos_pattern.specs.Faults.{BeginsElement, IsCause, SpellsNone, StandsBehind}
-use Rattle.lotos_pattern.specs.Elements.{CanOccur, IsPattern, element_of, elements_of, pattern_of}
-use Rattle.lotos_pattern.specs.Meaning.{HasRoom, IsFull, SpelledAt}
+use Rattle.lotos_pattern.specs.Faults.{BeginsElement, IsCause, SpellsNone, IsAfterPattern}
+use Rattle.lotos_pattern.specs.ElementView.{CanOccur, IsPattern, element_of, elements_of, pattern_of}
+use Rattle.lotos_pattern.specs.WordKinds.{CanBeFollowed, IsEndFault, ParsesAt}
 use Rattle.lotos_pattern.specs.declared.element.Element.{Element as Kept}
 use Rattle.lotos_pattern.specs.declared.fault.PatternFault.{PatternFault}
-use Rattle.lotos_pattern.proofs.Beginnings.{full_cause, full_nothing}
+use Rattle.lotos_pattern.proofs.InitialPlaces.{full_cause, full_nothing}
 use Rattle.lotos_pattern.proofs.Words.{take_at, within_texts}
 
 module _ (strong : Bool) where
   module _ (words : List Text) (place : ℕ) (first : Text) (stands : slice_get words place ≡ Some first) where
-    pub spelled_by_one : (e : Element) → Spelling strong e (first ∷ []) → SpelledAt strong words place e (place + 1)
+    pub spelled_by_one : (e : Element) → Spelling strong e (first ∷ []) → ParsesAt strong words place e (place + 1)
     spelled_by_one e spelling = let there = slice_get_within words place first stands in record {
       own = first ∷ [];
       spelling = spelling;
@@ -26,7 +26,7 @@ module _ (strong : Bool) where
       within = omega arith;
     }
 
-    pub spelled_by_two : (second : Text) (e : Element) → slice_get words (place + 1) ≡ Some second → Spelling strong e (first ∷ second ∷ []) → SpelledAt strong words place e (place + 1 + 1)
+    pub spelled_by_two : (second : Text) (e : Element) → slice_get words (place + 1) ≡ Some second → Spelling strong e (first ∷ second ∷ []) → ParsesAt strong words place e (place + 1 + 1)
     spelled_by_two second e follows spelling = let there = slice_get_within words (place + 1) second follows in record {
       own = first ∷ second ∷ [];
       spelling = spelling;
@@ -41,14 +41,14 @@ module _ (strong : Bool) where
   joined_more (f ∷ p) e words own (front, rest, first, others, cut) spelling =
       (front, rest ++ own, first, joined_more p e rest own others spelling, ap (λ l. l ++ own) cut ∙ append_assoc front rest own)
 
-  ends_last_more : (p : List Element) (e : Element) → EndsLast p → (EndLast p → ⊥) → EndsLast (p ++ e ∷ [])
+  ends_last_more : (p : List Element) (e : Element) → OnlyLastDemandsDeadlock p → (LastDemandsDeadlock p → ⊥) → OnlyLastDemandsDeadlock (p ++ e ∷ [])
   ends_last_more [] e last goes_on = tt
   ends_last_more (f ∷ []) e last goes_on = (goes_on, tt)
   ends_last_more (f ∷ g ∷ p) e last goes_on = (last.0, ends_last_more (g ∷ p) e last.1 goes_on)
 
   -- where there is room, an element more makes a pattern
-  one_more : (words : List Text) (place behind : ℕ) (p : List Element) (e : Element) → PatternOf strong (take place words) (pattern_of strong p) → HasRoom p →
-      SpelledAt strong words place e behind → PatternOf strong (take behind words) (pattern_of strong (p ++ e ∷ []))
+  one_more : (words : List Text) (place behind : ℕ) (p : List Element) (e : Element) → PatternOf strong (take place words) (pattern_of strong p) → CanBeFollowed p →
+      ParsesAt strong words place e behind → PatternOf strong (take behind words) (pattern_of strong (p ++ e ∷ []))
   one_more words place behind p e spelled has next = record {
     shows = refl;
     spelled = subst (IsJoin (Spelling strong) (p ++ e ∷ [])) (sym next.stands) (joined_more p e (take place words) next.own spelled.spelled next.spelling);
@@ -80,28 +80,28 @@ module _ (strong : Bool) where
   -- what is known where the loop stands: the words before the place spell the elements that are kept
   module _ (words : List (Bor Text)) (place : ℕ) (kept lent : List Kept) (there : place < length words)
       (spelled : PatternOf strong (take place (texts_of words)) (pattern_of strong (elements_of kept))) (same : lent ≡ kept) where
-    stands : StandsBehind strong (texts_of words) (place + 1) (pattern_of strong (elements_of kept))
+    stands : IsAfterPattern strong (texts_of words) (place + 1) (pattern_of strong (elements_of kept))
     stands = record { before = place; counted = refl; there = within_texts words place there; spelled = spelled }
 
     -- where no element may follow them, the fault has its cause
-    pub full_here : (fault : PatternFault) → IsFull (elements_of lent) (place + 1) fault → IsCause strong (texts_of words) fault × SpellsNone strong (texts_of words) fault
+    pub full_here : (fault : PatternFault) → IsEndFault (elements_of lent) (place + 1) fault → IsCause strong (texts_of words) fault × SpellsNone strong (texts_of words) fault
     full_here fault full =
-        let own = subst (λ elements. IsFull (elements_of elements) (place + 1) fault) same full in
+        let own = subst (λ elements. IsEndFault (elements_of elements) (place + 1) fault) same full in
         let p = pattern_of strong (elements_of kept) in
         (full_cause strong (texts_of words) place p stands fault own, full_nothing strong (texts_of words) place p stands fault own)
 
     -- where one may follow, it begins at the place
-    pub begins_here : HasRoom (elements_of lent) → BeginsElement strong (texts_of words) (place + 1)
+    pub begins_here : CanBeFollowed (elements_of lent) → BeginsElement strong (texts_of words) (place + 1)
     begins_here room =
-        let own : HasRoom (elements_of kept) = subst (λ elements. HasRoom (elements_of elements)) same room in
+        let own : CanBeFollowed (elements_of kept) = subst (λ elements. CanBeFollowed (elements_of elements)) same room in
         let short = spelled.short in
         let unfilled = own.room in
-        record { pattern = pattern_of strong (elements_of kept); behind = stands; goes_on = own.goes_on; room = omega arith }
+        record { pattern = pattern_of strong (elements_of kept); next_index = stands; goes_on = own.goes_on; room = omega arith }
 
-    pub grown_here : (behind : ℕ) (e : Kept) (more : List Kept) → HasRoom (elements_of lent) → SpelledAt strong (texts_of words) place (element_of e) behind → more ≡ kept ++ e ∷ [] →
+    pub grown_here : (behind : ℕ) (e : Kept) (more : List Kept) → CanBeFollowed (elements_of lent) → ParsesAt strong (texts_of words) place (element_of e) behind → more ≡ kept ++ e ∷ [] →
         PatternOf strong (take behind (texts_of words)) (pattern_of strong (elements_of more))
     grown_here behind e more room next grown =
-        let own : HasRoom (elements_of kept) = subst (λ elements. HasRoom (elements_of elements)) same room in
+        let own : CanBeFollowed (elements_of kept) = subst (λ elements. CanBeFollowed (elements_of elements)) same room in
         let shown : elements_of more ≡ elements_of kept ++ element_of e ∷ [] = ap elements_of grown ∙ map-append element_of kept (e ∷ []) in
         subst (λ p. PatternOf strong (take behind (texts_of words)) (pattern_of strong p)) (sym shown)
         (one_more (texts_of words) place behind (elements_of kept) (element_of e) spelled own next)

@@ -1,10 +1,10 @@
 pub mod Words
 pub mod Segments
-pub mod Passings
+pub mod PlaceTransitions
 pub mod Places
-pub mod Standing
+pub mod PlacesOfPrefixes
 pub mod Spellings
 pub mod Ends
-pub mod Endings
-pub mod Beginnings
+pub mod AcceptingPlaces
+pub mod InitialPlaces
 pub mod Growth

@@ -7,14 +7,14 @@ use Rattle.std.proofs.lemmas.Bool.{cases_eq, cases_lt}
 use Rattle.std.proofs.lemmas.List.{get_or-replicate, get_or-set_other, get_or-set_same, get_or_past, length-replicate}
 use Rattle.std.proofs.lemmas.Nat.{shr-shr}
 use Rattle.std.proofs.lemmas.Nat.Bits.{bit_at-trailing_zeros, bit_at-zero, bit_at_above, bit_at_set_other, bit_at_set_same}
-use Rattle.lotos_pattern.specs.Positions.{Has, IsFirst, Place}
+use Rattle.lotos_pattern.specs.NfaStates.{HasState, IsFirstState, Place}
 
 -- a word that is 0 has no position
-no_bit : (place : Place) (k : ℕ) → get_or place.words (k / 64) 0 ≡ 0 → Has place k → ⊥
+no_bit : (place : Place) (k : ℕ) → get_or place.words (k / 64) 0 ≡ 0 → HasState place k → ⊥
 no_bit place k none has = let off = ap (λ word. bit_at word (k % 64)) none ∙ bit_at-zero (k % 64) in omega (arith, off, has)
 
 -- words that are all 0 have none
-pub bare : (n k : ℕ) → Has (record { words = replicate n 0 }) k → ⊥
+pub bare : (n k : ℕ) → HasState (record { words = replicate n 0 }) k → ⊥
 bare n k =
     let words : List ℕ = replicate n 0 in
     let long : length words ≡ n = length-replicate n 0 in
@@ -24,7 +24,7 @@ bare n k =
     ])
 
 -- behind the words is no position, and where before them is none either, there is none
-pub none_past : (place : Place) (from n : ℕ) → length place.words ≤ n → ((j : ℕ) → from ≤ j → j < n * 64 → Has place j → ⊥) → (k : ℕ) → from ≤ k → Has place k → ⊥
+pub none_past : (place : Place) (from n : ℕ) → length place.words ≤ n → ((j : ℕ) → from ≤ j → j < n * 64 → HasState place j → ⊥) → (k : ℕ) → from ≤ k → HasState place k → ⊥
 none_past place from n past before k behind has = elim (cases_lt k (n * 64)) [
   | inl h ↦ before k behind h has
   | inr h ↦ no_bit place k (get_or_past place.words (k / 64) 0 (omega arith)) has
@@ -33,7 +33,7 @@ none_past place from n past before k behind has = elim (cases_lt k (n * 64)) [
 -- a bit more in a word is a position more
 pub added : (words : List ℕ) (n : ℕ) → n / 64 < length words → (k : ℕ) →
     let new = slice_set words (n / 64) (bit_or (get_or words (n / 64) 0) (1 * 2 ^ (n % 64) % 2 ^ 64)) in
-    Has (record { words = new }) k ↔ (Has (record { words = words }) k ⊎ (k ≡ n))
+    HasState (record { words = new }) k ↔ (HasState (record { words = words }) k ⊎ (k ≡ n))
 added words n within k =
     let old = get_or words (n / 64) 0 in
     let new = bit_or old (1 * 2 ^ (n % 64) % 2 ^ 64) in
@@ -69,11 +69,11 @@ module _ (place : Place) (n : ℕ) where
       let cut : word / 2 ^ (n % 64) / 2 ^ (k - n) ≡ word / 2 ^ (k % 64) = shr-shr word (n % 64) (k - n) ∙ ap (λ i. word / 2 ^ i) further in
       ap (λ x. bit_at x (k % 64)) at ∙ ap (λ x. x % 2) (sym cut)
 
-  pub no_more : get_or place.words (n / 64) 0 / 2 ^ (n % 64) ≡ 0 → (k : ℕ) → n ≤ k → k / 64 ≡ n / 64 → Has place k → ⊥
+  pub no_more : get_or place.words (n / 64) 0 / 2 ^ (n % 64) ≡ 0 → (k : ℕ) → n ≤ k → k / 64 ≡ n / 64 → HasState place k → ⊥
   no_more none k from same has = let off = shifted k from same ∙ ap (λ word. bit_at word (k - n)) none ∙ bit_at-zero (k - n) in omega (arith, off, has)
 
   pub first_here : get_or place.words (n / 64) 0 < 2 ^ 64 → 0 < get_or place.words (n / 64) 0 / 2 ^ (n % 64) →
-      IsFirst place n (n + trailing_zeros w64 (get_or place.words (n / 64) 0 / 2 ^ (n % 64)))
+      IsFirstState place n (n + trailing_zeros w64 (get_or place.words (n / 64) 0 / 2 ^ (n % 64)))
   first_here small some =
       let word = get_or place.words (n / 64) 0 in
       let rest = word / 2 ^ (n % 64) in
@@ -86,7 +86,7 @@ module _ (place : Place) (n : ℕ) where
         | inr past ↦ absurd (let off = bit_at_above word 64 (n % 64 + z) small past in omega arith)
       ] in
       let same : (n + z) / 64 ≡ n / 64 = omega arith in record {
-        behind = omega arith;
+        next_index = omega arith;
         has = shifted (n + z) (omega arith) same ∙ ap (λ i. bit_at rest i) (omega arith) ∙ lowest.1;
         none_before = λ j from before has.
             let off = shifted j from (omega arith) ∙ lowest.2 (j - n) (omega arith) in

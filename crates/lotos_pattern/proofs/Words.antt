@@ -6,20 +6,20 @@ use Rattle.std.specs.Char.{to_ascii_lowercase, to_ascii_uppercase, is_ascii_alph
 use Rattle.std.proofs.lemmas.Bool.Decides.{nat_tests}
 use Rattle.std.proofs.lemmas.List.{drop_more, length-map, take_more}
 use Rattle.std.proofs.lemmas.Option.{get_or_from_slice_get, slice_get_within}
-use Rattle.lotos_pattern.specs.Labels.{Label, internal, termination}
+use Rattle.lotos_pattern.specs.PatternLabels.{Label, internal, termination}
 use Rattle.lotos_pattern.specs.Patterns.{IsObservable}
-use Rattle.lotos_pattern.specs.Spelling.{IsNamed, IsWord, Names, Reads, Text, exits, gate, inside, texts_of}
+use Rattle.lotos_pattern.specs.Spelling.{IsNamed, IsWord, Names, EqualsIgnoringCase, Text, exits, gate, inside, texts_of}
 
 -- a word of the language begins with a letter, and so does its text in lower case
 letter : (b : ℕ) → IsTrue (is_ascii_alphabetic b) → to_ascii_lowercase b ≡ 60 → ⊥
 letter b h e = grind (arith, nat_tests)
 
-pub no_angle : (word rest : Text) → IsWord word → Reads word (60 ∷ rest) → ⊥
+pub no_angle : (word rest : Text) → IsWord word → EqualsIgnoringCase word (60 ∷ rest) → ⊥
 no_angle [] rest h e = h
 no_angle (b ∷ bs) rest h e = letter b h.0 cc
 
 -- one word does not read as two different ones
-pub apart : (word other left right : Text) → word ≡ other → left ≢ right → Reads word left → Reads other right → ⊥
+pub apart : (word other left right : Text) → word ≡ other → left ≢ right → EqualsIgnoringCase word left → EqualsIgnoringCase other right → ⊥
 apart word other left right same differ h k = differ (sym h ∙ ap (map to_ascii_lowercase) same ∙ k)
 
 exit_not_internal : termination ≢ internal
@@ -50,17 +50,17 @@ other_observable false l h = h
 
 module _ (strong : Bool) where
   -- a label is no word in angle brackets
-  pub label_no_angle : (word other rest : Text) (l : Label) → word ≡ other → Names strong word l → Reads other (60 ∷ rest) → ⊥
+  pub label_no_angle : (word other rest : Text) (l : Label) → word ≡ other → Names strong word l → EqualsIgnoringCase other (60 ∷ rest) → ⊥
   label_no_angle word other rest l same n e = no_angle word rest n.spelled (ap (map to_ascii_lowercase) same ∙ e)
 
   -- a word names one label
   pub same_label : (word other : Text) (l m : Label) → word ≡ other → Names strong word l → Names strong other m → l ≡ m
   same_label word other l m same n k = one_named word l m n.named (subst (λ w. IsNamed w m) (sym same) k.named)
 
-  pub names_exit : (word : Text) → IsWord word → Reads word termination → Names strong word termination
+  pub names_exit : (word : Text) → IsWord word → EqualsIgnoringCase word termination → Names strong word termination
   names_exit word spelled reads = record { spelled = spelled; named = exits reads; observable = other_observable strong termination exit_not_internal }
 
-  pub names_gate : (word : Text) → IsWord word → (Reads word termination → ⊥) → (Reads word internal → ⊥) → Names strong word (map to_ascii_uppercase word)
+  pub names_gate : (word : Text) → IsWord word → (EqualsIgnoringCase word termination → ⊥) → (EqualsIgnoringCase word internal → ⊥) → Names strong word (map to_ascii_uppercase word)
   names_gate word spelled no_exit no_internal = record {
     spelled = spelled;
     named = gate no_exit no_internal;
@@ -68,19 +68,19 @@ module _ (strong : Bool) where
   }
 
 -- what is not shown is not named by the internal action's word
-pub names_no_internal : (word : Text) (l : Label) → Names false word l → Reads word internal → ⊥
+pub names_no_internal : (word : Text) (l : Label) → Names false word l → EqualsIgnoringCase word internal → ⊥
 names_no_internal word l n is = n.observable (one_named word l internal n.named (inside is))
 
 -- the internal action's word is a word of the language, and names it where internal steps are shown
 letter_of : (b : ℕ) → to_ascii_lowercase b ≡ 105 → IsTrue (is_ascii_alphabetic b)
 letter_of b e = grind (arith, nat_tests)
 
-internal_spelled : (word : Text) → Reads word internal → IsWord word
+internal_spelled : (word : Text) → EqualsIgnoringCase word internal → IsWord word
 internal_spelled [] e = cc
 internal_spelled (b ∷ []) e = (letter_of b cc, tt)
 internal_spelled (b ∷ c ∷ bs) e = cc
 
-pub names_internal : (word : Text) → Reads word internal → Names true word internal
+pub names_internal : (word : Text) → EqualsIgnoringCase word internal → Names true word internal
 names_internal word is = record { spelled = internal_spelled word is; named = inside is; observable = tt }
 
 -- the text of the word at a place

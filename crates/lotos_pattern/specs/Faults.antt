@@ -1,8 +1,8 @@
 -- Why words spell no pattern. A number counts the words from 1.
 use Rattle.std.specs.Prelude.{◌≡◌, ◌⊎◌, ℕ, ◌+◌, ◌<◌, Bool, false, List, Some, codes, length, slice_get, take}
-use Rattle.lotos_pattern.specs.Labels.{Label, internal}
-use Rattle.lotos_pattern.specs.Patterns.{EndsDead, Pattern}
-use Rattle.lotos_pattern.specs.Spelling.{Names, PatternOf, Reads, Text}
+use Rattle.lotos_pattern.specs.PatternLabels.{Label, internal}
+use Rattle.lotos_pattern.specs.Patterns.{DemandsDeadlock, Pattern}
+use Rattle.lotos_pattern.specs.Spelling.{Names, PatternOf, EqualsIgnoringCase, Text}
 use Rattle.lotos_pattern.specs.declared.fault.PatternFault.{PatternFault}
 use Rattle.lotos_pattern.specs.declared.fault.PatternFault.TheVariants.{E41, E42, E43, E44, E45, E48, E99}
 
@@ -16,19 +16,19 @@ pub record HasWord (words : List Text) (n : ℕ) (Such : Text → Type 0) : Type
 
 -- the word is `<until>`
 abbrev pub IsUntil : Text → Type 0
-IsUntil word = Reads word (codes "<until>")
+IsUntil word = EqualsIgnoringCase word (codes "<until>")
 
 -- the word is `<while>`
 abbrev pub IsWhile : Text → Type 0
-IsWhile word = Reads word (codes "<while>")
+IsWhile word = EqualsIgnoringCase word (codes "<while>")
 
 -- the word is that of the internal action
 abbrev pub IsInternal : Text → Type 0
-IsInternal word = Reads word internal
+IsInternal word = EqualsIgnoringCase word internal
 
 module _ (strong : Bool) where
   -- there is a word with this number, and those before it spell the pattern
-  pub record StandsBehind (words : List Text) (n : ℕ) (p : Pattern) : Type 0 where
+  pub record IsAfterPattern (words : List Text) (n : ℕ) (p : Pattern) : Type 0 where
     pub before : ℕ
     pub counted : n ≡ before + 1
     pub there : before < length words
@@ -37,8 +37,8 @@ module _ (strong : Bool) where
   -- an element begins at the word with this number: those before it spell a pattern that another element may follow
   pub record BeginsElement (words : List Text) (n : ℕ) : Type 0 where
     pub pattern : Pattern
-    pub behind : StandsBehind words n pattern
-    pub goes_on : EndsDead pattern → ⊥
+    pub next_index : IsAfterPattern words n pattern
+    pub goes_on : DemandsDeadlock pattern → ⊥
     pub room : length pattern.elements < 256
 
   -- the word names a label
@@ -46,25 +46,25 @@ module _ (strong : Bool) where
   IsLabel word = (l : Label) × Names strong word l
 
   -- no element begins with the word, and it is not `i`
-  pub record BeginsNone (word : Text) : Type 0 where
+  pub record BeginsNoElement (word : Text) : Type 0 where
     pub label : IsLabel word → ⊥
     pub internal : IsInternal word → ⊥
-    pub any : Reads word (codes "<any>") → ⊥
+    pub any : EqualsIgnoringCase word (codes "<any>") → ⊥
     pub until : IsUntil word → ⊥
     pub while : IsWhile word → ⊥
-    pub deadlock : Reads word (codes "<deadlock>") → ⊥
+    pub deadlock : EqualsIgnoringCase word (codes "<deadlock>") → ⊥
 
   -- the word ends no element that `<until>` begins, and it is not `i`
-  pub record EndsNone (word : Text) : Type 0 where
+  pub record EndsNoUntil (word : Text) : Type 0 where
     pub label : IsLabel word → ⊥
     pub internal : IsInternal word → ⊥
-    pub deadlock : Reads word (codes "<deadlock>") → ⊥
+    pub deadlock : EqualsIgnoringCase word (codes "<deadlock>") → ⊥
 
   -- the word ends no element that `<while>` begins, and it is not `i`
-  pub record RepeatsNone (word : Text) : Type 0 where
+  pub record EndsNoWhile (word : Text) : Type 0 where
     pub label : IsLabel word → ⊥
     pub internal : IsInternal word → ⊥
-    pub any : Reads word (codes "<any>") → ⊥
+    pub any : EqualsIgnoringCase word (codes "<any>") → ⊥
 
   -- an element begins with such a word, the one with this number
   pub record BeginsWith (words : List Text) (n : ℕ) (Such : Text → Type 0) : Type 0 where
@@ -79,17 +79,17 @@ module _ (strong : Bool) where
   -- the cause that a fault names
   abbrev pub IsCause : List Text → PatternFault → Type 0
   -- an element begins, and the word begins none
-  IsCause words (E41 n) = BeginsElement words n × HasWord words n BeginsNone
+  IsCause words (E41 n) = BeginsElement words n × HasWord words n BeginsNoElement
   -- an element begins with `<until>`, and the word behind is none that ends it, or there is none
-  IsCause words (E42 n) = BeginsWith words n IsUntil × (HasWord words (n + 1) EndsNone ⊎ (length words ≡ n))
+  IsCause words (E42 n) = BeginsWith words n IsUntil × (HasWord words (n + 1) EndsNoUntil ⊎ (length words ≡ n))
   -- the words before demand a deadlock
-  IsCause words (E43 n) = (p : Pattern) × StandsBehind words n p × EndsDead p
+  IsCause words (E43 n) = (p : Pattern) × IsAfterPattern words n p × DemandsDeadlock p
   -- the words before spell 256 elements, and another may follow
-  IsCause words (E44 n) = (p : Pattern) × StandsBehind words n p × (EndsDead p → ⊥) × (length p.elements ≡ 256)
+  IsCause words (E44 n) = (p : Pattern) × IsAfterPattern words n p × (DemandsDeadlock p → ⊥) × (length p.elements ≡ 256)
   -- a label is awaited, and the word is that of the internal action, which is not shown
   IsCause words (E45 n) = AwaitsLabel words n × HasWord words n IsInternal × (strong ≡ false)
   -- an element begins with `<while>`, and the word behind is none that ends it, or there is none
-  IsCause words (E48 n) = BeginsWith words n IsWhile × (HasWord words (n + 1) RepeatsNone ⊎ (length words ≡ n))
+  IsCause words (E48 n) = BeginsWith words n IsWhile × (HasWord words (n + 1) EndsNoWhile ⊎ (length words ≡ n))
   IsCause words (E99 e) = Unit {0}
 
   -- the words spell no pattern, but for want of memory

@@ -1,10 +1,10 @@
-pub mod Labels
+pub mod PatternLabels
 pub mod Patterns
 pub mod Spelling
 pub mod Faults
-pub mod Positions
+pub mod NfaStates
 pub mod Places
-pub mod Elements
-pub mod Taking
-pub mod Passing
-pub mod Meaning
+pub mod ElementView
+pub mod Transitions
+pub mod PlaceTransitions
+pub mod WordKinds

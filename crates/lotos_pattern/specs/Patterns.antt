@@ -1,6 +1,6 @@
 -- What a pattern is, and which sequences of labels it matches.
 use Rattle.std.specs.Prelude.{◌≡◌, ◌≢◌, Bool, true, false, List, [], ◌∷◌, ◌++◌, All}
-use Rattle.lotos_pattern.specs.Labels.{Label, internal}
+use Rattle.lotos_pattern.specs.PatternLabels.{Label, internal}
 
 -- the list is the join of one part for each of the items, in turn
 abbrev pub IsJoin : {E X : Type 0} → (E → List X → Type 0) → List E → List X → Type 0
@@ -45,13 +45,13 @@ pub record Pattern : Type 0 where
   pub strong : Bool
 
 -- a pattern matches one segment for each of its elements in turn, all of them observable
-pub record Lang (p : Pattern) (s : List Label) : Type 0 where
+pub record Matches (p : Pattern) (s : List Label) : Type 0 where
   pub joined : IsJoin Segment p.elements s
   pub observable : All (IsObservable p.strong) s
 
 -- some sequence that the pattern matches begins so
 abbrev pub Viable : Pattern → List Label → Type 0
-Viable p r = (s : List Label) × Lang p (r ++ s)
+Viable p r = (s : List Label) × Matches p (r ++ s)
 
 -- the element demands that the end is a deadlock
 abbrev pub IsEnd : Element → Type 0
@@ -64,17 +64,17 @@ IsEnd deadlock = Unit {0}
 IsEnd until_deadlock = Unit {0}
 
 -- the last of the elements demands that the end is a deadlock
-abbrev pub EndLast : List Element → Type 0
-EndLast [] = ⊥
-EndLast (e ∷ []) = IsEnd e
-EndLast (e ∷ f ∷ p) = EndLast (f ∷ p)
+abbrev pub LastDemandsDeadlock : List Element → Type 0
+LastDemandsDeadlock [] = ⊥
+LastDemandsDeadlock (e ∷ []) = IsEnd e
+LastDemandsDeadlock (e ∷ f ∷ p) = LastDemandsDeadlock (f ∷ p)
 
 -- a matched sequence must end in a deadlock
-abbrev pub EndsDead : Pattern → Type 0
-EndsDead p = EndLast p.elements
+abbrev pub DemandsDeadlock : Pattern → Type 0
+DemandsDeadlock p = LastDemandsDeadlock p.elements
 
 -- an element that demands a deadlock stands last only
-abbrev pub EndsLast : List Element → Type 0
-EndsLast [] = Unit {0}
-EndsLast (e ∷ []) = Unit {0}
-EndsLast (e ∷ f ∷ p) = (IsEnd e → ⊥) × EndsLast (f ∷ p)
+abbrev pub OnlyLastDemandsDeadlock : List Element → Type 0
+OnlyLastDemandsDeadlock [] = Unit {0}
+OnlyLastDemandsDeadlock (e ∷ []) = Unit {0}
+OnlyLastDemandsDeadlock (e ∷ f ∷ p) = (IsEnd e → ⊥) × OnlyLastDemandsDeadlock (f ∷ p)

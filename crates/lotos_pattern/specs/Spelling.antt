@@ -3,8 +3,8 @@ use Rattle.std.specs.Prelude.{◌≡◌, ℕ, ◌≤◌, ◌||◌, ◌==◌, Boo
 use Rattle.std.specs.Borrow.{Bor}
 use Rattle.std.specs.Char.{is_ascii_alphabetic, is_ascii_alphanumeric, to_ascii_lowercase, to_ascii_uppercase}
 use Rattle.std.specs.List.{AllByRecursion}
-use Rattle.lotos_pattern.specs.Labels.{Label, internal, termination}
-use Rattle.lotos_pattern.specs.Patterns.{Element, EndsLast, IsJoin, IsObservable, Pattern, any, deadlock, one, until, until_deadlock, while, while_any}
+use Rattle.lotos_pattern.specs.PatternLabels.{Label, internal, termination}
+use Rattle.lotos_pattern.specs.Patterns.{Element, OnlyLastDemandsDeadlock, IsJoin, IsObservable, Pattern, any, deadlock, one, until, until_deadlock, while, while_any}
 
 abbrev pub Text : Type 0
 Text = List ℕ
@@ -23,14 +23,14 @@ IsWord [] = ⊥
 IsWord (b ∷ bs) = IsTrue (is_ascii_alphabetic b) × AllByRecursion (λ c. IsTrue (is_word_byte c)) bs
 
 -- the word is this one, in upper or lower case
-abbrev pub Reads : Text → Text → Type 0
-Reads word text = map to_ascii_lowercase word ≡ text
+abbrev pub EqualsIgnoringCase : Text → Text → Type 0
+EqualsIgnoringCase word text = map to_ascii_lowercase word ≡ text
 
 -- what a label word names: `exit` is termination, `i` is the internal action, and every other word a gate's name in upper case
 pub data IsNamed (word : Text) : Label → Type 0 where
-  exits : Reads word termination → IsNamed word termination
-  inside : Reads word internal → IsNamed word internal
-  gate : (Reads word termination → ⊥) → (Reads word internal → ⊥) → IsNamed word (map to_ascii_uppercase word)
+  exits : EqualsIgnoringCase word termination → IsNamed word termination
+  inside : EqualsIgnoringCase word internal → IsNamed word internal
+  gate : (EqualsIgnoringCase word termination → ⊥) → (EqualsIgnoringCase word internal → ⊥) → IsNamed word (map to_ascii_uppercase word)
 
 -- the label that a word of the language names, which can be observed
 pub record Names (strong : Bool) (word : Text) (l : Label) : Type 0 where
@@ -41,16 +41,16 @@ pub record Names (strong : Bool) (word : Text) (l : Label) : Type 0 where
 -- the words that spell an element
 abbrev pub Spelling : (strong : Bool) → Element → List Text → Type 0
 Spelling strong (one l) words = (word : Text) × (words ≡ word ∷ []) × Names strong word l
-Spelling strong any words = (word : Text) × (words ≡ word ∷ []) × Reads word (codes "<any>")
+Spelling strong any words = (word : Text) × (words ≡ word ∷ []) × EqualsIgnoringCase word (codes "<any>")
 Spelling strong (until l) words =
-    (first second : Text) × (words ≡ first ∷ second ∷ []) × Reads first (codes "<until>") × Names strong second l
+    (first second : Text) × (words ≡ first ∷ second ∷ []) × EqualsIgnoringCase first (codes "<until>") × Names strong second l
 Spelling strong (while l) words =
-    (first second : Text) × (words ≡ first ∷ second ∷ []) × Reads first (codes "<while>") × Names strong second l
+    (first second : Text) × (words ≡ first ∷ second ∷ []) × EqualsIgnoringCase first (codes "<while>") × Names strong second l
 Spelling strong while_any words =
-    (first second : Text) × (words ≡ first ∷ second ∷ []) × Reads first (codes "<while>") × Reads second (codes "<any>")
-Spelling strong deadlock words = (word : Text) × (words ≡ word ∷ []) × Reads word (codes "<deadlock>")
+    (first second : Text) × (words ≡ first ∷ second ∷ []) × EqualsIgnoringCase first (codes "<while>") × EqualsIgnoringCase second (codes "<any>")
+Spelling strong deadlock words = (word : Text) × (words ≡ word ∷ []) × EqualsIgnoringCase word (codes "<deadlock>")
 Spelling strong until_deadlock words =
-    (first second : Text) × (words ≡ first ∷ second ∷ []) × Reads first (codes "<until>") × Reads second (codes "<deadlock>")
+    (first second : Text) × (words ≡ first ∷ second ∷ []) × EqualsIgnoringCase first (codes "<until>") × EqualsIgnoringCase second (codes "<deadlock>")
 
 -- The words spell the pattern: a join of at most 256 elements, of which the last alone may demand a deadlock. Where internal
 -- steps are shown the internal action is a label like others.
@@ -58,4 +58,4 @@ pub record PatternOf (strong : Bool) (words : List Text) (p : Pattern) : Type 0 
   pub shows : p.strong ≡ strong
   pub spelled : IsJoin (Spelling strong) p.elements words
   pub short : length p.elements ≤ 256
-  pub ends_last : EndsLast p.elements
+  pub ends_last : OnlyLastDemandsDeadlock p.elements

@@ -1,8 +1,8 @@
 //! Elements of a pattern, and what a label does at them.
 ghost use Rattle.std.specs.Prelude.{◌↔◌, ◌≤◌, ℕ, MatchBool, [], drop};
-ghost use Rattle.lotos_pattern.specs.Patterns.{EndLast, IsEnd, IsJoin, Segment};
-ghost use Rattle.lotos_pattern.specs.Elements.{element_of, elements_of};
-ghost use Rattle.lotos_pattern.specs.Taking.{Takes};
+ghost use Rattle.lotos_pattern.specs.Patterns.{LastDemandsDeadlock, IsEnd, IsJoin, Segment};
+ghost use Rattle.lotos_pattern.specs.ElementView.{element_of, elements_of};
+ghost use Rattle.lotos_pattern.specs.Transitions.{Takes};
 
 /// An element of a pattern, with its label as it is printed.
 #[derive(Debug, Drop)]
@@ -24,46 +24,46 @@ pub(crate) enum Element {
 }
 
 /// What a label does where an element's segment begins.
-pub(crate) enum Taking {
+pub(crate) enum Transition {
     /// It is the whole segment.
-    Passes,
+    Advance,
     /// It belongs to the segment, and what is left may again be any segment of the element.
-    Stays,
+    Stay,
     /// No segment begins so.
-    Fails,
+    Reject,
 }
 
 impl Element {
     /// What the label, given by its printed text, does where this element's segment begins.
-    pub(crate) fn take(&self, label: &str) -> Taking
+    pub(crate) fn transition_on(&self, label: &str) -> Transition
         ensures { Takes (element_of self.now) label.now result }
     {
         match self {
             Element::Label(own) => {
                 if own.as_str() == label {
-                    Taking::Passes
+                    Transition::Advance
                 } else {
-                    Taking::Fails
+                    Transition::Reject
                 }
             }
-            Element::Any => Taking::Passes,
+            Element::Any => Transition::Advance,
             Element::Until(last) => {
                 if last.as_str() == label {
-                    Taking::Passes
+                    Transition::Advance
                 } else {
-                    Taking::Stays
+                    Transition::Stay
                 }
             }
             Element::While(repeated) => {
                 if repeated.as_str() == label {
-                    Taking::Stays
+                    Transition::Stay
                 } else {
-                    Taking::Fails
+                    Transition::Reject
                 }
             }
-            Element::WhileAny => Taking::Stays,
-            Element::Deadlock => Taking::Fails,
-            Element::UntilDeadlock => Taking::Stays,
+            Element::WhileAny => Transition::Stay,
+            Element::Deadlock => Transition::Reject,
+            Element::UntilDeadlock => Transition::Stay,
         }
     }
 
@@ -91,8 +91,8 @@ impl Element {
 }
 
 /// Whether the last of the elements demands that the end is a deadlock.
-pub(crate) fn ends_dead(elements: &[Element]) -> bool
-    ensures { MatchBool result (EndLast (elements_of elements.now)) (EndLast (elements_of elements.now) → ⊥) }
+pub(crate) fn demands_deadlock(elements: &[Element]) -> bool
+    ensures { MatchBool result (LastDemandsDeadlock (elements_of elements.now)) (LastDemandsDeadlock (elements_of elements.now) → ⊥) }
 {
     match elements.last() {
         Some(last) => last.is_end(),
@@ -101,12 +101,12 @@ pub(crate) fn ends_dead(elements: &[Element]) -> bool
 }
 
 /// How many of the elements are done at least where a sequence ends: those behind may all be empty.
-pub(crate) fn least_done(elements: &[Element]) -> usize
+pub(crate) fn min_accepting_state(elements: &[Element]) -> usize
     ensures { (k : ℕ) → IsJoin Segment (drop k (elements_of elements.now)) [] ↔ (result ≤ k) }
 {
-    for position in (0..elements.len()).rev() {
-        if !elements[position].may_be_empty() {
-            return position + 1;
+    for index in (0..elements.len()).rev() {
+        if !elements[index].may_be_empty() {
+            return index + 1;
         }
     }
     0

@@ -9,8 +9,8 @@ mod element;
 mod fault;
 pub mod laws;
 mod pattern;
+mod pattern_parser;
 mod place;
-mod reading;
 
 pub use fault::PatternFault;
 pub use pattern::Pattern;

@@ -1,17 +1,17 @@
 //! Patterns, and how a sequence stands to one.
 ghost use Rattle.std.specs.Prelude.{◌≡◌, ◌∷◌, ◌++◌, ◌<◌, [], List, IfErr, IfOk, MatchBool, MatchOption};
-ghost use Rattle.lotos_pattern.specs.Labels.{Label};
+ghost use Rattle.lotos_pattern.specs.PatternLabels.{Label};
 ghost use Rattle.lotos_pattern.specs.Patterns.{IsObservable, Viable};
-ghost use Rattle.lotos_pattern.specs.Elements.{element_of};
+ghost use Rattle.lotos_pattern.specs.ElementView.{element_of};
 ghost use Rattle.lotos_pattern.specs.Spelling.{PatternOf, texts_of};
 ghost use Rattle.lotos_pattern.specs.Faults.{IsCause, SpellsNone};
-ghost use Rattle.lotos_pattern.specs.Places.{Accepts, Stands};
-ghost use Rattle.lotos_pattern.specs.Passing.{IsMarked, IsReachedNext, Leads, LeadsOn};
+ghost use Rattle.lotos_pattern.specs.Places.{Accepts, IsPlaceOf};
+ghost use Rattle.lotos_pattern.specs.PlaceTransitions.{HasTransition, IsNextState, CanContinue, IsSuccessorPlace};
 
-use crate::element::{Element, Taking, ends_dead, least_done};
+use crate::element::{Element, Transition, demands_deadlock, min_accepting_state};
 use crate::fault::PatternFault;
+use crate::pattern_parser::parse_elements;
 use crate::place::{End, Place};
-use crate::reading::read_elements;
 use std::alloc::Global;
 use std::marker::Model;
 
@@ -25,7 +25,7 @@ pub struct Pattern {
 
 impl Model for Pattern {
     ghost use Rattle.lotos_pattern.specs.Patterns.{Pattern};
-    ghost use Rattle.lotos_pattern.specs.Elements.{IsPattern, elements_of, pattern_of};
+    ghost use Rattle.lotos_pattern.specs.ElementView.{IsPattern, elements_of, pattern_of};
 
     ghost Value = { Pattern };
 
@@ -45,7 +45,7 @@ impl Pattern {
         ensures cause { IfErr result (IsCause strong (texts_of words.now)) }
         ensures nothing { IfErr result (SpellsNone strong (texts_of words.now)) }
     {
-        let elements = read_elements(alloc, words, strong)?;
+        let elements = parse_elements(alloc, words, strong)?;
         Ok(Pattern { elements, strong })
     }
 
@@ -58,36 +58,36 @@ impl Pattern {
 
     /// The place before any label.
     pub fn begin(&self) -> Place
-        ensures begins { Stands self.now [] result }
+        ensures begins { IsPlaceOf self.now [] result }
         ensures viable { Viable self.now [] }
     {
         // That the elements make a pattern is known where one of the fields is read.
         let _ = &self.elements;
-        let mut place = Place::nowhere();
+        let mut place = Place::empty();
         place.add(0);
         place
     }
 
     /// The place behind one more label, given by its printed text; none where no sequence that the pattern matches goes on so.
     pub fn step(&self, place: Place, label: &str) -> Option<Place>
-        ensures { (r : List Label) → Stands self.now r place →
+        ensures { (r : List Label) → IsPlaceOf self.now r place →
             MatchOption result (Viable self.now (r ++ label.now ∷ []) → ⊥)
-            (λ q. Viable self.now (r ++ label.now ∷ []) × Stands self.now (r ++ label.now ∷ []) q) }
+            (λ q. Viable self.now (r ++ label.now ∷ []) × IsPlaceOf self.now (r ++ label.now ∷ []) q) }
     {
         if is_hidden(self.strong, label) {
             return None;
         }
-        let next = self.led_to(&place, label);
-        if next.is_nowhere() { None } else { Some(next) }
+        let next = self.successor_place(&place, label);
+        if next.is_empty() { None } else { Some(next) }
     }
 
     /// Whether the sequence whose place this is may end there.
     pub fn accepts(&self, place: Place) -> End
-        ensures { (r : List Label) → Stands self.now r place → Accepts self.now r result }
+        ensures { (r : List Label) → IsPlaceOf self.now r place → Accepts self.now r result }
     {
-        if !self.may_end(&place) {
+        if !self.is_accepting(&place) {
             End::No
-        } else if ends_dead(self.elements.as_slice()) {
+        } else if demands_deadlock(self.elements.as_slice()) {
             End::IfDead
         } else {
             End::Yes
@@ -95,26 +95,26 @@ impl Pattern {
     }
 
     /// Where the label leads from the positions of the place, whether or not it can be observed.
-    fn led_to(&self, place: &Place, label: &str) -> Place
-        ensures { LeadsOn self.now.elements place.now label.now result }
+    fn successor_place(&self, place: &Place, label: &str) -> Place
+        ensures { IsSuccessorPlace self.now.elements place.now label.now result }
     {
         let elements = self.elements.as_slice();
         let end = elements.len();
-        let mut next = Place::nowhere();
-        let mut position = place.first_from(0).unwrap_or(end);
-        while position < end {
-            let element = &elements[position];
-            mark(&mut next, element.take(label), position);
-            position = reached_behind(element, place, position, end);
+        let mut next = Place::empty();
+        let mut state = place.first_state_from(0).unwrap_or(end);
+        while state < end {
+            let element = &elements[state];
+            apply_transition(&mut next, element.transition_on(label), state);
+            state = skip_empty_elements(element, place, state, end);
         }
         next
     }
 
     /// Whether no label need follow at one of the positions of the place.
-    fn may_end(&self, place: &Place) -> bool
-        ensures { MatchBool result (Leads self.now.elements place.now []) (Leads self.now.elements place.now [] → ⊥) }
+    fn is_accepting(&self, place: &Place) -> bool
+        ensures { MatchBool result (CanContinue self.now.elements place.now []) (CanContinue self.now.elements place.now [] → ⊥) }
     {
-        place.reaches(least_done(self.elements.as_slice()))
+        place.has_state(min_accepting_state(self.elements.as_slice()))
     }
 }
 
@@ -127,26 +127,26 @@ fn is_hidden(strong: bool, label: &str) -> bool
 
 /// Where the element at the position is reached, the next position that is: the one behind it where it may be empty, else the
 /// next of the place, and the end where there is none.
-fn reached_behind(element: &Element, place: &Place, position: usize, end: usize) -> usize
-    requires { position < end }
-    ensures { IsReachedNext (element_of element.now) place.now position end result }
+fn skip_empty_elements(element: &Element, place: &Place, state: usize, end: usize) -> usize
+    requires { state < end }
+    ensures { IsNextState (element_of element.now) place.now state end result }
 {
     if element.may_be_empty() {
-        position + 1
+        state + 1
     } else {
-        place.first_from(position + 1).unwrap_or(end)
+        place.first_state_from(state + 1).unwrap_or(end)
     }
 }
 
 /// Marks where a label leads that does this at the element behind so many others.
-fn mark(place: &mut Place, taking: Taking, position: usize)
-    requires { position < 256 }
-    ensures { IsMarked taking position place.old place.new }
+fn apply_transition(place: &mut Place, transition: Transition, state: usize)
+    requires { state < 256 }
+    ensures { HasTransition transition state place.old place.new }
 {
-    match taking {
-        Taking::Passes => place.add(position + 1),
-        Taking::Stays => place.add(position),
-        Taking::Fails => {}
+    match transition {
+        Transition::Advance => place.add(state + 1),
+        Transition::Stay => place.add(state),
+        Transition::Reject => {}
     }
 }
 

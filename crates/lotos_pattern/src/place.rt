@@ -16,7 +16,7 @@ pub struct Place {
 }
 
 impl Model for Place {
-    ghost use Rattle.lotos_pattern.specs.Positions.{Place};
+    ghost use Rattle.lotos_pattern.specs.NfaStates.{Place};
 
     ghost Value = { Place };
 
@@ -27,38 +27,38 @@ impl Model for Place {
 
 impl Place {
     ghost use Rattle.std.specs.Prelude.{◌≡◌, ◌⊎◌, ◌↔◌, ◌<◌, ◌≤◌, ◌/◌, ℕ, MatchBool, MatchOption};
-    ghost use Rattle.lotos_pattern.specs.Positions.{Has, IsFirst};
+    ghost use Rattle.lotos_pattern.specs.NfaStates.{HasState, IsFirstState};
 
     /// No position.
-    pub(crate) fn nowhere() -> Place
-        ensures { (k : ℕ) → Has result k → ⊥ }
+    pub(crate) fn empty() -> Place
+        ensures { (k : ℕ) → HasState result k → ⊥ }
     {
         Place { words: [0; WORDS] }
     }
 
     /// One position more: where so many elements are done.
-    pub(crate) fn add(&mut self, position: usize)
-        requires { position < 257 }
-        ensures { (k : ℕ) → Has self.new k ↔ (Has self.old k ⊎ (k ≡ position)) }
+    pub(crate) fn add(&mut self, state: usize)
+        requires { state < 257 }
+        ensures { (k : ℕ) → HasState self.new k ↔ (HasState self.old k ⊎ (k ≡ state)) }
     {
-        self.words[position / BITS] |= 1 << (position % BITS);
+        self.words[state / BITS] |= 1 << (state % BITS);
     }
 
     /// The first of its positions from this one on, if there is one.
-    pub(crate) fn first_from(&self, position: usize) -> Option<usize>
-        ensures { MatchOption result ((k : ℕ) → position ≤ k → Has self.now k → ⊥) (IsFirst self.now position) }
+    pub(crate) fn first_state_from(&self, state: usize) -> Option<usize>
+        ensures { MatchOption result ((k : ℕ) → state ≤ k → HasState self.now k → ⊥) (IsFirstState self.now state) }
     {
         let words = self.words.as_slice();
-        let number = position / BITS;
+        let number = state / BITS;
         if number >= words.len() {
             return None;
         }
-        let first = self.first_in_word(position);
+        let first = self.first_state_in_word(state);
         if first.is_some() {
             return first;
         }
         for later in number + 1..words.len() {
-            let first = self.first_in_word(later * BITS);
+            let first = self.first_state_in_word(later * BITS);
             if first.is_some() {
                 return first;
             }
@@ -67,31 +67,31 @@ impl Place {
     }
 
     /// The first of its positions from this one on, if there is one in the same word.
-    fn first_in_word(&self, position: usize) -> Option<usize>
-        requires { position / 64 < 5 }
-        ensures { MatchOption result ((k : ℕ) → position ≤ k → k / 64 ≡ position / 64 → Has self.now k → ⊥)
-            (IsFirst self.now position) }
+    fn first_state_in_word(&self, state: usize) -> Option<usize>
+        requires { state / 64 < 5 }
+        ensures { MatchOption result ((k : ℕ) → state ≤ k → k / 64 ≡ state / 64 → HasState self.now k → ⊥)
+            (IsFirstState self.now state) }
     {
-        let rest = self.words[position / BITS] >> (position % BITS);
+        let rest = self.words[state / BITS] >> (state % BITS);
         if rest == 0 {
             return None;
         }
-        Some(position + rest.trailing_zeros() as usize)
+        Some(state + rest.trailing_zeros() as usize)
     }
 
     /// Whether it is where so many elements are done, or more.
-    pub(crate) fn reaches(&self, position: usize) -> bool
-        ensures { MatchBool result ((k : ℕ) × (position ≤ k) × Has self.now k)
-            ((k : ℕ) → position ≤ k → Has self.now k → ⊥) }
+    pub(crate) fn has_state(&self, state: usize) -> bool
+        ensures { MatchBool result ((k : ℕ) × (state ≤ k) × HasState self.now k)
+            ((k : ℕ) → state ≤ k → HasState self.now k → ⊥) }
     {
-        self.first_from(position).is_some()
+        self.first_state_from(state).is_some()
     }
 
     /// Whether it is nowhere.
-    pub(crate) fn is_nowhere(&self) -> bool
-        ensures { MatchBool result ((k : ℕ) → Has self.now k → ⊥) ((k : ℕ) × Has self.now k) }
+    pub(crate) fn is_empty(&self) -> bool
+        ensures { MatchBool result ((k : ℕ) → HasState self.now k → ⊥) ((k : ℕ) × HasState self.now k) }
     {
-        self.first_from(0).is_none()
+        self.first_state_from(0).is_none()
     }
 }
 

@@ -1,28 +1,28 @@
 -- Calls: what is found and lost behind the name of a process.
 use Rattle.std.proofs.Common.{◌≡◌, ℕ, ◌<◌, false, List, [], ◌∷◌, ◌++◌, Some, None, inl, inr, refl, sym, ap, subst}
 use Rattle.std.proofs.lemmas.List.{append-nil}
-use Rattle.lotos_text.specs.Tree as t
-use Rattle.lotos_text.specs.Tree.{Tree}
-use Rattle.lotos_text.specs.Grammar.{Is, placed, prefixing, Spells, call}
+use Rattle.lotos_text.specs.AstView as t
+use Rattle.lotos_text.specs.AstView.{BehaviourView}
+use Rattle.lotos_text.specs.Grammar.{IsOfKind, located_name, prefixing, Spells, call}
 use Rattle.lotos_text.specs.Follow.{rank}
-use Rattle.lotos_text.specs.Parsing.{Phrase, NotFirst, Found, Starts, Lost}
-use Rattle.lotos_text.specs.Phrases.{Then, Gates, Expression}
+use Rattle.lotos_text.specs.ParserContracts.{Phrase, DoesNotStartWith, Parses, StartsAlike, Fails}
+use Rattle.lotos_text.specs.Phrases.{Sequence, OptionalGates, BehaviourPhrase}
 use Rattle.lotos_text.specs.declared.token.Sign.TheVariants as s
 use Rattle.lotos_text.specs.declared.token.Token.{Token}
 use Rattle.lotos_text.specs.declared.token.TokenKind.TheVariants.{Identifier, Sign}
-use Rattle.lotos_text.specs.declared.tree.Placed.{Placed}
-use Rattle.lotos_text.proofs.Ends.{Ended}
+use Rattle.lotos_text.specs.declared.ast.Placed.{Placed}
+use Rattle.lotos_text.proofs.OperandEnds.{Ended}
 use Rattle.lotos_text.proofs.FirstToken.{not_first, starts_not, starts_behind}
 use Rattle.lotos_text.proofs.Limits.{within_none}
 use Rattle.lotos_text.proofs.NameLists.{firm_gates}
 use Rattle.lotos_text.proofs.Operands.{below_calls, not_bracket, taken_name}
-use Rattle.lotos_text.proofs.Sequence.{lost_first, lost_second}
+use Rattle.lotos_text.proofs.Sequences.{lost_first, lost_second}
 
 module _ (text : List ℕ) where
   -- a name and its gates, with which nothing goes on, are a call
-  pub found_call : (room : ℕ) (n : Token) (ts rest : List Token) (name : Placed) (names : List Placed) → Is n Identifier →
-      name ≡ placed text n → Found (Gates text) ts names rest → rank rest < 5 →
-      Found (Expression text prefixing (Some room)) (n ∷ ts) (t.call name names) rest
+  pub found_call : (room : ℕ) (n : Token) (ts rest : List Token) (name : Placed) (names : List Placed) → IsOfKind n Identifier →
+      name ≡ located_name text n → Parses (OptionalGates text) ts names rest → rank rest < 5 →
+      Parses (BehaviourPhrase text prefixing (Some room)) (n ∷ ts) (t.call name names) rest
   found_call room n ts rest name names i e f h = record {
     front = n ∷ f.front;
     joined = ap (λ m. n ∷ m) f.joined;
@@ -40,17 +40,17 @@ module _ (text : List ℕ) where
 
   -- gates, with which nothing goes on
   abbrev Listed : Phrase (List Placed)
-  Listed = Then alone (Gates text) Ended
+  Listed = Sequence alone (OptionalGates text) Ended
 
   -- what stands behind the name of a call is lost, and so is the call
-  lost_listed : (n : Token) (ts rest : List Token) → Is n Identifier → NotFirst (Sign s.Semicolon) ts → Lost Listed ts rest →
-      Lost (Expression text prefixing None) (n ∷ ts) rest
+  lost_listed : (n : Token) (ts rest : List Token) → IsOfKind n Identifier → DoesNotStartWith (Sign s.Semicolon) ts → Fails Listed ts rest →
+      Fails (BehaviourPhrase text prefixing None) (n ∷ ts) rest
   lost_listed n ts rest i without l = record {
     front = n ∷ l.front;
     joined = ap (λ m. n ∷ m) l.joined;
     never = λ more own behind x st e p.
-        let alike : Starts ts (l.front ++ more) =
-        subst (λ m. Starts m (l.front ++ more)) (sym l.joined) (starts_behind l.front rest more st) in
+        let alike : StartsAlike ts (l.front ++ more) =
+        subst (λ m. StartsAlike m (l.front ++ more)) (sym l.joined) (starts_behind l.front rest more st) in
         let none = starts_not (Sign s.Semicolon) ts (l.front ++ more) alike without in
         let quits = below_calls p.ends behind p.quits in
         elim (taken_name text behind (l.front ++ more) i p.spells (sym e)) [
@@ -69,13 +69,13 @@ module _ (text : List ℕ) where
   }
 
   -- where the gates are lost, so is the call
-  pub lost_gates : (n : Token) (ts rest : List Token) → Is n Identifier → NotFirst (Sign s.Semicolon) ts →
-      Lost (Gates text) ts rest → Lost (Expression text prefixing None) (n ∷ ts) rest
-  lost_gates n ts rest i without l = lost_listed n ts rest i without (lost_first alone (Gates text) Ended ts rest l)
+  pub lost_gates : (n : Token) (ts rest : List Token) → IsOfKind n Identifier → DoesNotStartWith (Sign s.Semicolon) ts →
+      Fails (OptionalGates text) ts rest → Fails (BehaviourPhrase text prefixing None) (n ∷ ts) rest
+  lost_gates n ts rest i without l = lost_listed n ts rest i without (lost_first alone (OptionalGates text) Ended ts rest l)
 
   -- where something goes on with the call, it is no operand
-  pub lost_called : (n : Token) (ts between rest : List Token) (names : List Placed) → Is n Identifier →
-      NotFirst (Sign s.Semicolon) ts → Found (Gates text) ts names between → Lost Ended between rest →
-      Lost (Expression text prefixing None) (n ∷ ts) rest
+  pub lost_called : (n : Token) (ts between rest : List Token) (names : List Placed) → IsOfKind n Identifier →
+      DoesNotStartWith (Sign s.Semicolon) ts → Parses (OptionalGates text) ts names between → Fails Ended between rest →
+      Fails (BehaviourPhrase text prefixing None) (n ∷ ts) rest
   lost_called n ts between rest names i without f l =
-      lost_listed n ts rest i without (lost_second alone (Gates text) Ended (firm_gates text) ts between rest names f l)
+      lost_listed n ts rest i without (lost_second alone (OptionalGates text) Ended (firm_gates text) ts between rest names f l)

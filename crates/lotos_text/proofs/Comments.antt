@@ -6,14 +6,14 @@ use Rattle.std.proofs.lemmas.List.{take_all, take_at, take-append-drop, take-app
 use Rattle.std.proofs.lemmas.Slice.Eq.{starts_is}
 use Rattle.std.proofs.Math.Seq.{drop-append_seam, take-append_seam}
 use Rattle.std.specs.List.{starts_with}
-use Rattle.lotos_text.specs.Cut.{Begins, opening, closing, Closed, IsComment, Unclosed}
+use Rattle.lotos_text.specs.Lexing.{StartsWith, comment_opening, comment_closing, IsClosedComment, IsComment, IsUnclosedComment}
 
 -- where the test passes, the front begins the text; where it fails, it does not
-pub begins_true : (front text : List ℕ) → starts_with nat_eq text front ≡ true → Begins front text
+pub begins_true : (front text : List ℕ) → starts_with nat_eq text front ≡ true → StartsWith front text
 begins_true front text h =
     (drop (length front) text, (starts_is {E = nat_eq} Decides-eqb text front (starts_with nat_eq text front) refl).0 h)
 
-pub begins_false : (front text : List ℕ) → starts_with nat_eq text front ≡ false → Begins front text → ⊥
+pub begins_false : (front text : List ℕ) → starts_with nat_eq text front ≡ false → StartsWith front text → ⊥
 begins_false front text h b =
     both_ways (starts_with nat_eq text front) h
     ((starts_is {E = nat_eq} Decides-eqb text front (starts_with nat_eq text front) refl).1 b.0 b.1)
@@ -23,19 +23,19 @@ record Closing (front text : List ℕ) : Type 0 where
   at : ℕ
   behind_opening : 2 ≤ at
   long : length front ≡ at + 2
-  stands : Begins closing (drop at text)
+  stands : StartsWith comment_closing (drop at text)
 
-closing_of : (front rest text : List ℕ) → text ≡ front ++ rest → Closed front → Closing front text
+closing_of : (front rest text : List ℕ) → text ≡ front ++ rest → IsClosedComment front → Closing front text
 closing_of front rest text e c =
     let body = c.0 in
     record {
       at = suc (suc (length body));
       behind_opening = omega arith;
-      long = ap length c.1 ∙ omega (arith, length-append body closing);
+      long = ap length c.1 ∙ omega (arith, length-append body comment_closing);
       stands = (
         rest,
-        ap (drop (suc (suc (length body)))) (e ∙ ap (λ l. l ++ rest) c.1) ∙ ap (drop (length body)) (append_assoc body closing rest) ∙
-            drop-append_seam body (closing ++ rest),
+        ap (drop (suc (suc (length body)))) (e ∙ ap (λ l. l ++ rest) c.1) ∙ ap (drop (length body)) (append_assoc body comment_closing rest) ∙
+            drop-append_seam body (comment_closing ++ rest),
       );
     }
 
@@ -43,7 +43,7 @@ closing_of front rest text e c =
 pub record NoneBefore (text : List ℕ) (at : ℕ) : Type 0 where
   pub behind_opening : 2 ≤ at
   pub inside : at ≤ length text
-  pub none : (k : ℕ) → 2 ≤ k → k < at → Begins closing (drop k text) → ⊥
+  pub none : (k : ℕ) → 2 ≤ k → k < at → StartsWith comment_closing (drop k text) → ⊥
 
 -- the rest of the text, as the program takes it
 abbrev pub rest_of : List ℕ → ℕ → List ℕ
@@ -54,22 +54,22 @@ pub rest_is : (text : List ℕ) (at : ℕ) → rest_of text at ≡ drop at text
 rest_is text at = take_all (length text - at) (drop at text) (omega (arith, length-drop at text))
 
 -- where none stands at the offset either, none stands before the one behind it
-pub none_step : (text : List ℕ) (at : ℕ) → NoneBefore text at → at < length text → starts_with nat_eq (rest_of text at) closing ≡ false →
+pub none_step : (text : List ℕ) (at : ℕ) → NoneBefore text at → at < length text → starts_with nat_eq (rest_of text at) comment_closing ≡ false →
     NoneBefore text (at + 1)
 none_step text at n s h = record {
   behind_opening = omega (arith, n.behind_opening);
   inside = omega (arith, s);
   none = λ k low high c. elim (cases_order k at) [
     | inl same ↦
-        begins_false closing (rest_of text at) h
-        (subst (λ l. Begins closing l) (ap (λ m. drop m text) same ∙ sym (rest_is text at)) c)
+        begins_false comment_closing (rest_of text at) h
+        (subst (λ l. StartsWith comment_closing l) (ap (λ m. drop m text) same ∙ sym (rest_is text at)) c)
     | inr (inl less) ↦ n.none k low less c
     | inr (inr more) ↦ omega (arith, more, high)
   ];
 }
 
 -- so the closing of a closed beginning stands at the offset or behind it
-closed_behind : (front rest text : List ℕ) (at : ℕ) → NoneBefore text at → text ≡ front ++ rest → Closed front → at + 2 ≤ length front
+closed_behind : (front rest text : List ℕ) (at : ℕ) → NoneBefore text at → text ≡ front ++ rest → IsClosedComment front → at + 2 ≤ length front
 closed_behind front rest text at n e c =
     let k = closing_of front rest text e c in
     elim (cases_order k.at at) [
@@ -79,38 +79,38 @@ closed_behind front rest text at n e c =
     ]
 
 -- the text up to a closing is closed
-opened_front : (text more : List ℕ) (at : ℕ) → text ≡ opening ++ more → 2 ≤ at → take at text ≡ opening ++ take (at - 2) more
+opened_front : (text more : List ℕ) (at : ℕ) → text ≡ comment_opening ++ more → 2 ≤ at → take at text ≡ comment_opening ++ take (at - 2) more
 opened_front text more zero e h = absurd (omega (arith, h))
 opened_front text more (suc zero) e h = absurd (omega (arith, h))
 opened_front text more (suc (suc j)) e h =
     let same : j ≡ suc (suc j) - 2 = omega arith in
-    ap (take (suc (suc j))) e ∙ ap (λ m. opening ++ take m more) same
+    ap (take (suc (suc j))) e ∙ ap (λ m. comment_opening ++ take m more) same
 
-closed_here : (text : List ℕ) (at : ℕ) → at ≤ length text → Begins closing (drop at text) → take (at + 2) text ≡ take at text ++ closing
+closed_here : (text : List ℕ) (at : ℕ) → at ≤ length text → StartsWith comment_closing (drop at text) → take (at + 2) text ≡ take at text ++ comment_closing
 closed_here text at i c =
     let rest = c.0 in
     let split = sym (take-append-drop at text) ∙ ap (λ l. take at text ++ l) c.1 in
-    let whole : text ≡ take at text ++ closing ++ rest = split ∙ sym (append_assoc (take at text) closing rest) in
-    let long : length (take at text ++ closing) ≡ at + 2 =
-    omega (arith, length-append (take at text) closing, length-take-le at text i) in
-    ap (take (at + 2)) whole ∙ take_at (take at text ++ closing) rest (at + 2) long
+    let whole : text ≡ take at text ++ comment_closing ++ rest = split ∙ sym (append_assoc (take at text) comment_closing rest) in
+    let long : length (take at text ++ comment_closing) ≡ at + 2 =
+    omega (arith, length-append (take at text) comment_closing, length-take-le at text i) in
+    ap (take (at + 2)) whole ∙ take_at (take at text ++ comment_closing) rest (at + 2) long
 
 no_bytes : (l : List ℕ) → length l ≡ 0 → l ≡ []
 no_bytes [] h = refl
 no_bytes (b ∷ bs) h = absurd (omega (arith, h))
 
 -- the text up to the first closing is a comment
-pub comment_found : (text : List ℕ) (at : ℕ) → Begins opening text → NoneBefore text at → starts_with nat_eq (rest_of text at) closing ≡ true →
+pub comment_found : (text : List ℕ) (at : ℕ) → StartsWith comment_opening text → NoneBefore text at → starts_with nat_eq (rest_of text at) comment_closing ≡ true →
     IsComment (take (at + 2) text) × (at + 2 ≤ length text)
 comment_found text at o n h =
-    let c = subst (λ l. Begins closing l) (rest_is text at) (begins_true closing (rest_of text at) h) in
+    let c = subst (λ l. StartsWith comment_closing l) (rest_is text at) (begins_true comment_closing (rest_of text at) h) in
     let inside : at + 2 ≤ length text = omega (arith, ap length c.1, length-drop at text, n.inside) in
     let long : length (take (at + 2) text) ≡ at + 2 = length-take-le (at + 2) text inside in
     let whole : text ≡ take (at + 2) text ++ drop (at + 2) text = sym (take-append-drop (at + 2) text) in (
       record {
         closed = (
           take (at - 2) o.0,
-          closed_here text at n.inside c ∙ ap (λ l. l ++ closing) (opened_front text o.0 at o.1 n.behind_opening),
+          closed_here text at n.inside c ∙ ap (λ l. l ++ comment_closing) (opened_front text o.0 at o.1 n.behind_opening),
         );
         first = λ front rest e k.
             let all = whole ∙ ap (λ l. l ++ drop (at + 2) text) e ∙ append_assoc front rest (drop (at + 2) text) in
@@ -121,14 +121,14 @@ comment_found text at o n h =
     )
 
 -- where no closing stands before the end, none closes the comment
-pub comment_open : (text : List ℕ) (at : ℕ) → Begins opening text → NoneBefore text at → length text ≤ at → Unclosed text
+pub comment_open : (text : List ℕ) (at : ℕ) → StartsWith comment_opening text → NoneBefore text at → length text ≤ at → IsUnclosedComment text
 comment_open text at o n h = record {
   opens = o;
   never = λ front b c. omega (arith, h, closed_behind front b.0 text at n b.1 c, ap length b.1, length-append front b.0);
 }
 
 -- a comment is no longer than a closed beginning of the same text
-not_shorter : (front rest piece more text : List ℕ) → text ≡ front ++ rest → text ≡ piece ++ more → Closed front → IsComment piece →
+not_shorter : (front rest piece more text : List ℕ) → text ≡ front ++ rest → text ≡ piece ++ more → IsClosedComment front → IsComment piece →
     length piece ≤ length front
 not_shorter front rest piece more text e f c i = elim (cases_order (length front) (length piece)) [
   | inl same ↦ omega (arith, same)
@@ -147,8 +147,8 @@ one_comment a r b q text e f i j =
     omega (arith, not_shorter a r b q text e f i.closed j, not_shorter b q a r text f e j.closed i)
 
 -- a comment begins with an opening
-pub comment_opens : (text piece rest : List ℕ) → text ≡ piece ++ rest → IsComment piece → Begins opening text
-comment_opens text piece rest e i = (i.closed.0 ++ closing ++ rest, e ∙ ap (λ l. l ++ rest) i.closed.1)
+pub comment_opens : (text piece rest : List ℕ) → text ≡ piece ++ rest → IsComment piece → StartsWith comment_opening text
+comment_opens text piece rest e i = (i.closed.0 ++ comment_closing ++ rest, e ∙ ap (λ l. l ++ rest) i.closed.1)
 
 -- a comment has a byte at least
 pub comment_some : (piece : List ℕ) → IsComment piece → 0 < length piece

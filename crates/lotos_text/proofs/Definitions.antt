@@ -1,23 +1,23 @@
 -- Definitions: a list begins with one of them, and with one row of them, and they are the parts that the parser finds.
 use Rattle.std.proofs.Common.{◌≡◌, ℕ, ◌+◌, max, List, [], ◌∷◌, ◌++◌, Some, None, refl, sym, ◌∙◌, ap, append_assoc, arith, subst}
-use Rattle.lotos_text.specs.Tree as t
-use Rattle.lotos_text.specs.Tree.{Tree, Def, Defs}
-use Rattle.lotos_text.specs.Grammar.{Is, placed, GateList, Declares, enabling, Defined, a_specification, a_process, opening_word, defining_sign, closing_word, Defines, definition, Rest, nothing, definitions, Several, last, another, Specifies}
+use Rattle.lotos_text.specs.AstView as t
+use Rattle.lotos_text.specs.AstView.{BehaviourView, DefinitionView, DefinitionListView}
+use Rattle.lotos_text.specs.Grammar.{IsOfKind, located_name, GateList, IsFunctionality, enabling, DefinitionKind, a_specification, a_process, opening_word, defining_sign, closing_word, SpellsDefinition, definition, SpellsWhere, nothing, definitions, SpellsDefinitions, last, another, SpellsSpecification}
 use Rattle.lotos_text.specs.Follow.{kind_rank, rank}
-use Rattle.lotos_text.specs.Parsing.{Phrase, Limit, Within, NotFirst}
-use Rattle.lotos_text.specs.Phrases.{Then, Expression, Declared, Heading, Header, Body, Row, Inner, no_inner, some_inner, defined, Contents, Definition}
+use Rattle.lotos_text.specs.ParserContracts.{Phrase, NestingLimit, IsNestingWithin, DoesNotStartWith}
+use Rattle.lotos_text.specs.Phrases.{Sequence, BehaviourPhrase, OneFunctionality, HeaderValue, HeaderPhrase, BodyPhrase, DefinitionList, WherePhrase, no_inner, some_inner, make_definition, DefinitionRest, ProcessDefinition}
 use Rattle.lotos_text.specs.declared.token.Token.{Token}
 use Rattle.lotos_text.specs.declared.token.TokenKind.TheVariants.{Identifier, Reserved, Sign}
 use Rattle.lotos_text.specs.declared.token.Word.TheVariants as w
 use Rattle.lotos_text.specs.declared.token.Sign.TheVariants as s
-use Rattle.lotos_text.specs.declared.tree.Functionality.{Functionality}
-use Rattle.lotos_text.specs.declared.tree.Placed.{Placed}
-use Rattle.lotos_text.proofs.Firmness.{FirmWithin, firm_always, firm_then_within, firm_behind_within, firm_before_within, firm_expression, firm_header}
+use Rattle.lotos_text.specs.declared.ast.Functionality.{Functionality}
+use Rattle.lotos_text.specs.declared.ast.Placed.{Placed}
+use Rattle.lotos_text.proofs.PhraseUniqueness.{FirmWithin, firm_always, firm_then_within, firm_behind_within, firm_before_within, firm_expression, firm_header}
 use Rattle.lotos_text.proofs.FirstToken.{head_same, tail_same, not_first, is_first, starts_not}
 use Rattle.lotos_text.proofs.Levels.{rank_none, rank_is}
 use Rattle.lotos_text.proofs.NameLists.{unique_gates}
 use Rattle.lotos_text.proofs.OneToken.{same_functionality, behind as behind_token, uncover}
-use Rattle.lotos_text.proofs.Unique.{unique}
+use Rattle.lotos_text.proofs.GrammarUnique.{unique}
 
 -- four lists before a fifth
 four_lists : (a b c d r : List Token) → (a ++ b ++ c ++ d) ++ r ≡ a ++ (b ++ (c ++ (d ++ r)))
@@ -26,29 +26,29 @@ four_lists a b c d r =
 
 -- what a definition ends with goes on with nothing, and begins no inner definitions
 
-closing_rank : (what : Defined) → kind_rank (closing_word what) ≡ 0
+closing_rank : (what : DefinitionKind) → kind_rank (closing_word what) ≡ 0
 closing_rank a_specification = refl
 closing_rank a_process = refl
 
-closing_row : (what : Defined) → closing_word what ≡ Reserved w.WhereWord → ⊥
+closing_row : (what : DefinitionKind) → closing_word what ≡ Reserved w.WhereWord → ⊥
 closing_row a_specification e = cc
 closing_row a_process e = cc
 
-closing_one : (what : Defined) → closing_word what ≡ Reserved w.ProcessWord → ⊥
+closing_one : (what : DefinitionKind) → closing_word what ≡ Reserved w.ProcessWord → ⊥
 closing_one a_specification e = cc
 closing_one a_process e = cc
 
 -- what keeps within a limit as the deeper of two does so as each of them, and the other way round
 
-pub within_first : (limit : Limit) (n m : ℕ) → Within limit (max n m) → Within limit n
+pub within_first : (limit : NestingLimit) (n m : ℕ) → IsNestingWithin limit (max n m) → IsNestingWithin limit n
 within_first None n m h = tt
 within_first (Some limit) n m h = omega (arith, h)
 
-pub within_second : (limit : Limit) (n m : ℕ) → Within limit (max n m) → Within limit m
+pub within_second : (limit : NestingLimit) (n m : ℕ) → IsNestingWithin limit (max n m) → IsNestingWithin limit m
 within_second None n m h = tt
 within_second (Some limit) n m h = omega (arith, h)
 
-pub within_both : (limit : Limit) (n m : ℕ) → Within limit n → Within limit m → Within limit (max n m)
+pub within_both : (limit : NestingLimit) (n m : ℕ) → IsNestingWithin limit n → IsNestingWithin limit m → IsNestingWithin limit (max n m)
 within_both None n m h g = tt
 within_both (Some limit) n m h g = omega (arith, h, g)
 
@@ -60,26 +60,26 @@ pub record SameNested {A : Type 0} (a b : List Token) (n m : ℕ) (x y : A) (r q
 
 module _ (text : List ℕ) where
   -- no operator stands behind the body of a definition
-  rest_rank : {m : ℕ} {own : List Token} {inner : Defs} (behind : List Token) → Rest text m own inner → rank behind ≡ 0 →
+  rest_rank : {m : ℕ} {own : List Token} {inner : DefinitionListView} (behind : List Token) → SpellsWhere text m own inner → rank behind ≡ 0 →
       rank (own ++ behind) ≡ 0
   rest_rank behind nothing e = e
   rest_rank behind (definitions i d) e = ap kind_rank i.same
 
   -- a definition of a process begins with that word
-  process_first : {n : ℕ} {own : List Token} {d : Def} (behind : List Token) → Defines text a_process n own d →
-      NotFirst (Reserved w.ProcessWord) (own ++ behind) → ⊥
+  process_first : {n : ℕ} {own : List Token} {d : DefinitionView} (behind : List Token) → SpellsDefinition text a_process n own d →
+      DoesNotStartWith (Reserved w.ProcessWord) (own ++ behind) → ⊥
   process_first behind (definition i j g c f k s l e) h = h i
 
-  several_first : {n : ℕ} {own : List Token} {ds : Defs} (behind : List Token) → Several text n own ds →
-      NotFirst (Reserved w.ProcessWord) (own ++ behind) → ⊥
+  several_first : {n : ℕ} {own : List Token} {ds : DefinitionListView} (behind : List Token) → SpellsDefinitions text n own ds →
+      DoesNotStartWith (Reserved w.ProcessWord) (own ++ behind) → ⊥
   several_first behind (last d) h = process_first behind d h
   several_first behind (another {first = first} {others = others} d ds) h =
-      process_first (others ++ behind) d (subst (λ m. NotFirst (Reserved w.ProcessWord) m) (append_assoc first others behind) h)
+      process_first (others ++ behind) d (subst (λ m. DoesNotStartWith (Reserved w.ProcessWord) m) (append_assoc first others behind) h)
 
   mutual
     -- one list begins with one definition
-    pub unique_definition : {what : Defined} {n m : ℕ} {a b : List Token} {x y : Def} (r q : List Token) →
-        Defines text what n a x → Defines text what m b y → a ++ r ≡ b ++ q → SameNested a b n m x y r q
+    pub unique_definition : {what : DefinitionKind} {n m : ℕ} {a b : List Token} {x y : DefinitionView} (r q : List Token) →
+        SpellsDefinition text what n a x → SpellsDefinition text what m b y → a ++ r ≡ b ++ q → SameNested a b n m x y r q
     unique_definition {what} r q
         (definition {word = word} {name = name} {colon = colon} {returns = returns} {define = define} {end = end} {gates = gates}
         {body = body} {rest = rest} {o = o} i j g c f k s l z)
@@ -95,7 +95,7 @@ module _ (text : List ℕ) where
         (rank_none enabling o' (rest' ++ end' ∷ q) (rest_rank (end' ∷ q) l' (rank_is q z' ∙ closing_rank what))) in
         let h = unique_rest (end ∷ r) (end' ∷ q) l l' v.rest (is_first z (closing_row what)) (is_first z' (closing_row what))
         (is_first z (closing_one what)) (is_first z' (closing_one what)) in
-        let names : placed text name ≡ placed text name' = ap (placed text) (head_same (tail_same front)) in
+        let names : located_name text name ≡ located_name text name' = ap (located_name text) (head_same (tail_same front)) in
         let functionality = same_functionality f f' (head_same (tail_same u.rest)) in
         record {
           tokens = (let a = head_same front in let b = head_same (tail_same front) in let c = u.tokens in
@@ -107,9 +107,9 @@ module _ (text : List ℕ) where
           rest = tail_same h.rest;
         }
 
-    unique_rest : {n m : ℕ} {a b : List Token} {x y : Defs} (r q : List Token) → Rest text n a x → Rest text m b y →
-        a ++ r ≡ b ++ q → NotFirst (Reserved w.WhereWord) r → NotFirst (Reserved w.WhereWord) q →
-        NotFirst (Reserved w.ProcessWord) r → NotFirst (Reserved w.ProcessWord) q → SameNested a b n m x y r q
+    unique_rest : {n m : ℕ} {a b : List Token} {x y : DefinitionListView} (r q : List Token) → SpellsWhere text n a x → SpellsWhere text m b y →
+        a ++ r ≡ b ++ q → DoesNotStartWith (Reserved w.WhereWord) r → DoesNotStartWith (Reserved w.WhereWord) q →
+        DoesNotStartWith (Reserved w.ProcessWord) r → DoesNotStartWith (Reserved w.ProcessWord) q → SameNested a b n m x y r q
     unique_rest r q nothing nothing e hr hq pr pq = record { tokens = refl; nesting = refl; tree = refl; rest = e }
     unique_rest r q nothing (definitions {ts = ts} i d) e hr hq pr pq = absurd (not_first _ r (ts ++ q) hr i e)
     unique_rest r q (definitions {ts = ts} i d) nothing e hr hq pr pq = absurd (not_first _ q (ts ++ r) hq i (sym e))
@@ -123,9 +123,9 @@ module _ (text : List ℕ) where
         }
 
     -- one list begins with one row of definitions, behind which no other follows
-    pub unique_several : {n m : ℕ} {a b : List Token} {x y : Defs} (r q : List Token) → Several text n a x →
-        Several text m b y → a ++ r ≡ b ++ q →
-        NotFirst (Reserved w.ProcessWord) r → NotFirst (Reserved w.ProcessWord) q → SameNested a b n m x y r q
+    pub unique_several : {n m : ℕ} {a b : List Token} {x y : DefinitionListView} (r q : List Token) → SpellsDefinitions text n a x →
+        SpellsDefinitions text m b y → a ++ r ≡ b ++ q →
+        DoesNotStartWith (Reserved w.ProcessWord) r → DoesNotStartWith (Reserved w.ProcessWord) q → SameNested a b n m x y r q
     unique_several r q (last d) (last f) e hr hq =
         let h = unique_definition r q d f e in
         record {
@@ -136,10 +136,10 @@ module _ (text : List ℕ) where
         }
     unique_several r q (last d) (another {first = first} {others = others} f fs) e hr hq =
         let h = unique_definition r (others ++ q) d f (e ∙ append_assoc first others q) in
-        absurd (several_first q fs (subst (λ m. NotFirst (Reserved w.ProcessWord) m) h.rest hr))
+        absurd (several_first q fs (subst (λ m. DoesNotStartWith (Reserved w.ProcessWord) m) h.rest hr))
     unique_several r q (another {first = first} {others = others} d ds) (last f) e hr hq =
         let h = unique_definition (others ++ r) q d f (sym (append_assoc first others r) ∙ e) in
-        absurd (several_first r ds (subst (λ m. NotFirst (Reserved w.ProcessWord) m) (sym h.rest) hq))
+        absurd (several_first r ds (subst (λ m. DoesNotStartWith (Reserved w.ProcessWord) m) (sym h.rest) hq))
     unique_several r q (another {first = first} {others = others} d ds)
         (another {first = first'} {others = others'} f fs) e hr hq =
         let h = unique_definition (others ++ r) (others' ++ q) d f
@@ -154,20 +154,20 @@ module _ (text : List ℕ) where
 
   -- the parts
 
-  abbrev Headed : Defined → Limit → Phrase (Heading × Tree)
-  Headed what limit = Then (λ heading body. (heading, body)) (Header text) (Body text what limit)
+  abbrev Headed : DefinitionKind → NestingLimit → Phrase (HeaderValue × BehaviourView)
+  Headed what limit = Sequence (λ heading body. (heading, body)) (HeaderPhrase text) (BodyPhrase text what limit)
 
-  abbrev Told : Defined → Limit → Phrase Def
-  Told what limit = Then defined (Headed what limit) (Inner text limit)
+  abbrev Told : DefinitionKind → NestingLimit → Phrase DefinitionView
+  Told what limit = Sequence make_definition (Headed what limit) (WherePhrase text limit)
 
   -- a row of definitions is the only one
-  pub firm_row : FirmWithin (Row text)
+  pub firm_row : FirmWithin (DefinitionList text)
   firm_row l m a b r more q x y p st o e =
       let h = unique_several more q p.several o.several e (starts_not _ r more st p.ends) o.ends in
       record { tokens = h.tokens; said = h.tree; rest = h.rest }
 
   -- so are the inner definitions
-  pub firm_inner : FirmWithin (Inner text)
+  pub firm_inner : FirmWithin (WherePhrase text)
   firm_inner l m _ _ r more q _ _ (no_inner h) st (no_inner g) e = record { tokens = refl; said = refl; rest = e }
   firm_inner l m _ _ r more q _ _ (no_inner h) st (some_inner {own = own} i p) e =
       absurd (not_first _ more (own ++ q) (starts_not _ r more st h) i e)
@@ -177,26 +177,26 @@ module _ (text : List ℕ) where
       let h = firm_row l m a b r more q x y p st o (tail_same e) in
       record { tokens = (let a = head_same e in let b = h.tokens in cc); said = h.said; rest = h.rest }
 
-  firm_headed : (what : Defined) → FirmWithin (Headed what)
-  firm_headed what = firm_then_within (λ heading body. (heading, body)) (λ _. Header text) (Body text what)
-      (firm_always (Header text) (firm_header text))
-      (firm_behind_within (defining_sign what) (Expression text enabling) (firm_expression text enabling))
+  firm_headed : (what : DefinitionKind) → FirmWithin (Headed what)
+  firm_headed what = firm_then_within (λ heading body. (heading, body)) (λ _. HeaderPhrase text) (BodyPhrase text what)
+      (firm_always (HeaderPhrase text) (firm_header text))
+      (firm_behind_within (defining_sign what) (BehaviourPhrase text enabling) (firm_expression text enabling))
 
-  firm_told : (what : Defined) → FirmWithin (Told what)
-  firm_told what = firm_then_within defined (Headed what) (Inner text) (firm_headed what) firm_inner
+  firm_told : (what : DefinitionKind) → FirmWithin (Told what)
+  firm_told what = firm_then_within make_definition (Headed what) (WherePhrase text) (firm_headed what) firm_inner
 
   -- so is what stands behind the first word of a definition
-  pub firm_contents : (what : Defined) → FirmWithin (Contents text what)
+  pub firm_contents : (what : DefinitionKind) → FirmWithin (DefinitionRest text what)
   firm_contents what = firm_before_within (Told what) (closing_word what) (firm_told what)
 
   -- so is a definition
-  pub firm_definition : (what : Defined) → FirmWithin (Definition text what)
-  firm_definition what = firm_behind_within (opening_word what) (Contents text what) (firm_contents what)
+  pub firm_definition : (what : DefinitionKind) → FirmWithin (ProcessDefinition text what)
+  firm_definition what = firm_behind_within (opening_word what) (DefinitionRest text what) (firm_contents what)
 
   -- headers as parts
 
   -- the tokens of a header, and what they say
-  record HeaderTokens (own : List Token) (said : Heading) : Type 0 where
+  record HeaderTokens (own : List Token) (said : HeaderValue) : Type 0 where
     pub name : Token
     pub gates : List Token
     pub colon : Token
@@ -204,39 +204,39 @@ module _ (text : List ℕ) where
     pub formals : List Placed
     pub func : Functionality
     pub tokens : own ≡ (name ∷ gates) ++ colon ∷ returns ∷ []
-    pub names : Is name Identifier
+    pub names : IsOfKind name Identifier
     pub listed : GateList text gates formals
-    pub separates : Is colon (Sign s.Colon)
-    pub declares : Declares returns func
-    pub same : said ≡ (placed text name, formals, func)
+    pub separates : IsOfKind colon (Sign s.Colon)
+    pub declares : IsFunctionality returns func
+    pub same : said ≡ (located_name text name, formals, func)
 
   as_header : {name colon returns : Token} {gates : List Token} {formals : List Placed} {func : Functionality}
-      (behind : List Token) → Is name Identifier → GateList text gates formals → Is colon (Sign s.Colon) → Declares returns func →
-      Header text ((name ∷ gates) ++ colon ∷ returns ∷ []) (placed text name, formals, func) behind
+      (behind : List Token) → IsOfKind name Identifier → GateList text gates formals → IsOfKind colon (Sign s.Colon) → IsFunctionality returns func →
+      HeaderPhrase text ((name ∷ gates) ++ colon ∷ returns ∷ []) (located_name text name, formals, func) behind
   as_header {name} {colon} {returns} {gates} {formals} {func} behind i g j d = record {
     front = name ∷ gates;
     back = colon ∷ returns ∷ [];
-    one = (placed text name, formals);
+    one = (located_name text name, formals);
     other = func;
     joined = refl;
     first = record {
       front = name ∷ [];
       back = gates;
-      one = placed text name;
+      one = located_name text name;
       other = formals;
       joined = refl;
       first = record { token = name; joined = refl; is = i; same = refl };
       second = record { gates = g; quits = λ _. is_first j (λ e. cc) };
       same = refl;
     };
-    second = behind_token _ Declared colon (returns ∷ []) behind func j (record { token = returns; joined = refl; declares = d });
+    second = behind_token _ OneFunctionality colon (returns ∷ []) behind func j (record { token = returns; joined = refl; declares = d });
     same = refl;
   }
 
-  from_header : (own behind : List Token) (said : Heading) → Header text own said behind → HeaderTokens own said
+  from_header : (own behind : List Token) (said : HeaderValue) → HeaderPhrase text own said behind → HeaderTokens own said
   from_header own behind said h =
       let f = h.first in
-      let returns = uncover _ Declared h.back behind h.other h.second in
+      let returns = uncover _ OneFunctionality h.back behind h.other h.second in
       record {
         name = f.first.token;
         gates = f.back;
@@ -256,14 +256,14 @@ module _ (text : List ℕ) where
 
   -- inner definitions as parts
 
-  as_inner : {m : ℕ} {own : List Token} {ds : Defs} (limit : Limit) (behind : List Token) → Rest text m own ds → Within limit m →
-      NotFirst (Reserved w.WhereWord) behind → NotFirst (Reserved w.ProcessWord) behind → Inner text limit own ds behind
+  as_inner : {m : ℕ} {own : List Token} {ds : DefinitionListView} (limit : NestingLimit) (behind : List Token) → SpellsWhere text m own ds → IsNestingWithin limit m →
+      DoesNotStartWith (Reserved w.WhereWord) behind → DoesNotStartWith (Reserved w.ProcessWord) behind → WherePhrase text limit own ds behind
   as_inner limit behind nothing h row one = no_inner row
   as_inner limit behind (definitions {n = n} i d) h row one =
       some_inner i (record { nesting = n; several = d; ends = one; within = h })
 
-  from_inner : (limit : Limit) (own behind : List Token) (ds : Defs) → Inner text limit own ds behind →
-      (n : ℕ) × Rest text n own ds × Within limit n
+  from_inner : (limit : NestingLimit) (own behind : List Token) (ds : DefinitionListView) → WherePhrase text limit own ds behind →
+      (n : ℕ) × SpellsWhere text n own ds × IsNestingWithin limit n
   from_inner None _ behind _ (no_inner h) = (0, nothing, tt)
   from_inner (Some limit) _ behind _ (no_inner h) = (0, nothing, omega arith)
   from_inner limit _ behind _ (some_inner i r) = (r.nesting, definitions i r.several, r.within)
@@ -271,16 +271,16 @@ module _ (text : List ℕ) where
   -- definitions as parts
 
   -- a definition whose nesting is within the limit is the part
-  pub as_definition : {what : Defined} {n : ℕ} {own : List Token} {d : Def} (limit : Limit) (behind : List Token) →
-      Defines text what n own d → Within limit n → Definition text what limit own d behind
+  pub as_definition : {what : DefinitionKind} {n : ℕ} {own : List Token} {d : DefinitionView} (limit : NestingLimit) (behind : List Token) →
+      SpellsDefinition text what n own d → IsNestingWithin limit n → ProcessDefinition text what limit own d behind
   as_definition {what} limit behind
       (definition {word = word} {name = name} {colon = colon} {returns = returns} {define = define} {end = end} {gates = gates}
       {body = body} {rest = rest} {formals = formals} {func = func} {o = o} {n = n} {m = m} {x = x} {inner = inner}
       i j g c f k spells ds z) h =
       let after : List Token = end ∷ behind in
       let header = (name ∷ gates) ++ colon ∷ returns ∷ [] in
-      let heading : Heading = (placed text name, formals, func) in
-      let expression : Expression text enabling limit body x (rest ++ after) = record {
+      let heading : HeaderValue = (located_name text name, formals, func) in
+      let expression : BehaviourPhrase text enabling limit body x (rest ++ after) = record {
         ends = o;
         nesting = n;
         spells = spells;
@@ -294,11 +294,11 @@ module _ (text : List ℕ) where
         other = x;
         joined = sym (append_assoc (name ∷ gates) (colon ∷ returns ∷ []) (define ∷ body));
         first = as_header (define ∷ (body ++ (rest ++ after))) j g c f;
-        second = behind_token _ (Expression text enabling limit) define body (rest ++ after) x k expression;
+        second = behind_token _ (BehaviourPhrase text enabling limit) define body (rest ++ after) x k expression;
         same = refl;
       } in
       let told : Told what limit ((name ∷ gates) ++ (colon ∷ returns ∷ define ∷ body) ++ rest)
-      (defined (heading, x) inner) after =
+      (make_definition (heading, x) inner) after =
       record {
         front = (name ∷ gates) ++ colon ∷ returns ∷ define ∷ body;
         back = rest;
@@ -310,12 +310,12 @@ module _ (text : List ℕ) where
             (is_first z (closing_one what));
         same = refl;
       } in
-      behind_token (opening_word what) (Contents text what limit) word
+      behind_token (opening_word what) (DefinitionRest text what limit) word
       ((name ∷ gates) ++ (colon ∷ returns ∷ define ∷ body) ++ rest ++ end ∷ []) behind _ i
       (record {
         front = (name ∷ gates) ++ (colon ∷ returns ∷ define ∷ body) ++ rest;
         back = end ∷ [];
-        one = defined (heading, x) inner;
+        one = make_definition (heading, x) inner;
         other = end;
         joined = refl;
         first = told;
@@ -324,15 +324,15 @@ module _ (text : List ℕ) where
       })
 
   -- the part is a definition whose nesting is within the limit
-  pub from_definition : {what : Defined} (limit : Limit) (own behind : List Token) (d : Def) →
-      Definition text what limit own d behind → (n : ℕ) × Defines text what n own d × Within limit n
+  pub from_definition : {what : DefinitionKind} (limit : NestingLimit) (own behind : List Token) (d : DefinitionView) →
+      ProcessDefinition text what limit own d behind → (n : ℕ) × SpellsDefinition text what n own d × IsNestingWithin limit n
   from_definition {what} limit own behind d w =
-      let whole = uncover (opening_word what) (Contents text what limit) own behind d w in
+      let whole = uncover (opening_word what) (DefinitionRest text what limit) own behind d w in
       let c = whole.within in
       let told = c.first in
       let f = told.first in
       let header = from_header f.front _ f.one f.first in
-      let body = uncover _ (Expression text enabling limit) f.back _ f.other f.second in
+      let body = uncover _ (BehaviourPhrase text enabling limit) f.back _ f.other f.second in
       let inner = from_inner limit told.back _ told.other told.second in
       let gates = header.name ∷ header.gates in
       let mid : List Token = header.colon ∷ header.returns ∷ body.token ∷ body.inner in
@@ -344,11 +344,11 @@ module _ (text : List ℕ) where
       whole.joined ∙ ap (λ m. whole.token ∷ m)
       (c.joined ∙ ap (λ m. m ++ c.back) (told.joined ∙ ap (λ m. m ++ told.back) headed)
       ∙ ap (λ m. ((gates ++ mid) ++ told.back) ++ m) c.second.joined) in
-      let says : d ≡ defined ((placed text header.name, header.formals, header.func), f.other) told.other =
-      c.same ∙ told.same ∙ ap (λ m. defined m told.other) (f.same ∙ ap (λ m. (m, f.other)) header.same) in (
+      let says : d ≡ make_definition ((located_name text header.name, header.formals, header.func), f.other) told.other =
+      c.same ∙ told.same ∙ ap (λ m. make_definition m told.other) (f.same ∙ ap (λ m. (m, f.other)) header.same) in (
         max body.within.nesting inner.0,
-        subst (λ m. Defines text what (max body.within.nesting inner.0) m d) (sym tokens)
-            (subst (λ m. Defines text what (max body.within.nesting inner.0)
+        subst (λ m. SpellsDefinition text what (max body.within.nesting inner.0) m d) (sym tokens)
+            (subst (λ m. SpellsDefinition text what (max body.within.nesting inner.0)
             ((whole.token ∷ gates) ++ mid ++ told.back ++ c.other ∷ []) m) (sym says)
             (definition whole.is header.names header.listed header.separates header.declares body.is body.within.spells
             inner.1 c.second.is)),
@@ -356,6 +356,6 @@ module _ (text : List ℕ) where
       )
 
   -- a token list spells one specification, with one nesting
-  pub one_specification : (ts : List Token) (n m : ℕ) (x y : Def) → Specifies text n ts x → Specifies text m ts y →
+  pub one_specification : (ts : List Token) (n m : ℕ) (x y : DefinitionView) → SpellsSpecification text n ts x → SpellsSpecification text m ts y →
       (x ≡ y) × (n ≡ m)
   one_specification ts n m x y d e = let h = unique_definition [] [] d e refl in (h.tree, h.nesting)

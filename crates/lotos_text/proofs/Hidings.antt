@@ -1,23 +1,23 @@
 -- Hide forms: what is found and lost behind the word `hide`.
 use Rattle.std.proofs.Common.{◌≡◌, ℕ, ◌+◌, ◌-◌, ◌<◌, Bool, true, false, List, [], ◌∷◌, ◌++◌, Some, None, Result, Ok, Err, IfErr, refl, sym, ◌∙◌, ap, append_assoc, arith, subst}
-use Rattle.lotos_text.specs.Tree as t
-use Rattle.lotos_text.specs.Tree.{Tree}
-use Rattle.lotos_text.specs.Grammar.{Is, Level, enabling, Spells, hide}
+use Rattle.lotos_text.specs.AstView as t
+use Rattle.lotos_text.specs.AstView.{BehaviourView}
+use Rattle.lotos_text.specs.Grammar.{IsOfKind, Level, enabling, Spells, hide}
 use Rattle.lotos_text.specs.Follow.{rank, bound}
-use Rattle.lotos_text.specs.Parsing.{Phrase, Limit, Found, Lost, Deeper}
-use Rattle.lotos_text.specs.Phrases.{Then, One, Behind, Before, NameList, Expression}
+use Rattle.lotos_text.specs.ParserContracts.{Phrase, NestingLimit, Parses, Fails, IsTooDeepAt}
+use Rattle.lotos_text.specs.Phrases.{Sequence, OneToken, Preceded, Followed, NameList, BehaviourPhrase}
 use Rattle.lotos_text.specs.declared.token.Token.{Token}
 use Rattle.lotos_text.specs.declared.token.TokenKind.TheVariants.{Reserved}
 use Rattle.lotos_text.specs.declared.token.Word.TheVariants as w
-use Rattle.lotos_text.specs.declared.tree.Placed.{Placed}
+use Rattle.lotos_text.specs.declared.ast.Placed.{Placed}
 use Rattle.lotos_text.proofs.FirstToken.{is_first}
 use Rattle.lotos_text.proofs.Levels.{rank_open}
 use Rattle.lotos_text.proofs.Limits.{inside, within_inside, opens_is, opens_among, crowded_here}
 use Rattle.lotos_text.proofs.NameLists.{firm_names}
 use Rattle.lotos_text.proofs.OneToken.{found_behind, lost_behind, firm_behind, found_before, lost_unclosed, lost_within, firm_before}
 use Rattle.lotos_text.proofs.Operands.{taken_hide}
-use Rattle.lotos_text.proofs.Sequence.{Firm, lost_as, between, as_between, found_then, lost_first, lost_second}
-use Rattle.lotos_text.proofs.Stops.{Carries}
+use Rattle.lotos_text.proofs.Sequences.{Firm, lost_as, between, as_between, found_then, lost_first, lost_second}
+use Rattle.lotos_text.proofs.ParseErrors.{Carries}
 
 -- what is said of each level is said of the error for each level
 pub each_level : {T E : Type 0} (P : Level → E → Type 0) (r : Result T E) → ((level : Level) → IfErr r (P level)) →
@@ -32,20 +32,20 @@ quits_open l false ts h = omega (arith, h)
 
 module _ (text : List ℕ) where
   abbrev Opened : Phrase (List Placed)
-  Opened = Behind (Reserved w.HideWord) (NameList text)
+  Opened = Preceded (Reserved w.HideWord) (NameList text)
 
   abbrev Hiding : Phrase (List Placed)
-  Hiding = Before Opened (Reserved w.InWord)
+  Hiding = Followed Opened (Reserved w.InWord)
 
-  abbrev HideForm : Limit → Phrase Tree
-  HideForm limit = Then t.hide Hiding (Expression text enabling limit)
+  abbrev HideForm : NestingLimit → Phrase BehaviourView
+  HideForm limit = Sequence t.hide Hiding (BehaviourPhrase text enabling limit)
 
   firm_hiding : Firm Hiding
   firm_hiding = firm_before Opened _ (firm_behind _ (NameList text) (firm_names text))
 
-  found_form : (l : Level) (room : ℕ) (ts rest : List Token) (x : Tree) → 0 < room →
-      Found (HideForm (Some (room - 1))) ts x rest →
-      Found (Expression text l (Some room)) ts x rest
+  found_form : (l : Level) (room : ℕ) (ts rest : List Token) (x : BehaviourView) → 0 < room →
+      Parses (HideForm (Some (room - 1))) ts x rest →
+      Parses (BehaviourPhrase text l (Some room)) ts x rest
   found_form l room ts rest x h f =
       let p = f.whole in
       let b = between _ _ (NameList text) p.front (p.back ++ rest) p.one p.first in
@@ -65,9 +65,9 @@ module _ (text : List ℕ) where
         };
       }
 
-  lost_form : (l : Level) (limit : Limit) (n : Token) (ts rest : List Token) → Is n (Reserved w.HideWord) →
-      Lost (HideForm (inside limit)) (n ∷ ts) rest → Lost (Expression text l limit) (n ∷ ts) rest
-  lost_form l limit n ts rest i lost = lost_as (Expression text l limit) (HideForm (inside limit)) n (n ∷ ts) ts rest refl
+  lost_form : (l : Level) (limit : NestingLimit) (n : Token) (ts rest : List Token) → IsOfKind n (Reserved w.HideWord) →
+      Fails (HideForm (inside limit)) (n ∷ ts) rest → Fails (BehaviourPhrase text l limit) (n ∷ ts) rest
+  lost_form l limit n ts rest i lost = lost_as (BehaviourPhrase text l limit) (HideForm (inside limit)) n (n ∷ ts) ts rest refl
       (λ own behind more x e p.
       let b = taken_hide text behind more i p.spells e in (
         x,
@@ -91,54 +91,54 @@ module _ (text : List ℕ) where
       ))
       lost
 
-  opened : (n : Token) (ts between : List Token) (names : List Placed) → Is n (Reserved w.HideWord) →
-      Found (NameList text) ts names between → Found Opened (n ∷ ts) names between
+  opened : (n : Token) (ts between : List Token) (names : List Placed) → IsOfKind n (Reserved w.HideWord) →
+      Parses (NameList text) ts names between → Parses Opened (n ∷ ts) names between
   opened n ts between names i f = found_behind _ (NameList text) (n ∷ ts) ts between n names refl i f
 
-  hiding : (n word : Token) (ts between after : List Token) (names : List Placed) → Is n (Reserved w.HideWord) →
-      Found (NameList text) ts names between → between ≡ word ∷ after → Is word (Reserved w.InWord) →
-      Found Hiding (n ∷ ts) names after
+  hiding : (n word : Token) (ts between after : List Token) (names : List Placed) → IsOfKind n (Reserved w.HideWord) →
+      Parses (NameList text) ts names between → between ≡ word ∷ after → IsOfKind word (Reserved w.InWord) →
+      Parses Hiding (n ∷ ts) names after
   hiding n word ts between after names i f e j = found_before Opened _ (n ∷ ts) between after word names
       (opened n ts between names i f) e j
 
   -- names, `in` and a behaviour expression are a hide form of each level
   pub found_hidden : (l : Level) (room : ℕ) (n word : Token) (ts between after rest : List Token)
-      (names : List Placed) (x z : Tree) →
-      0 < room → Is n (Reserved w.HideWord) → Found (NameList text) ts names between → between ≡ word ∷ after →
-      Is word (Reserved w.InWord) → Found (Expression text enabling (Some (room - 1))) after x rest → z ≡ t.hide names x →
-      Found (Expression text l (Some room)) (n ∷ ts) z rest
+      (names : List Placed) (x z : BehaviourView) →
+      0 < room → IsOfKind n (Reserved w.HideWord) → Parses (NameList text) ts names between → between ≡ word ∷ after →
+      IsOfKind word (Reserved w.InWord) → Parses (BehaviourPhrase text enabling (Some (room - 1))) after x rest → z ≡ t.hide names x →
+      Parses (BehaviourPhrase text l (Some room)) (n ∷ ts) z rest
   found_hidden l room n word ts between after rest names x z h i f e j g k =
       found_form l room (n ∷ ts) rest z h
-      (found_then t.hide Hiding (Expression text enabling (Some (room - 1))) (n ∷ ts) after rest names x z
+      (found_then t.hide Hiding (BehaviourPhrase text enabling (Some (room - 1))) (n ∷ ts) after rest names x z
       (hiding n word ts between after names i f e j) g k)
 
   -- where the names are lost, so is the hide form
-  pub lost_hidden : (l : Level) (n : Token) (ts rest : List Token) → Is n (Reserved w.HideWord) → Lost (NameList text) ts rest →
-      Lost (Expression text l None) (n ∷ ts) rest
+  pub lost_hidden : (l : Level) (n : Token) (ts rest : List Token) → IsOfKind n (Reserved w.HideWord) → Fails (NameList text) ts rest →
+      Fails (BehaviourPhrase text l None) (n ∷ ts) rest
   lost_hidden l n ts rest i lost =
-      lost_form l None n ts rest i (lost_first t.hide Hiding (Expression text enabling None) (n ∷ ts) rest
+      lost_form l None n ts rest i (lost_first t.hide Hiding (BehaviourPhrase text enabling None) (n ∷ ts) rest
       (lost_within Opened _ (n ∷ ts) rest (lost_behind _ (NameList text) (n ∷ ts) ts rest n refl i lost)))
 
   -- where `in` is lost, so is the hide form
-  pub lost_unentered : (l : Level) (n : Token) (ts between rest : List Token) (names : List Placed) → Is n (Reserved w.HideWord) →
-      Found (NameList text) ts names between → Lost (One (Reserved w.InWord)) between rest →
-      Lost (Expression text l None) (n ∷ ts) rest
+  pub lost_unentered : (l : Level) (n : Token) (ts between rest : List Token) (names : List Placed) → IsOfKind n (Reserved w.HideWord) →
+      Parses (NameList text) ts names between → Fails (OneToken (Reserved w.InWord)) between rest →
+      Fails (BehaviourPhrase text l None) (n ∷ ts) rest
   lost_unentered l n ts between rest names i f lost =
-      lost_form l None n ts rest i (lost_first t.hide Hiding (Expression text enabling None) (n ∷ ts) rest
+      lost_form l None n ts rest i (lost_first t.hide Hiding (BehaviourPhrase text enabling None) (n ∷ ts) rest
       (lost_unclosed Opened _ (firm_behind _ (NameList text) (firm_names text)) (n ∷ ts) between rest names
       (opened n ts between names i f) lost))
 
-  lost_body : (l : Level) (limit : Limit) (n word : Token) (ts between after rest : List Token) (names : List Placed) →
-      Is n (Reserved w.HideWord) → Found (NameList text) ts names between → between ≡ word ∷ after → Is word (Reserved w.InWord) →
-      Lost (Expression text enabling (inside limit)) after rest → Lost (Expression text l limit) (n ∷ ts) rest
+  lost_body : (l : Level) (limit : NestingLimit) (n word : Token) (ts between after rest : List Token) (names : List Placed) →
+      IsOfKind n (Reserved w.HideWord) → Parses (NameList text) ts names between → between ≡ word ∷ after → IsOfKind word (Reserved w.InWord) →
+      Fails (BehaviourPhrase text enabling (inside limit)) after rest → Fails (BehaviourPhrase text l limit) (n ∷ ts) rest
   lost_body l limit n word ts between after rest names i f e j lost =
       lost_form l limit n ts rest i
-      (lost_second t.hide Hiding (Expression text enabling (inside limit)) firm_hiding (n ∷ ts) after rest names (hiding n word ts between after names i f e j) lost)
+      (lost_second t.hide Hiding (BehaviourPhrase text enabling (inside limit)) firm_hiding (n ∷ ts) after rest names (hiding n word ts between after names i f e j) lost)
 
   -- where the behaviour expression is lost, so is the hide form
   pub carries_hidden : (l : Level) (room : ℕ) (n word : Token) (ts between after : List Token) (names : List Placed) →
-      Is n (Reserved w.HideWord) → Found (NameList text) ts names between → between ≡ word ∷ after → Is word (Reserved w.InWord) →
-      Carries (Expression text enabling) (room - 1) after (Expression text l) room (n ∷ ts)
+      IsOfKind n (Reserved w.HideWord) → Parses (NameList text) ts names between → between ≡ word ∷ after → IsOfKind word (Reserved w.InWord) →
+      Carries (BehaviourPhrase text enabling) (room - 1) after (BehaviourPhrase text l) room (n ∷ ts)
   carries_hidden l room n word ts between after names i f e j = record {
     free = λ rest. lost_body l None n word ts between after rest names i f e j;
     limited = λ rest. lost_body l (Some room) n word ts between after rest names i f e j;
@@ -148,17 +148,17 @@ module _ (text : List ℕ) where
   }
 
   -- with no room left, `hide` begins nothing
-  pub deep_hide : (l : Level) (room : ℕ) (n : Token) (ts : List Token) → room ≡ 0 → Is n (Reserved w.HideWord) →
-      Deeper (Expression text l) room (n ∷ ts) n
+  pub deep_hide : (l : Level) (room : ℕ) (n : Token) (ts : List Token) → room ≡ 0 → IsOfKind n (Reserved w.HideWord) →
+      IsTooDeepAt (BehaviourPhrase text l) room (n ∷ ts) n
   deep_hide l room n ts h i = record {
     after = ts;
-    lost = record {
+    fails = record {
       front = [];
       joined = refl;
       never = λ more own behind x st e p.
           let b = taken_hide text behind st.0 i p.spells (sym e ∙ st.1) in
           let j = b.nesting in let k = p.within in absurd (omega (arith, h, j, k));
     };
-    crowded = crowded_here (n ∷ ts) [] ts n room refl h (opens_is i refl);
+    too_many_open = crowded_here (n ∷ ts) [] ts n room refl h (opens_is i refl);
     opens = opens_is i refl;
   }

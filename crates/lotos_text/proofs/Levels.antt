@@ -1,13 +1,13 @@
 -- Spellings of a looser level: one of the next tighter level, or an operation; and how the levels rank.
 use Rattle.std.proofs.Common.{◌≡◌, ℕ, ◌+◌, ◌<◌, ◌≤◌, max, Bool, true, false, List, [], ◌∷◌, ◌++◌, refl, ap, arith, subst}
-use Rattle.lotos_text.specs.Tree as t
-use Rattle.lotos_text.specs.Tree.{Tree}
-use Rattle.lotos_text.specs.Grammar.{Is, Level, enabling, disabling, parallel, choosing, prefixing, BindsTighter, tighter_than_enabling, tighter_than_disabling, tighter_than_parallel, tighter_than_choosing, Operator, enables, synchronizes, join, Operates, enable_sign, disable_sign, interleave_sign, full_sign, sync_on_none, sync_on, choice_sign, Spells, stop, exit, parentheses, call, prefix, tighter, operation, hide}
+use Rattle.lotos_text.specs.AstView as t
+use Rattle.lotos_text.specs.AstView.{BehaviourView}
+use Rattle.lotos_text.specs.Grammar.{IsOfKind, Level, enabling, disabling, parallel, choosing, prefixing, BindsTighter, tighter_than_enabling, tighter_than_disabling, tighter_than_parallel, tighter_than_choosing, Operator, enables, synchronizes, apply, IsOperator, enable_sign, disable_sign, interleave_sign, full_sign, sync_on_none, sync_on, choice_sign, Spells, stop, exit, parentheses, call, prefix, tighter, operation, hide}
 use Rattle.lotos_text.specs.Follow.{kind_rank, rank, level_rank, bound}
 use Rattle.lotos_text.specs.Phrases.{SyncList, no_sync, some_sync}
 use Rattle.lotos_text.specs.declared.token.Token.{Token}
 use Rattle.lotos_text.specs.declared.token.TokenKind.{TokenKind}
-use Rattle.lotos_text.specs.declared.tree.Placed.{Placed}
+use Rattle.lotos_text.specs.declared.ast.Placed.{Placed}
 use Rattle.lotos_text.proofs.FirstToken.{head_same, tail_same, apart}
 use Rattle.lotos_text.proofs.NameLists.{unique_sync_list}
 
@@ -47,12 +47,12 @@ rank_open l m o true ts e h = rank_none m o ts (omega (arith, h))
 rank_open l m o false ts e h = cc
 
 -- a token ranks as its kind
-pub rank_is : {n : Token} {k : TokenKind} (ts : List Token) → Is n k → rank (n ∷ ts) ≡ kind_rank k
+pub rank_is : {n : Token} {k : TokenKind} (ts : List Token) → IsOfKind n k → rank (n ∷ ts) ≡ kind_rank k
 rank_is ts i = ap kind_rank i.same
 
 module _ (text : List ℕ) where
   -- an operator ranks as its level does
-  pub operator_rank : {l : Level} {op : List Token} {how : Operator} (r : List Token) → Operates text l op how →
+  pub operator_rank : {l : Level} {op : List Token} {how : Operator} (r : List Token) → IsOperator text l op how →
       rank (op ++ r) ≡ level_rank l
   operator_rank r (enable_sign i) = rank_is r i
   operator_rank r (disable_sign i) = rank_is r i
@@ -63,7 +63,7 @@ module _ (text : List ℕ) where
   operator_rank r (choice_sign i) = rank_is r i
 
   -- below an operator's level the operands bind tighter
-  pub operator_below : {l m : Level} {op : List Token} {how : Operator} → BindsTighter l m → Operates text l op how →
+  pub operator_below : {l m : Level} {op : List Token} {how : Operator} → BindsTighter l m → IsOperator text l op how →
       level_rank l < level_rank m
   operator_below b i = below_rank b
 
@@ -88,8 +88,8 @@ module _ (text : List ℕ) where
       }
 
   -- one list begins with one operator of a level
-  pub unique_operator : {l : Level} {a b : List Token} {how ways : Operator} (r q : List Token) → Operates text l a how →
-      Operates text l b ways → a ++ r ≡ b ++ q → SameOperator a b how ways r q
+  pub unique_operator : {l : Level} {a b : List Token} {how ways : Operator} (r q : List Token) → IsOperator text l a how →
+      IsOperator text l b ways → a ++ r ≡ b ++ q → SameOperator a b how ways r q
   unique_operator r q (enable_sign i) (enable_sign j) e = one_sign r q e (ap (λ (n : Token). enables n.at) (head_same e))
   unique_operator r q (disable_sign i) (disable_sign j) e = one_sign r q e refl
   unique_operator r q (choice_sign i) (choice_sign j) e = one_sign r q e refl
@@ -111,11 +111,11 @@ module _ (text : List ℕ) where
   unique_operator r q (sync_on i d j k) (sync_on l f m n) e = one_sync r q (some_sync d j k) (some_sync f m n) e
 
   -- a spelling of the level whose next tighter one is given
-  pub data Levelled (l m : Level) : Bool → ℕ → List Token → Tree → Type 0 where
-    alone : {o : Bool} {n : ℕ} {own : List Token} {x : Tree} → Spells text m o n own x → Levelled l m o n own x
-    operated : {o : Bool} {nl nr : ℕ} {left op right : List Token} {x y : Tree} {how : Operator} →
-        Spells text m false nl left x → Operates text l op how → Spells text l o nr right y →
-        Levelled l m o (max nl (nr + 1)) (left ++ op ++ right) (join how x y)
+  pub data Levelled (l m : Level) : Bool → ℕ → List Token → BehaviourView → Type 0 where
+    alone : {o : Bool} {n : ℕ} {own : List Token} {x : BehaviourView} → Spells text m o n own x → Levelled l m o n own x
+    operated : {o : Bool} {nl nr : ℕ} {left op right : List Token} {x y : BehaviourView} {how : Operator} →
+        Spells text m false nl left x → IsOperator text l op how → Spells text l o nr right y →
+        Levelled l m o (max nl (nr + 1)) (left ++ op ++ right) (apply how x y)
 
   below_same : {l m k : Level} → BindsTighter l m → BindsTighter l k → m ≡ k
   below_same tighter_than_enabling tighter_than_enabling = refl
@@ -124,7 +124,7 @@ module _ (text : List ℕ) where
   below_same tighter_than_choosing tighter_than_choosing = refl
 
   -- a spelling of the looser level is one of the next tighter, or an operation
-  pub taken_level : {l m : Level} {o : Bool} {n : ℕ} {own : List Token} {x : Tree} → BindsTighter l m → Spells text l o n own x →
+  pub taken_level : {l m : Level} {o : Bool} {n : ℕ} {own : List Token} {x : BehaviourView} → BindsTighter l m → Spells text l o n own x →
       Levelled l m o n own x
   taken_level b (stop i) = elim b [ ]
   taken_level b (exit i) = elim b [ ]

@@ -1,27 +1,27 @@
 -- Lists of names: what the loop over names finds and loses, and that a list of names is the only one.
 use Rattle.std.proofs.Common.{◌≡◌, ℕ, List, [], ◌∷◌, ◌++◌, refl, sym, ◌∙◌, ap, append_assoc, subst}
-use Rattle.lotos_text.specs.Grammar.{Is, placed, Names, one_name, more_names, GateList, no_gates, gates}
-use Rattle.lotos_text.specs.Parsing.{Phrase, NotFirst, Found, Lost}
-use Rattle.lotos_text.specs.Phrases.{One, Behind, Before, NameList, Gates, SyncList, no_sync, some_sync}
+use Rattle.lotos_text.specs.Grammar.{IsOfKind, located_name, Names, one_name, more_names, GateList, no_gates, gates}
+use Rattle.lotos_text.specs.ParserContracts.{Phrase, DoesNotStartWith, Parses, Fails}
+use Rattle.lotos_text.specs.Phrases.{OneToken, Preceded, Followed, NameList, OptionalGates, SyncList, no_sync, some_sync}
 use Rattle.lotos_text.specs.declared.token.Token.{Token}
 use Rattle.lotos_text.specs.declared.token.TokenKind.{TokenKind}
 use Rattle.lotos_text.specs.declared.token.TokenKind.TheVariants.{Identifier, Sign}
 use Rattle.lotos_text.specs.declared.token.Sign.TheVariants as s
-use Rattle.lotos_text.specs.declared.tree.Placed.{Placed}
+use Rattle.lotos_text.specs.declared.ast.Placed.{Placed}
 use Rattle.lotos_text.proofs.FirstToken.{head_same, tail_same, apart, not_first, is_first, starts_not}
 use Rattle.lotos_text.proofs.OneToken.{found_behind, lost_behind, firm_behind, found_before, lost_unclosed, lost_within}
-use Rattle.lotos_text.proofs.Sequence.{Same, Firm, lost_as, between, as_between}
+use Rattle.lotos_text.proofs.Sequences.{Same, Firm, lost_as, between, as_between}
 
 module _ (text : List ℕ) where
   -- a name with no comma behind it is a list
-  pub found_last : (ts behind : List Token) (n : Token) → ts ≡ n ∷ behind → Is n Identifier → NotFirst (Sign s.Comma) behind →
-      Found (NameList text) ts (placed text n ∷ []) behind
+  pub found_last : (ts behind : List Token) (n : Token) → ts ≡ n ∷ behind → IsOfKind n Identifier → DoesNotStartWith (Sign s.Comma) behind →
+      Parses (NameList text) ts (located_name text n ∷ []) behind
   found_last ts behind n e i h = record { front = n ∷ []; joined = e; whole = record { names = one_name i; quits = h } }
 
   -- a name and a comma go before a list
   pub found_more : (ts behind after rest : List Token) (n comma : Token) (names : List Placed) → ts ≡ n ∷ behind →
-      Is n Identifier → behind ≡ comma ∷ after → Is comma (Sign s.Comma) →
-      Found (NameList text) after names rest → Found (NameList text) ts (placed text n ∷ names) rest
+      IsOfKind n Identifier → behind ≡ comma ∷ after → IsOfKind comma (Sign s.Comma) →
+      Parses (NameList text) after names rest → Parses (NameList text) ts (located_name text n ∷ names) rest
   found_more ts behind after rest n comma names e i g j f = record {
     front = n ∷ comma ∷ f.front;
     joined = e ∙ ap (λ l. n ∷ l) (g ∙ ap (λ l. comma ∷ l) f.joined);
@@ -29,7 +29,7 @@ module _ (text : List ℕ) where
   }
 
   -- where the first name is lost, so is the list
-  pub lost_here : (ts rest : List Token) → Lost (One Identifier) ts rest → Lost (NameList text) ts rest
+  pub lost_here : (ts rest : List Token) → Fails (OneToken Identifier) ts rest → Fails (NameList text) ts rest
   lost_here ts rest l = record {
     front = l.front;
     joined = l.joined;
@@ -38,15 +38,15 @@ module _ (text : List ℕ) where
   }
     where
       never_here : (front more own behind : List Token) (names : List Placed) →
-          ((n : Token) (ls : List Token) → front ++ more ≡ n ∷ ls → Is n Identifier → ⊥) →
+          ((n : Token) (ls : List Token) → front ++ more ≡ n ∷ ls → IsOfKind n Identifier → ⊥) →
           front ++ more ≡ own ++ behind → Names text own names → ⊥
       never_here front more _ behind _ h e (one_name {n = n} i) = h n behind e i
       never_here front more _ behind _ h e (more_names {n = n} {comma = comma} {ts = ts} i j d) = h n (comma ∷ ts ++ behind) e i
 
   -- a list that is lost behind a name and a comma is lost with them
   pub lost_more : (ts behind after rest : List Token) (n comma : Token) → ts ≡ n ∷ behind → behind ≡ comma ∷ after →
-      Is comma (Sign s.Comma) →
-      Lost (NameList text) after rest → Lost (NameList text) ts rest
+      IsOfKind comma (Sign s.Comma) →
+      Fails (NameList text) after rest → Fails (NameList text) ts rest
   lost_more ts behind after rest n comma e g j l = record {
     front = n ∷ comma ∷ l.front;
     joined = e ∙ ap (λ m. n ∷ m) (g ∙ ap (λ m. comma ∷ m) l.joined);
@@ -56,17 +56,17 @@ module _ (text : List ℕ) where
     where
       never_more : (front more own behind : List Token) (names : List Placed) →
           ((a : List Token) (ms : List Placed) → front ++ more ≡ a ++ behind → Names text a ms → ⊥) →
-          n ∷ comma ∷ (front ++ more) ≡ own ++ behind → Names text own names → NotFirst (Sign s.Comma) behind → ⊥
+          n ∷ comma ∷ (front ++ more) ≡ own ++ behind → Names text own names → DoesNotStartWith (Sign s.Comma) behind → ⊥
       never_more front more _ behind _ h e (one_name i) q = not_first _ behind (front ++ more) q j (sym (tail_same e))
       never_more front more _ behind _ h e (more_names {ts = ts} {names = ms} i k d) q = h ts ms (tail_same (tail_same e)) d
 
   -- one list begins with one list of names
   pub unique_names : {a b : List Token} {ns ms : List Placed} (r q : List Token) → Names text a ns → Names text b ms →
       a ++ r ≡ b ++ q →
-      NotFirst (Sign s.Comma) r → NotFirst (Sign s.Comma) q → Same a b ns ms r q
+      DoesNotStartWith (Sign s.Comma) r → DoesNotStartWith (Sign s.Comma) q → Same a b ns ms r q
   unique_names r q (one_name i) (one_name j) e hr hq = record {
     tokens = ap (λ n. n ∷ []) (head_same e);
-    said = ap (λ n. placed text n ∷ []) (head_same e);
+    said = ap (λ n. located_name text n ∷ []) (head_same e);
     rest = tail_same e;
   }
   unique_names r q (one_name i) (more_names {ts = ts} j c d) e hr hq = absurd (not_first _ r (ts ++ q) hr c (tail_same e))
@@ -76,14 +76,14 @@ module _ (text : List ℕ) where
       let h = unique_names r q d f (tail_same (tail_same e)) hr hq in
       record {
         tokens = (let f = h.tokens in let g = head_same e in let i = head_same (tail_same e) in cc);
-        said = (let f = h.said in let g : placed text n ≡ placed text m = ap (placed text) (head_same e) in cc);
+        said = (let f = h.said in let g : located_name text n ≡ located_name text m = ap (located_name text) (head_same e) in cc);
         rest = h.rest;
       }
 
   -- one list begins with one gate list
   pub unique_gates : {a b : List Token} {ns ms : List Placed} (r q : List Token) → GateList text a ns → GateList text b ms →
       a ++ r ≡ b ++ q →
-      (a ≡ [] → NotFirst (Sign s.LeftBracket) r) → (b ≡ [] → NotFirst (Sign s.LeftBracket) q) → Same a b ns ms r q
+      (a ≡ [] → DoesNotStartWith (Sign s.LeftBracket) r) → (b ≡ [] → DoesNotStartWith (Sign s.LeftBracket) q) → Same a b ns ms r q
   unique_gates r q no_gates no_gates e hr hq = record { tokens = refl; said = refl; rest = e }
   unique_gates r q no_gates (gates {right = c} {ts = ts} i d j) e hr hq = absurd (not_first _ r ((ts ++ c ∷ []) ++ q)
       (hr refl) i e)
@@ -101,7 +101,7 @@ module _ (text : List ℕ) where
 
   -- no list of names begins with what is no identifier
   names_first : {a : List Token} {names : List Placed} {n : Token} {k : TokenKind} (r ts : List Token) → Names text a names →
-      Is n k → a ++ r ≡ n ∷ ts → (Identifier ≡ k → ⊥) → ⊥
+      IsOfKind n k → a ++ r ≡ n ∷ ts → (Identifier ≡ k → ⊥) → ⊥
   names_first r ts (one_name i) j e two = apart i j (head_same e) two
   names_first r ts (more_names i k d) j e two = apart i j (head_same e) two
 
@@ -133,22 +133,22 @@ module _ (text : List ℕ) where
   pub firm_names : Firm (NameList text)
   firm_names a b r more q x y p st o e = unique_names more q p.names o.names e (starts_not _ r more st p.quits) o.quits
 
-  pub firm_gates : Firm (Gates text)
+  pub firm_gates : Firm (OptionalGates text)
   firm_gates a b r more q x y p st o e = unique_gates more q p.gates o.gates e (λ h. starts_not _ r more st (p.quits h)) o.quits
 
   -- names in brackets, as three parts
 
   abbrev Opened : Phrase (List Placed)
-  Opened = Behind (Sign s.LeftBracket) (NameList text)
+  Opened = Preceded (Sign s.LeftBracket) (NameList text)
 
   abbrev InBrackets : Phrase (List Placed)
-  InBrackets = Before Opened (Sign s.RightBracket)
+  InBrackets = Followed Opened (Sign s.RightBracket)
 
   -- where no bracket stands, there are no gates
-  pub found_no_gates : (ts : List Token) → NotFirst (Sign s.LeftBracket) ts → Found (Gates text) ts [] ts
+  pub found_no_gates : (ts : List Token) → DoesNotStartWith (Sign s.LeftBracket) ts → Parses (OptionalGates text) ts [] ts
   found_no_gates ts h = record { front = []; joined = refl; whole = record { gates = no_gates; quits = λ e. h } }
 
-  found_gates : (ts rest : List Token) (names : List Placed) → Found InBrackets ts names rest → Found (Gates text) ts names rest
+  found_gates : (ts rest : List Token) (names : List Placed) → Parses InBrackets ts names rest → Parses (OptionalGates text) ts names rest
   found_gates ts rest names f =
       let b = between _ _ (NameList text) f.front rest names f.whole in
       record {
@@ -160,37 +160,37 @@ module _ (text : List ℕ) where
         };
       }
 
-  down_gates : (n : Token) → Is n (Sign s.LeftBracket) → (own behind more : List Token) (names : List Placed) →
+  down_gates : (n : Token) → IsOfKind n (Sign s.LeftBracket) → (own behind more : List Token) (names : List Placed) →
       own ++ behind ≡ n ∷ more → GateList text own names →
-      (own ≡ [] → NotFirst (Sign s.LeftBracket) behind) → (said : List Placed) × InBrackets own said behind
+      (own ≡ [] → DoesNotStartWith (Sign s.LeftBracket) behind) → (said : List Placed) × InBrackets own said behind
   down_gates n i _ behind more _ e no_gates h = absurd (not_first _ behind more (h refl) i e)
   down_gates n i _ behind more _ e (gates {left = left} {right = right} {ts = ts} {names = names} j d k) h =
       (names, as_between _ _ (NameList text) left right ts behind names j (record { names = d; quits = is_first k (λ e. cc) }) k)
 
-  lost_gates : (ts others rest : List Token) (n : Token) → ts ≡ n ∷ others → Is n (Sign s.LeftBracket) → Lost InBrackets ts rest →
-      Lost (Gates text) ts rest
-  lost_gates ts others rest n e i l = lost_as (Gates text) InBrackets n ts others rest e
+  lost_gates : (ts others rest : List Token) (n : Token) → ts ≡ n ∷ others → IsOfKind n (Sign s.LeftBracket) → Fails InBrackets ts rest →
+      Fails (OptionalGates text) ts rest
+  lost_gates ts others rest n e i l = lost_as (OptionalGates text) InBrackets n ts others rest e
       (λ own behind more x e p. down_gates n i own behind more x e p.gates p.quits) l
 
   -- a bracket, names and a bracket are a gate list
   pub found_closed : (ts inside between rest : List Token) (left right : Token) (names : List Placed) → ts ≡ left ∷ inside →
-      Is left (Sign s.LeftBracket) →
-      Found (NameList text) inside names between → between ≡ right ∷ rest → Is right (Sign s.RightBracket) → Found
-      (Gates text) ts names rest
+      IsOfKind left (Sign s.LeftBracket) →
+      Parses (NameList text) inside names between → between ≡ right ∷ rest → IsOfKind right (Sign s.RightBracket) → Parses
+      (OptionalGates text) ts names rest
   found_closed ts inside between rest left right names e i f g j =
       found_gates ts rest names (found_before Opened _ ts between rest right names
       (found_behind _ (NameList text) ts inside between left names e i f) g j)
 
   -- where the names in the bracket are lost, so is the gate list
-  pub lost_inside : (ts inside rest : List Token) (left : Token) → ts ≡ left ∷ inside → Is left (Sign s.LeftBracket) →
-      Lost (NameList text) inside rest → Lost (Gates text) ts rest
+  pub lost_inside : (ts inside rest : List Token) (left : Token) → ts ≡ left ∷ inside → IsOfKind left (Sign s.LeftBracket) →
+      Fails (NameList text) inside rest → Fails (OptionalGates text) ts rest
   lost_inside ts inside rest left e i l = lost_gates ts inside rest left e i
       (lost_within Opened _ ts rest (lost_behind _ (NameList text) ts inside rest left e i l))
 
   -- where the right bracket is lost, so is the gate list
   pub lost_open : (ts inside between rest : List Token) (left : Token) (names : List Placed) → ts ≡ left ∷ inside →
-      Is left (Sign s.LeftBracket) →
-      Found (NameList text) inside names between → Lost (One (Sign s.RightBracket)) between rest → Lost (Gates text) ts rest
+      IsOfKind left (Sign s.LeftBracket) →
+      Parses (NameList text) inside names between → Fails (OneToken (Sign s.RightBracket)) between rest → Fails (OptionalGates text) ts rest
   lost_open ts inside between rest left names e i f l =
       lost_gates ts inside rest left e i
       (lost_unclosed Opened _ (firm_behind _ (NameList text) firm_names) ts between rest names

@@ -1,16 +1,16 @@
 -- Phrases of one token, and of none: what is found and lost, and that each is the only one.
 use Rattle.std.proofs.Common.{◌≡◌, ℕ, List, [], ◌∷◌, ◌++◌, refl, sym, ◌∙◌, ap, subst}
-use Rattle.lotos_text.specs.Grammar.{Is, placed, Declares, exits, never_exits}
-use Rattle.lotos_text.specs.Parsing.{Phrase, NotFirst, Found, Lost, Starts}
-use Rattle.lotos_text.specs.Phrases.{One, Behind, Before, Name, Declared, Nothing}
+use Rattle.lotos_text.specs.Grammar.{IsOfKind, located_name, IsFunctionality, exits, never_exits}
+use Rattle.lotos_text.specs.ParserContracts.{Phrase, DoesNotStartWith, Parses, Fails, StartsAlike}
+use Rattle.lotos_text.specs.Phrases.{OneToken, Preceded, Followed, OneName, OneFunctionality, EndOfInput}
 use Rattle.lotos_text.specs.declared.token.Token.{Token}
 use Rattle.lotos_text.specs.declared.token.TokenKind.{TokenKind}
 use Rattle.lotos_text.specs.declared.token.TokenKind.TheVariants.{Identifier, Reserved}
 use Rattle.lotos_text.specs.declared.token.Word.TheVariants as w
-use Rattle.lotos_text.specs.declared.tree.Functionality.{Functionality}
-use Rattle.lotos_text.specs.declared.tree.Placed.{Placed}
+use Rattle.lotos_text.specs.declared.ast.Functionality.{Functionality}
+use Rattle.lotos_text.specs.declared.ast.Placed.{Placed}
 use Rattle.lotos_text.proofs.FirstToken.{head_same, tail_same, apart, not_first, starts_not, starts_behind}
-use Rattle.lotos_text.proofs.Sequence.{Firm, found_then, firm_then, lost_first, lost_second}
+use Rattle.lotos_text.proofs.Sequences.{Firm, found_then, firm_then, lost_first, lost_second}
 
 -- two lists that each begin with a part of one token
 same_token : (a b r q : List Token) (n m : Token) → a ≡ n ∷ [] → b ≡ m ∷ [] → a ++ r ≡ b ++ q → n ∷ r ≡ m ∷ q
@@ -20,11 +20,11 @@ same_token a b r q n m i j e = sym (ap (λ l. l ++ r) i) ∙ e ∙ ap (λ l. l +
 its_first : (own ts behind : List Token) (n : Token) → ts ≡ own ++ behind → own ≡ n ∷ [] → ts ≡ n ∷ behind
 its_first own ts behind n e i = e ∙ ap (λ l. l ++ behind) i
 
-pub found_one : (k : TokenKind) (ts rest : List Token) (n : Token) → ts ≡ n ∷ rest → Is n k → Found (One k) ts n rest
+pub found_one : (k : TokenKind) (ts rest : List Token) (n : Token) → ts ≡ n ∷ rest → IsOfKind n k → Parses (OneToken k) ts n rest
 found_one k ts rest n e i = record { front = n ∷ []; joined = e; whole = record { joined = refl; is = i } }
 
 -- where no token of the kind stands, it is lost there
-pub lost_one : (k : TokenKind) (ts : List Token) → NotFirst k ts → Lost (One k) ts ts
+pub lost_one : (k : TokenKind) (ts : List Token) → DoesNotStartWith k ts → Fails (OneToken k) ts ts
 lost_one k ts h = record {
   front = [];
   joined = refl;
@@ -33,20 +33,20 @@ lost_one k ts h = record {
 }
 
 -- a token of a kind is the only one
-pub firm_one : (k : TokenKind) → Firm (One k)
+pub firm_one : (k : TokenKind) → Firm (OneToken k)
 firm_one k a b r more q x y p st o e =
     let h = same_token a b more q x y p.joined o.joined e in
     record { tokens = (let i = p.joined in let j = o.joined in let l = head_same h in cc); said = head_same h; rest = tail_same h }
 
 -- one token is one functionality
-pub same_functionality : {n m : Token} {x y : Functionality} → Declares n x → Declares m y → n ≡ m → x ≡ y
+pub same_functionality : {n m : Token} {x y : Functionality} → IsFunctionality n x → IsFunctionality m y → n ≡ m → x ≡ y
 same_functionality (exits i) (exits j) e = refl
 same_functionality (exits i) (never_exits j) e = absurd (apart i j e (λ e. cc))
 same_functionality (never_exits i) (exits j) e = absurd (apart i j e (λ e. cc))
 same_functionality (never_exits i) (never_exits j) e = refl
 
 -- a functionality is the only one
-pub firm_declared : Firm Declared
+pub firm_declared : Firm OneFunctionality
 firm_declared a b r more q x y p st o e =
     let h = same_token a b more q p.token o.token p.joined o.joined e in
     record {
@@ -55,34 +55,34 @@ firm_declared a b r more q x y p st o e =
       rest = tail_same h;
     }
 
-pub found_declared : (ts rest : List Token) (n : Token) (x : Functionality) → ts ≡ n ∷ rest → Declares n x →
-    Found Declared ts x rest
+pub found_declared : (ts rest : List Token) (n : Token) (x : Functionality) → ts ≡ n ∷ rest → IsFunctionality n x →
+    Parses OneFunctionality ts x rest
 found_declared ts rest n x e d = record { front = n ∷ []; joined = e; whole = record { token = n; joined = refl; declares = d } }
 
 -- no `exit` stands here, and `noexit` is lost there
-pub lost_declared : (ts rest : List Token) → NotFirst (Reserved w.ExitWord) ts → Lost (One (Reserved w.NoexitWord)) ts rest →
-    Lost Declared ts rest
+pub lost_declared : (ts rest : List Token) → DoesNotStartWith (Reserved w.ExitWord) ts → Fails (OneToken (Reserved w.NoexitWord)) ts rest →
+    Fails OneFunctionality ts rest
 lost_declared ts rest h l = record {
   front = l.front;
   joined = l.joined;
   never = λ more own behind said st e p.
-      let alike : Starts ts (l.front ++ more) = subst (λ m. Starts m (l.front ++ more)) (sym l.joined)
+      let alike : StartsAlike ts (l.front ++ more) = subst (λ m. StartsAlike m (l.front ++ more)) (sym l.joined)
       (starts_behind l.front rest more st) in
       neither p.declares (not_first _ (l.front ++ more) behind (starts_not _ ts (l.front ++ more) alike h))
       (λ i. l.never more own behind p.token st e (record { joined = p.joined; is = i }))
       (its_first own (l.front ++ more) behind p.token e p.joined);
 }
   where
-    neither : {n : Token} {x : Functionality} {E : Type 0} → Declares n x → (Is n (Reserved w.ExitWord) → E → ⊥) →
-        (Is n (Reserved w.NoexitWord) → ⊥) → E → ⊥
+    neither : {n : Token} {x : Functionality} {E : Type 0} → IsFunctionality n x → (IsOfKind n (Reserved w.ExitWord) → E → ⊥) →
+        (IsOfKind n (Reserved w.NoexitWord) → ⊥) → E → ⊥
     neither (exits i) h g e = h i e
     neither (never_exits i) h g e = g i
 
-pub found_nothing : Found Nothing [] tt []
+pub found_nothing : Parses EndOfInput [] tt []
 found_nothing = record { front = []; joined = refl; whole = record { empty = refl; last = refl } }
 
 -- where a token stands, the end is lost
-pub lost_nothing : (n : Token) (ts : List Token) → Lost Nothing (n ∷ ts) (n ∷ ts)
+pub lost_nothing : (n : Token) (ts : List Token) → Fails EndOfInput (n ∷ ts) (n ∷ ts)
 lost_nothing n ts = record {
   front = [];
   joined = refl;
@@ -91,7 +91,7 @@ lost_nothing n ts = record {
 }
 
 -- where tokens are left, the end is lost
-pub lost_end : (ts : List Token) → (ts ≡ [] → ⊥) → Lost Nothing ts ts
+pub lost_end : (ts : List Token) → (ts ≡ [] → ⊥) → Fails EndOfInput ts ts
 lost_end [] h = absurd (h refl)
 lost_end (n ∷ ts) h = lost_nothing n ts
 
@@ -99,26 +99,26 @@ lost_end (n ∷ ts) h = lost_nothing n ts
 
 module _ {A : Type 0} (k : TokenKind) (P : Phrase A) where
   -- the token, and behind it the part
-  pub found_behind : (ts between rest : List Token) (n : Token) (x : A) → ts ≡ n ∷ between → Is n k → Found P between x rest →
-      Found (Behind k P) ts x rest
-  found_behind ts between rest n x e i f = found_then (λ token said. said) (One k) P ts between rest n x x
+  pub found_behind : (ts between rest : List Token) (n : Token) (x : A) → ts ≡ n ∷ between → IsOfKind n k → Parses P between x rest →
+      Parses (Preceded k P) ts x rest
+  found_behind ts between rest n x e i f = found_then (λ token said. said) (OneToken k) P ts between rest n x x
       (found_one k ts between n e i) f refl
 
   -- the token is lost, and so is the part behind it
-  pub lost_before : (ts rest : List Token) → Lost (One k) ts rest → Lost (Behind k P) ts rest
-  lost_before ts rest l = lost_first (λ token said. said) (One k) P ts rest l
+  pub lost_before : (ts rest : List Token) → Fails (OneToken k) ts rest → Fails (Preceded k P) ts rest
+  lost_before ts rest l = lost_first (λ token said. said) (OneToken k) P ts rest l
 
   -- the token is found, and the part behind it is lost
-  pub lost_behind : (ts between rest : List Token) (n : Token) → ts ≡ n ∷ between → Is n k → Lost P between rest →
-      Lost (Behind k P) ts rest
-  lost_behind ts between rest n e i l = lost_second (λ token said. said) (One k) P (firm_one k) ts between rest n
+  pub lost_behind : (ts between rest : List Token) (n : Token) → ts ≡ n ∷ between → IsOfKind n k → Fails P between rest →
+      Fails (Preceded k P) ts rest
+  lost_behind ts between rest n e i l = lost_second (λ token said. said) (OneToken k) P (firm_one k) ts between rest n
       (found_one k ts between n e i) l
 
-  pub firm_behind : Firm P → Firm (Behind k P)
-  firm_behind firm = firm_then (λ token said. said) (One k) P (firm_one k) firm
+  pub firm_behind : Firm P → Firm (Preceded k P)
+  firm_behind firm = firm_then (λ token said. said) (OneToken k) P (firm_one k) firm
 
   -- the part behind a token, put together
-  pub behind : (n : Token) (own rest : List Token) (x : A) → Is n k → P own x rest → Behind k P (n ∷ own) x rest
+  pub behind : (n : Token) (own rest : List Token) (x : A) → IsOfKind n k → P own x rest → Preceded k P (n ∷ own) x rest
   behind n own rest x i p = record {
     front = n ∷ [];
     back = own;
@@ -135,10 +135,10 @@ module _ {A : Type 0} (k : TokenKind) (P : Phrase A) where
     pub token : Token
     pub inner : List Token
     pub joined : own ≡ token ∷ inner
-    pub is : Is token k
+    pub is : IsOfKind token k
     pub within : P inner x rest
 
-  pub uncover : (own rest : List Token) (x : A) → Behind k P own x rest → Uncovered own x rest
+  pub uncover : (own rest : List Token) (x : A) → Preceded k P own x rest → Uncovered own x rest
   uncover own rest x t = record {
     token = t.one;
     inner = t.back;
@@ -151,41 +151,41 @@ module _ {A : Type 0} (k : TokenKind) (P : Phrase A) where
 
 module _ {A : Type 0} (P : Phrase A) (k : TokenKind) where
   -- the part, and behind it the token
-  pub found_before : (ts between rest : List Token) (n : Token) (x : A) → Found P ts x between → between ≡ n ∷ rest → Is n k →
-      Found (Before P k) ts x rest
-  found_before ts between rest n x f e i = found_then (λ said token. said) P (One k) ts between rest x n x f
+  pub found_before : (ts between rest : List Token) (n : Token) (x : A) → Parses P ts x between → between ≡ n ∷ rest → IsOfKind n k →
+      Parses (Followed P k) ts x rest
+  found_before ts between rest n x f e i = found_then (λ said token. said) P (OneToken k) ts between rest x n x f
       (found_one k between rest n e i) refl
 
   -- the part is found, and the token behind it is lost
-  pub lost_unclosed : Firm P → (ts between rest : List Token) (x : A) → Found P ts x between → Lost (One k) between rest →
-      Lost (Before P k) ts rest
-  lost_unclosed firm ts between rest x f l = lost_second (λ said token. said) P (One k) firm ts between rest x f l
+  pub lost_unclosed : Firm P → (ts between rest : List Token) (x : A) → Parses P ts x between → Fails (OneToken k) between rest →
+      Fails (Followed P k) ts rest
+  lost_unclosed firm ts between rest x f l = lost_second (λ said token. said) P (OneToken k) firm ts between rest x f l
 
   -- the part is lost before the token
-  pub lost_within : (ts rest : List Token) → Lost P ts rest → Lost (Before P k) ts rest
-  lost_within ts rest l = lost_first (λ said token. said) P (One k) ts rest l
+  pub lost_within : (ts rest : List Token) → Fails P ts rest → Fails (Followed P k) ts rest
+  lost_within ts rest l = lost_first (λ said token. said) P (OneToken k) ts rest l
 
-  pub firm_before : Firm P → Firm (Before P k)
-  firm_before firm = firm_then (λ said token. said) P (One k) firm (firm_one k)
+  pub firm_before : Firm P → Firm (Followed P k)
+  firm_before firm = firm_then (λ said token. said) P (OneToken k) firm (firm_one k)
 
 module _ (text : List ℕ) where
-  pub found_name : (ts rest : List Token) (n : Token) (x : Placed) → ts ≡ n ∷ rest → Is n Identifier → x ≡ placed text n →
-      Found (Name text) ts x rest
+  pub found_name : (ts rest : List Token) (n : Token) (x : Placed) → ts ≡ n ∷ rest → IsOfKind n Identifier → x ≡ located_name text n →
+      Parses (OneName text) ts x rest
   found_name ts rest n x e i h = record { front = n ∷ []; joined = e; whole = record { token = n; joined = refl; is = i; same = h } }
 
   -- where the identifier is lost, so is the name
-  pub lost_name : (ts rest : List Token) → Lost (One Identifier) ts rest → Lost (Name text) ts rest
+  pub lost_name : (ts rest : List Token) → Fails (OneToken Identifier) ts rest → Fails (OneName text) ts rest
   lost_name ts rest l = record {
     front = l.front;
     joined = l.joined;
     never = λ more own behind said st e p. l.never more own behind p.token st e (record { joined = p.joined; is = p.is });
   }
 
-  pub firm_name : Firm (Name text)
+  pub firm_name : Firm (OneName text)
   firm_name a b r more q x y p st o e =
       let h = same_token a b more q p.token o.token p.joined o.joined e in
       record {
         tokens = (let i = p.joined in let j = o.joined in let l = head_same h in cc);
-        said = p.same ∙ ap (placed text) (head_same h) ∙ sym o.same;
+        said = p.same ∙ ap (located_name text) (head_same h) ∙ sym o.same;
         rest = tail_same h;
       }

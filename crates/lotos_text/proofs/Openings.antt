@@ -1,9 +1,9 @@
 -- What a token is, from what it begins.
 use Rattle.std.proofs.Common.{◌≡◌, refl, subst}
-use Rattle.lotos_text.specs.Grammar.{Is}
-use Rattle.lotos_text.specs.Opens.{opening}
-use Rattle.lotos_text.specs.declared.expression.Opening.{Opening}
-use Rattle.lotos_text.specs.declared.expression.Opening.TheVariants as o
+use Rattle.lotos_text.specs.Grammar.{IsOfKind}
+use Rattle.lotos_text.specs.OperandStarts.{operand_start}
+use Rattle.lotos_text.specs.declared.behaviour_parser.OperandStart.{OperandStart}
+use Rattle.lotos_text.specs.declared.behaviour_parser.OperandStart.TheVariants as o
 use Rattle.lotos_text.specs.declared.token.Sign.TheVariants as s
 use Rattle.lotos_text.specs.declared.token.Token.{Token}
 use Rattle.lotos_text.specs.declared.token.TokenKind.{TokenKind}
@@ -11,7 +11,7 @@ use Rattle.lotos_text.specs.declared.token.TokenKind.TheVariants.{Identifier, Re
 use Rattle.lotos_text.specs.declared.token.Word.TheVariants as w
 
 -- only a token of this kind begins that
-abbrev Means : TokenKind → Opening → Type 0
+abbrev Means : TokenKind → OperandStart → Type 0
 Means k o.Stop = k ≡ Reserved w.StopWord
 Means k o.Exit = k ≡ Reserved w.ExitWord
 Means k o.Internal = k ≡ Reserved w.IWord
@@ -19,7 +19,7 @@ Means k o.Name = k ≡ Identifier
 Means k o.Parenthesis = k ≡ Sign s.LeftParenthesis
 Means k o.Nothing = Unit {0}
 
-means : (k : TokenKind) → Means k (opening k)
+means : (k : TokenKind) → Means k (operand_start k)
 means Identifier = refl
 means (Reserved w.StopWord) = refl
 means (Reserved w.ExitWord) = refl
@@ -28,11 +28,11 @@ means (Reserved _) = tt
 means (Sign s.LeftParenthesis) = refl
 means (Sign _) = tt
 
-pub is_stop : (n : Token) → opening n.kind ≡ o.Stop → Is n (Reserved w.StopWord)
+pub is_stop : (n : Token) → operand_start n.kind ≡ o.Stop → IsOfKind n (Reserved w.StopWord)
 is_stop n e = record { same = subst (λ x. Means n.kind x) e (means n.kind) }
 
-pub is_exit : (n : Token) → opening n.kind ≡ o.Exit → Is n (Reserved w.ExitWord)
+pub is_exit : (n : Token) → operand_start n.kind ≡ o.Exit → IsOfKind n (Reserved w.ExitWord)
 is_exit n e = record { same = subst (λ x. Means n.kind x) e (means n.kind) }
 
-pub is_internal : (n : Token) → opening n.kind ≡ o.Internal → Is n (Reserved w.IWord)
+pub is_internal : (n : Token) → operand_start n.kind ≡ o.Internal → IsOfKind n (Reserved w.IWord)
 is_internal n e = record { same = subst (λ x. Means n.kind x) e (means n.kind) }

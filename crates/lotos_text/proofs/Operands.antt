@@ -1,17 +1,17 @@
 -- Spellings of the tightest level, and hide forms, taken apart by their first token.
 use Rattle.std.proofs.Common.{◌≡◌, ℕ, ◌+◌, ◌<◌, Bool, true, false, List, [], ◌∷◌, ◌++◌, ◌⊎◌, inl, inr, refl, sym, ◌∙◌, ap, append_assoc, arith}
-use Rattle.lotos_text.specs.Tree as t
-use Rattle.lotos_text.specs.Tree.{Tree}
-use Rattle.lotos_text.specs.Grammar.{Is, placed, Names, GateList, no_gates, gates, Acts, gate, internal, Level, enabling, prefixing, Spells, stop, exit, parentheses, call, prefix, tighter, operation, hide}
+use Rattle.lotos_text.specs.AstView as t
+use Rattle.lotos_text.specs.AstView.{BehaviourView}
+use Rattle.lotos_text.specs.Grammar.{IsOfKind, located_name, Names, GateList, no_gates, gates, IsAction, gate, internal, Level, enabling, prefixing, Spells, stop, exit, parentheses, call, prefix, tighter, operation, hide}
 use Rattle.lotos_text.specs.Follow.{rank, bound}
-use Rattle.lotos_text.specs.Parsing.{NotFirst}
+use Rattle.lotos_text.specs.ParserContracts.{DoesNotStartWith}
 use Rattle.lotos_text.specs.declared.token.Token.{Token}
 use Rattle.lotos_text.specs.declared.token.TokenKind.TheVariants.{Identifier, Reserved, Sign}
 use Rattle.lotos_text.specs.declared.token.Word.TheVariants as w
 use Rattle.lotos_text.specs.declared.token.Sign.TheVariants as s
-use Rattle.lotos_text.specs.declared.tree.Action.{Action}
-use Rattle.lotos_text.specs.declared.tree.Action.TheVariants.{Internal, Gate}
-use Rattle.lotos_text.specs.declared.tree.Placed.{Placed}
+use Rattle.lotos_text.specs.declared.ast.Action.{Action}
+use Rattle.lotos_text.specs.declared.ast.Action.TheVariants.{Internal, Gate}
+use Rattle.lotos_text.specs.declared.ast.Placed.{Placed}
 use Rattle.lotos_text.proofs.FirstToken.{head_same, tail_same, apart}
 use Rattle.lotos_text.proofs.Levels.{rank_is}
 
@@ -21,12 +21,12 @@ below_calls true ts h = omega (arith, h)
 below_calls false ts h = h
 
 -- what ranks below a bracket does not begin with one
-pub not_bracket : (ts : List Token) → rank ts < 5 → NotFirst (Sign s.LeftBracket) ts
+pub not_bracket : (ts : List Token) → rank ts < 5 → DoesNotStartWith (Sign s.LeftBracket) ts
 not_bracket [] h = tt
 not_bracket (n ∷ ts) h = λ i. let e = rank_is ts i in omega (arith, e, h)
 
 -- one token alone, which spells the tree
-pub record Leaf (n : Token) (z : Tree) (o : Bool) (m : ℕ) (own : List Token) (x : Tree) : Type 0 where
+pub record Leaf (n : Token) (z : BehaviourView) (o : Bool) (m : ℕ) (own : List Token) (x : BehaviourView) : Type 0 where
   pub tokens : own ≡ n ∷ []
   pub shut : o ≡ false
   pub nesting : m ≡ 0
@@ -34,7 +34,7 @@ pub record Leaf (n : Token) (z : Tree) (o : Bool) (m : ℕ) (own : List Token) (
 
 module _ (text : List ℕ) where
   -- a behaviour expression in parentheses, the first of which is the token
-  pub record Parenthesized (n : Token) (o : Bool) (m : ℕ) (own : List Token) (x : Tree) (behind ts : List Token) : Type 0 where
+  pub record Parenthesized (n : Token) (o : Bool) (m : ℕ) (own : List Token) (x : BehaviourView) (behind ts : List Token) : Type 0 where
     pub inner : List Token
     pub right : Token
     pub within : Bool
@@ -43,55 +43,55 @@ module _ (text : List ℕ) where
     pub shut : o ≡ false
     pub nesting : m ≡ depth + 1
     pub spells : Spells text enabling within depth inner x
-    pub closes : Is right (Sign s.RightParenthesis)
+    pub closes : IsOfKind right (Sign s.RightParenthesis)
     pub rest : inner ++ right ∷ behind ≡ ts
 
   -- a call, whose name is the token
-  pub record Called (n : Token) (o : Bool) (m : ℕ) (own : List Token) (x : Tree) (behind ts : List Token) : Type 0 where
+  pub record Called (n : Token) (o : Bool) (m : ℕ) (own : List Token) (x : BehaviourView) (behind ts : List Token) : Type 0 where
     pub listed : List Token
     pub names : List Placed
     pub tokens : own ≡ n ∷ listed
     pub shut : o ≡ false
     pub nesting : m ≡ 0
-    pub tree : x ≡ t.call (placed text n) names
+    pub tree : x ≡ t.call (located_name text n) names
     pub gates : GateList text listed names
     pub rest : listed ++ behind ≡ ts
 
   -- a prefix, whose action is the token
-  pub record Prefixed (n : Token) (act : Action) (o : Bool) (m : ℕ) (own : List Token) (x : Tree)
+  pub record Prefixed (n : Token) (act : Action) (o : Bool) (m : ℕ) (own : List Token) (x : BehaviourView)
       (behind ts : List Token) : Type 0 where
     pub semicolon : Token
     pub body : List Token
     pub depth : ℕ
-    pub after : Tree
+    pub after : BehaviourView
     pub tokens : own ≡ n ∷ semicolon ∷ body
     pub nesting : m ≡ depth + 1
     pub tree : x ≡ t.prefix act after
-    pub separates : Is semicolon (Sign s.Semicolon)
+    pub separates : IsOfKind semicolon (Sign s.Semicolon)
     pub spells : Spells text prefixing o depth body after
     pub rest : semicolon ∷ body ++ behind ≡ ts
 
   -- a hide form, whose word is the token
-  pub record Hidden (n : Token) (o : Bool) (m : ℕ) (own : List Token) (x : Tree) (behind ts : List Token) : Type 0 where
+  pub record Hidden (n : Token) (o : Bool) (m : ℕ) (own : List Token) (x : BehaviourView) (behind ts : List Token) : Type 0 where
     pub listed : List Token
     pub names : List Placed
     pub word : Token
     pub body : List Token
     pub within : Bool
     pub depth : ℕ
-    pub after : Tree
+    pub after : BehaviourView
     pub tokens : own ≡ n ∷ listed ++ word ∷ body
     pub extends : o ≡ true
     pub nesting : m ≡ depth + 1
     pub tree : x ≡ t.hide names after
     pub gates : Names text listed names
-    pub enters : Is word (Reserved w.InWord)
+    pub enters : IsOfKind word (Reserved w.InWord)
     pub spells : Spells text enabling within depth body after
     pub rest : listed ++ word ∷ (body ++ behind) ≡ ts
 
   -- what begins with `stop` is that word
-  pub taken_stop : {n : Token} {o : Bool} {m : ℕ} {own : List Token} {x : Tree} (behind ts : List Token) →
-      Is n (Reserved w.StopWord) →
+  pub taken_stop : {n : Token} {o : Bool} {m : ℕ} {own : List Token} {x : BehaviourView} (behind ts : List Token) →
+      IsOfKind n (Reserved w.StopWord) →
       Spells text prefixing o m own x → own ++ behind ≡ n ∷ ts → Leaf n t.stop o m own x
   taken_stop behind ts i (stop j) e = record { tokens = ap (λ m. m ∷ []) (head_same e); shut = refl; nesting = refl; tree = refl }
   taken_stop behind ts i (exit j) e = absurd (apart j i (head_same e) (λ e. cc))
@@ -104,8 +104,8 @@ module _ (text : List ℕ) where
   taken_stop behind ts i (operation b d j f) e = elim b [ ]
 
   -- what begins with `exit` is that word
-  pub taken_exit : {n : Token} {o : Bool} {m : ℕ} {own : List Token} {x : Tree} (behind ts : List Token) →
-      Is n (Reserved w.ExitWord) →
+  pub taken_exit : {n : Token} {o : Bool} {m : ℕ} {own : List Token} {x : BehaviourView} (behind ts : List Token) →
+      IsOfKind n (Reserved w.ExitWord) →
       Spells text prefixing o m own x → own ++ behind ≡ n ∷ ts → Leaf n t.exit o m own x
   taken_exit behind ts i (stop j) e = absurd (apart j i (head_same e) (λ e. cc))
   taken_exit behind ts i (exit j) e = record { tokens = ap (λ m. m ∷ []) (head_same e); shut = refl; nesting = refl; tree = refl }
@@ -118,8 +118,8 @@ module _ (text : List ℕ) where
   taken_exit behind ts i (operation b d j f) e = elim b [ ]
 
   -- what begins with a left parenthesis is in parentheses
-  pub taken_parentheses : {n : Token} {o : Bool} {m : ℕ} {own : List Token} {x : Tree} (behind ts : List Token) →
-      Is n (Sign s.LeftParenthesis) →
+  pub taken_parentheses : {n : Token} {o : Bool} {m : ℕ} {own : List Token} {x : BehaviourView} (behind ts : List Token) →
+      IsOfKind n (Sign s.LeftParenthesis) →
       Spells text prefixing o m own x → own ++ behind ≡ n ∷ ts → Parenthesized n o m own x behind ts
   taken_parentheses behind ts i (stop j) e = absurd (apart j i (head_same e) (λ e. cc))
   taken_parentheses behind ts i (exit j) e = absurd (apart j i (head_same e) (λ e. cc))
@@ -143,8 +143,8 @@ module _ (text : List ℕ) where
   taken_parentheses behind ts i (operation b d j f) e = elim b [ ]
 
   -- what begins with `i` is a prefix of the internal action
-  pub taken_internal : {n : Token} {o : Bool} {m : ℕ} {own : List Token} {x : Tree} (behind ts : List Token) →
-      Is n (Reserved w.IWord) →
+  pub taken_internal : {n : Token} {o : Bool} {m : ℕ} {own : List Token} {x : BehaviourView} (behind ts : List Token) →
+      IsOfKind n (Reserved w.IWord) →
       Spells text prefixing o m own x → own ++ behind ≡ n ∷ ts → Prefixed n Internal o m own x behind ts
   taken_internal behind ts i (stop j) e = absurd (apart j i (head_same e) (λ e. cc))
   taken_internal behind ts i (exit j) e = absurd (apart j i (head_same e) (λ e. cc))
@@ -168,9 +168,9 @@ module _ (text : List ℕ) where
   taken_internal behind ts i (operation b d j f) e = elim b [ ]
 
   -- what begins with an identifier is a call, or a prefix of that gate
-  pub taken_name : {n : Token} {o : Bool} {m : ℕ} {own : List Token} {x : Tree} (behind ts : List Token) → Is n (Identifier) →
+  pub taken_name : {n : Token} {o : Bool} {m : ℕ} {own : List Token} {x : BehaviourView} (behind ts : List Token) → IsOfKind n (Identifier) →
       Spells text prefixing o m own x →
-      own ++ behind ≡ n ∷ ts → Called n o m own x behind ts ⊎ Prefixed n (Gate (placed text n)) o m own x behind ts
+      own ++ behind ≡ n ∷ ts → Called n o m own x behind ts ⊎ Prefixed n (Gate (located_name text n)) o m own x behind ts
   taken_name behind ts i (stop j) e = absurd (apart j i (head_same e) (λ e. cc))
   taken_name behind ts i (exit j) e = absurd (apart j i (head_same e) (λ e. cc))
   taken_name behind ts i (parentheses j d k) e = absurd (apart j i (head_same e) (λ e. cc))
@@ -180,7 +180,7 @@ module _ (text : List ℕ) where
     tokens = ap (λ m. m ∷ listed) (head_same e);
     shut = refl;
     nesting = refl;
-    tree = ap (λ m. t.call (placed text m) names) (head_same e);
+    tree = ap (λ m. t.call (located_name text m) names) (head_same e);
     gates = g;
     rest = tail_same e;
   })
@@ -191,7 +191,7 @@ module _ (text : List ℕ) where
     after = after;
     tokens = ap (λ m. m ∷ semicolon ∷ body) (head_same e);
     nesting = refl;
-    tree = ap (λ m. t.prefix (Gate (placed text m)) after) (head_same e);
+    tree = ap (λ m. t.prefix (Gate (located_name text m)) after) (head_same e);
     separates = k;
     spells = d;
     rest = tail_same e;
@@ -203,27 +203,27 @@ module _ (text : List ℕ) where
 
   -- where a gate list begins with a semicolon, it is empty, and what follows goes on
   pub not_listed : {listed : List Token} {names : List Placed} {n : Token} (behind ts : List Token) → GateList text listed names →
-      listed ++ behind ≡ n ∷ ts → Is n (Sign s.Semicolon) → rank behind < 5 → ⊥
+      listed ++ behind ≡ n ∷ ts → IsOfKind n (Sign s.Semicolon) → rank behind < 5 → ⊥
   not_listed behind ts no_gates e i h = let f = ap rank e ∙ rank_is ts i in omega (arith, f, h)
   not_listed behind ts (gates j d k) e i h = apart j i (head_same e) (λ e. cc)
 
   -- what begins with an action and a semicolon is a prefix of it
-  pub taken_prefix : {n semicolon : Token} {act : Action} {o : Bool} {m : ℕ} {own : List Token} {x : Tree}
+  pub taken_prefix : {n semicolon : Token} {act : Action} {o : Bool} {m : ℕ} {own : List Token} {x : BehaviourView}
       (behind ts : List Token) →
-      Acts text n act → Is semicolon (Sign s.Semicolon) → Spells text prefixing o m own x →
+      IsAction text n act → IsOfKind semicolon (Sign s.Semicolon) → Spells text prefixing o m own x →
       own ++ behind ≡ n ∷ semicolon ∷ ts → rank behind < bound prefixing o → Prefixed n act o m own x behind (semicolon ∷ ts)
   taken_prefix {semicolon = semicolon} behind ts (internal i) j d e h = taken_internal behind (semicolon ∷ ts) i d e
   taken_prefix {n} {semicolon} {o = o} {m = m} {own = own} {x = x} behind ts (gate i) j d e h =
       only (taken_name behind (semicolon ∷ ts) i d e)
     where
-      only : Called n o m own x behind (semicolon ∷ ts) ⊎ Prefixed n (Gate (placed text n)) o m own x behind (semicolon ∷ ts) →
-          Prefixed n (Gate (placed text n)) o m own x behind (semicolon ∷ ts)
+      only : Called n o m own x behind (semicolon ∷ ts) ⊎ Prefixed n (Gate (located_name text n)) o m own x behind (semicolon ∷ ts) →
+          Prefixed n (Gate (located_name text n)) o m own x behind (semicolon ∷ ts)
       only (inl c) = absurd (not_listed behind ts c.gates c.rest j (below_calls o behind h))
       only (inr p) = p
 
   -- what begins with `hide`, at any level, is a hide form
-  pub taken_hide : {n : Token} {l : Level} {o : Bool} {m : ℕ} {own : List Token} {x : Tree} (behind ts : List Token) →
-      Is n (Reserved w.HideWord) →
+  pub taken_hide : {n : Token} {l : Level} {o : Bool} {m : ℕ} {own : List Token} {x : BehaviourView} (behind ts : List Token) →
+      IsOfKind n (Reserved w.HideWord) →
       Spells text l o m own x → own ++ behind ≡ n ∷ ts → Hidden n o m own x behind ts
   taken_hide behind ts i (stop j) e = absurd (apart j i (head_same e) (λ e. cc))
   taken_hide behind ts i (exit j) e = absurd (apart j i (head_same e) (λ e. cc))

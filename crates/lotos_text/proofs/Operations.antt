@@ -1,23 +1,23 @@
 -- Operations of a level: what is found and lost in a left operand, an operator and a right operand.
 use Rattle.std.proofs.Common.{◌≡◌, ℕ, ◌+◌, ◌-◌, ◌<◌, ◌≤◌, max, Bool, true, false, List, [], ◌∷◌, ◌++◌, Some, None, refl, sym, ◌∙◌, ap, append_assoc, arith, subst}
-use Rattle.lotos_text.specs.Tree.{Tree}
-use Rattle.lotos_text.specs.Grammar.{Level, enabling, disabling, parallel, choosing, prefixing, BindsTighter, tighter_than_enabling, tighter_than_disabling, tighter_than_parallel, tighter_than_choosing, Operator, join, Operates, enable_sign, disable_sign, interleave_sign, full_sign, sync_on_none, sync_on, choice_sign, Spells, tighter, operation}
+use Rattle.lotos_text.specs.AstView.{BehaviourView}
+use Rattle.lotos_text.specs.Grammar.{Level, enabling, disabling, parallel, choosing, prefixing, BindsTighter, tighter_than_enabling, tighter_than_disabling, tighter_than_parallel, tighter_than_choosing, Operator, apply, IsOperator, enable_sign, disable_sign, interleave_sign, full_sign, sync_on_none, sync_on, choice_sign, Spells, tighter, operation}
 use Rattle.lotos_text.specs.Follow.{rank, level_rank, bound}
-use Rattle.lotos_text.specs.Kinds.{opens, openings}
-use Rattle.lotos_text.specs.Opens.{mark, mark_level}
-use Rattle.lotos_text.specs.Parsing.{Phrase, Limit, Within, Found, Starts, Lost, Deeper}
-use Rattle.lotos_text.specs.Phrases.{Then, Operation, Expression}
+use Rattle.lotos_text.specs.ConstructOpenings.{opens_construct, count_openings}
+use Rattle.lotos_text.specs.OperandStarts.{infix_of, infix_level}
+use Rattle.lotos_text.specs.ParserContracts.{Phrase, NestingLimit, IsNestingWithin, Parses, StartsAlike, Fails, IsTooDeepAt}
+use Rattle.lotos_text.specs.Phrases.{Sequence, OneOperator, BehaviourPhrase}
 use Rattle.lotos_text.specs.declared.operators.Infix.{Infix}
 use Rattle.lotos_text.specs.declared.operators.Infix.TheVariants as i
 use Rattle.lotos_text.specs.declared.token.Token.{Token}
-use Rattle.lotos_text.proofs.Firmness.{firm_operation}
+use Rattle.lotos_text.proofs.PhraseUniqueness.{firm_operation}
 use Rattle.lotos_text.proofs.FirstToken.{starts_rank, starts_behind}
 use Rattle.lotos_text.proofs.Levels.{bound_below, bound_most, rank_is, operator_rank, operator_below, Levelled, alone, operated, taken_level}
 use Rattle.lotos_text.proofs.Limits.{inside, within_inside, within_less, opens_is, opens_among, crowded_here}
-use Rattle.lotos_text.proofs.Sequence.{lost_first, lost_second}
-use Rattle.lotos_text.proofs.Stops.{Carries}
+use Rattle.lotos_text.proofs.Sequences.{lost_first, lost_second}
+use Rattle.lotos_text.proofs.ParseErrors.{Carries}
 use Rattle.lotos_text.proofs.SyncLists.{is_mark}
-use Rattle.lotos_text.proofs.Unique.{unique, join_assoc}
+use Rattle.lotos_text.proofs.GrammarUnique.{unique, join_assoc}
 
 -- the next tighter level ranks one higher
 pub next_rank : {l m : Level} → BindsTighter l m → level_rank m ≡ level_rank l + 1
@@ -43,7 +43,7 @@ quits_looser false ts b without h = let e = next_rank b in smaller _ _ _ e witho
     smaller n k j e without h = omega (arith, e, without, h)
 
 -- a token that is a mark ranks as its level's operators, and opens a construct
-mark_opens : (n : Token) (m : Infix) → mark n.kind ≡ Some m → opens n.kind ≡ true
+mark_opens : (n : Token) (m : Infix) → infix_of n.kind ≡ Some m → opens_construct n.kind ≡ true
 mark_opens n i.Enable e = opens_is (is_mark n i.Enable e) refl
 mark_opens n i.Disable e = opens_is (is_mark n i.Disable e) refl
 mark_opens n i.Interleave e = opens_is (is_mark n i.Interleave e) refl
@@ -51,7 +51,7 @@ mark_opens n i.Full e = opens_is (is_mark n i.Full e) refl
 mark_opens n i.Sync e = opens_is (is_mark n i.Sync e) refl
 mark_opens n i.Choice e = opens_is (is_mark n i.Choice e) refl
 
-mark_rank : (n : Token) (m : Infix) (ts : List Token) → mark n.kind ≡ Some m → rank (n ∷ ts) ≡ level_rank (mark_level m)
+mark_rank : (n : Token) (m : Infix) (ts : List Token) → infix_of n.kind ≡ Some m → rank (n ∷ ts) ≡ level_rank (infix_level m)
 mark_rank n i.Enable ts e = rank_is ts (is_mark n i.Enable e)
 mark_rank n i.Disable ts e = rank_is ts (is_mark n i.Disable e)
 mark_rank n i.Interleave ts e = rank_is ts (is_mark n i.Interleave e)
@@ -60,8 +60,8 @@ mark_rank n i.Sync ts e = rank_is ts (is_mark n i.Sync e)
 mark_rank n i.Choice ts e = rank_is ts (is_mark n i.Choice e)
 
 -- the tokens from a mark on rank as its level's operators
-pub marked : {l : Level} (between after : List Token) (n : Token) (m : Infix) → between ≡ n ∷ after → mark n.kind ≡ Some m →
-    mark_level m ≡ l → rank between ≡ level_rank l
+pub marked : {l : Level} (between after : List Token) (n : Token) (m : Infix) → between ≡ n ∷ after → infix_of n.kind ≡ Some m →
+    infix_level m ≡ l → rank between ≡ level_rank l
 marked between after n m e i j = ap rank e ∙ mark_rank n m after i ∙ ap level_rank j
 
 -- behind what an operator follows nothing is open
@@ -74,17 +74,17 @@ shut choosing m true ts e h = absurd (omega (arith, e, h))
 shut prefixing m true ts e h = absurd (omega (arith, e, h))
 
 -- a left operand is nested no deeper than the whole, a right one less deep
-left_within : (limit : Limit) (nl nr : ℕ) → Within limit (max nl (nr + 1)) → Within limit nl
+left_within : (limit : NestingLimit) (nl nr : ℕ) → IsNestingWithin limit (max nl (nr + 1)) → IsNestingWithin limit nl
 left_within limit nl nr h = within_less limit nl (max nl (nr + 1)) (omega arith) h
 
-right_within : (limit : Limit) (nl nr : ℕ) → Within limit (max nl (nr + 1)) → Within (inside limit) nr
+right_within : (limit : NestingLimit) (nl nr : ℕ) → IsNestingWithin limit (max nl (nr + 1)) → IsNestingWithin (inside limit) nr
 right_within limit nl nr h = within_inside limit nr (nr + 1) refl (within_less limit (nr + 1) (max nl (nr + 1)) (omega arith) h)
 
 module _ (text : List ℕ) where
   -- the left operand alone, with which no operator of the level goes on
-  pub found_alone : {l m : Level} (room : ℕ) (ts rest : List Token) (x : Tree) → BindsTighter l m →
-      Found (Expression text m (Some room)) ts x rest → (rank rest ≡ level_rank l → l ≡ prefixing) →
-      Found (Expression text l (Some room)) ts x rest
+  pub found_alone : {l m : Level} (room : ℕ) (ts rest : List Token) (x : BehaviourView) → BindsTighter l m →
+      Parses (BehaviourPhrase text m (Some room)) ts x rest → (rank rest ≡ level_rank l → l ≡ prefixing) →
+      Parses (BehaviourPhrase text l (Some room)) ts x rest
   found_alone room ts rest x b f without = record {
     front = f.front;
     joined = f.joined;
@@ -98,10 +98,10 @@ module _ (text : List ℕ) where
   }
 
   -- a left operand, an operator and a right operand
-  pub found_operation : {l m : Level} (room : ℕ) (ts between after rest : List Token) (how : Operator) (x y z : Tree) → 0 < room →
-      BindsTighter l m → Found (Expression text m (Some room)) ts x between → Found (Operation text l) between how after →
-      Found (Expression text l (Some (room - 1))) after y rest → z ≡ join how x y →
-      Found (Expression text l (Some room)) ts z rest
+  pub found_operation : {l m : Level} (room : ℕ) (ts between after rest : List Token) (how : Operator) (x y z : BehaviourView) → 0 < room →
+      BindsTighter l m → Parses (BehaviourPhrase text m (Some room)) ts x between → Parses (OneOperator text l) between how after →
+      Parses (BehaviourPhrase text l (Some (room - 1))) after y rest → z ≡ apply how x y →
+      Parses (BehaviourPhrase text l (Some room)) ts z rest
   found_operation {l} {m} room ts between after rest how x y z h b f o g e =
       let ranks : rank between ≡ level_rank l = ap rank o.joined ∙ operator_rank text after o.whole.operates in
       let left : Spells text m false f.whole.nesting f.front x =
@@ -124,9 +124,9 @@ module _ (text : List ℕ) where
 
   -- the left operand
 
-  never_left : {l m : Level} (limit : Limit) (ts own behind : List Token) (ends : Bool) (nesting : ℕ) (x : Tree) → BindsTighter l m →
-      ((a r : List Token) (y : Tree) → ts ≡ a ++ r → Expression text m limit a y r → ⊥) →
-      ts ≡ own ++ behind → Levelled text l m ends nesting own x → rank behind < bound l ends → Within limit nesting → ⊥
+  never_left : {l m : Level} (limit : NestingLimit) (ts own behind : List Token) (ends : Bool) (nesting : ℕ) (x : BehaviourView) → BindsTighter l m →
+      ((a r : List Token) (y : BehaviourView) → ts ≡ a ++ r → BehaviourPhrase text m limit a y r → ⊥) →
+      ts ≡ own ++ behind → Levelled text l m ends nesting own x → rank behind < bound l ends → IsNestingWithin limit nesting → ⊥
   never_left limit ts own behind ends nesting x b h e (alone d) q u = h own behind x e
       (record {
         ends = ends;
@@ -145,8 +145,8 @@ module _ (text : List ℕ) where
         within = left_within limit nl nr u;
       })
 
-  lost_left : {l m : Level} (limit : Limit) (ts rest : List Token) → BindsTighter l m → Lost (Expression text m limit) ts rest →
-      Lost (Expression text l limit) ts rest
+  lost_left : {l m : Level} (limit : NestingLimit) (ts rest : List Token) → BindsTighter l m → Fails (BehaviourPhrase text m limit) ts rest →
+      Fails (BehaviourPhrase text l limit) ts rest
   lost_left limit ts rest b l = record {
     front = l.front;
     joined = l.joined;
@@ -157,7 +157,7 @@ module _ (text : List ℕ) where
 
   -- where the left operand is lost, so is the whole
   pub carries_left : {l m : Level} (room : ℕ) (ts : List Token) → BindsTighter l m →
-      Carries (Expression text m) room ts (Expression text l) room ts
+      Carries (BehaviourPhrase text m) room ts (BehaviourPhrase text l) room ts
   carries_left room ts b = record {
     free = λ rest. lost_left None ts rest b;
     limited = λ rest. lost_left (Some room) ts rest b;
@@ -168,17 +168,17 @@ module _ (text : List ℕ) where
 
   -- behind the left operand
 
-  abbrev paired : Operator → Tree → Operator × Tree
+  abbrev paired : Operator → BehaviourView → Operator × BehaviourView
   paired how y = (how, y)
 
   -- the operator and the right operand
-  abbrev Behind : Level → Limit → Phrase (Operator × Tree)
-  Behind l limit = Then paired (Operation text l) (Expression text l limit)
+  abbrev Behind : Level → NestingLimit → Phrase (Operator × BehaviourView)
+  Behind l limit = Sequence paired (OneOperator text l) (BehaviourPhrase text l limit)
 
-  never_behind : {l m : Level} (limit : Limit) (front more own behind : List Token) (o ends : Bool) (n nesting : ℕ) (x z : Tree) →
+  never_behind : {l m : Level} (limit : NestingLimit) (front more own behind : List Token) (o ends : Bool) (n nesting : ℕ) (x z : BehaviourView) →
       BindsTighter l m → Spells text m o n front x → rank more ≡ level_rank l → rank more < bound m o →
-      ((a r : List Token) (said : Operator × Tree) → more ≡ a ++ r → Behind l (inside limit) a said r → ⊥) →
-      front ++ more ≡ own ++ behind → Levelled text l m ends nesting own z → rank behind < bound l ends → Within limit nesting → ⊥
+      ((a r : List Token) (said : Operator × BehaviourView) → more ≡ a ++ r → Behind l (inside limit) a said r → ⊥) →
+      front ++ more ≡ own ++ behind → Levelled text l m ends nesting own z → rank behind < bound l ends → IsNestingWithin limit nesting → ⊥
   never_behind {l = l} limit front more own behind o ends n nesting x z b c ranks quits none e (alone d) q u =
       let h = unique text more behind c d e quits (let g = bound_below ends b in omega (arith, g, q)) in
       let g = ap rank h.rest in
@@ -200,15 +200,15 @@ module _ (text : List ℕ) where
       })
 
   -- where an operator of the level goes on, and it or its right operand is lost, so is the whole
-  lost_behind : {l m : Level} (limit within : Limit) (ts between rest : List Token) (x : Tree) → BindsTighter l m →
-      Found (Expression text m within) ts x between → rank between ≡ level_rank l → Lost (Behind l (inside limit)) between rest →
-      Lost (Expression text l limit) ts rest
+  lost_behind : {l m : Level} (limit within : NestingLimit) (ts between rest : List Token) (x : BehaviourView) → BindsTighter l m →
+      Parses (BehaviourPhrase text m within) ts x between → rank between ≡ level_rank l → Fails (Behind l (inside limit)) between rest →
+      Fails (BehaviourPhrase text l limit) ts rest
   lost_behind limit within ts between rest x b f ranks l = record {
     front = f.front ++ l.front;
     joined = f.joined ∙ ap (λ m. f.front ++ m) l.joined ∙ sym (append_assoc f.front l.front rest);
     never = λ more own behind z st e p.
-        let alike : Starts between (l.front ++ more) =
-        subst (λ m. Starts m (l.front ++ more)) (sym l.joined) (starts_behind l.front rest more st) in
+        let alike : StartsAlike between (l.front ++ more) =
+        subst (λ m. StartsAlike m (l.front ++ more)) (sym l.joined) (starts_behind l.front rest more st) in
         let same = starts_rank between (l.front ++ more) alike in
         never_behind limit f.front (l.front ++ more) own behind f.whole.ends p.ends f.whole.nesting p.nesting x z b f.whole.spells
         (same ∙ ranks) (let q = f.whole.quits in omega (arith, same, q)) (λ a r said e d. l.never more a r said st e d)
@@ -217,34 +217,34 @@ module _ (text : List ℕ) where
 
   -- an operator of the mark's level, as one of this level before the same tokens
   pub marked_found : {l k : Level} (between others after : List Token) (how : Operator) → between ≡ others → k ≡ l →
-      Found (Operation text k) others how after → Found (Operation text l) between how after
+      Parses (OneOperator text k) others how after → Parses (OneOperator text l) between how after
   marked_found {k = k} between others after how e h f =
-      subst (λ m. Found (Operation text m) between how after) h
-      (subst (λ ts. Found (Operation text k) ts how after) (sym e) f)
+      subst (λ m. Parses (OneOperator text m) between how after) h
+      (subst (λ ts. Parses (OneOperator text k) ts how after) (sym e) f)
 
   -- the same of an operator that is lost
   pub marked_lost : {l k : Level} (between others rest : List Token) → between ≡ others → k ≡ l →
-      Lost (Operation text k) others rest → Lost (Operation text l) between rest
+      Fails (OneOperator text k) others rest → Fails (OneOperator text l) between rest
   marked_lost {k = k} between others rest e h f =
-      subst (λ m. Lost (Operation text m) between rest) h (subst (λ ts. Lost (Operation text k) ts rest) (sym e) f)
+      subst (λ m. Fails (OneOperator text m) between rest) h (subst (λ ts. Fails (OneOperator text k) ts rest) (sym e) f)
 
   -- where the operator is lost, so is the whole
-  pub lost_operator : {l m : Level} (within : Limit) (ts between rest : List Token) (x : Tree) → BindsTighter l m →
-      Found (Expression text m within) ts x between → rank between ≡ level_rank l → Lost (Operation text l) between rest →
-      Lost (Expression text l None) ts rest
+  pub lost_operator : {l m : Level} (within : NestingLimit) (ts between rest : List Token) (x : BehaviourView) → BindsTighter l m →
+      Parses (BehaviourPhrase text m within) ts x between → rank between ≡ level_rank l → Fails (OneOperator text l) between rest →
+      Fails (BehaviourPhrase text l None) ts rest
   lost_operator {l} within ts between rest x b f ranks lost =
       lost_behind None within ts between rest x b f ranks
-      (lost_first paired (Operation text l) (Expression text l None) between rest lost)
+      (lost_first paired (OneOperator text l) (BehaviourPhrase text l None) between rest lost)
 
-  lost_right : {l m : Level} (limit within : Limit) (ts between after rest : List Token) (how : Operator) (x : Tree) → BindsTighter l m →
-      Found (Expression text m within) ts x between → rank between ≡ level_rank l → Found (Operation text l) between how after →
-      Lost (Expression text l (inside limit)) after rest → Lost (Expression text l limit) ts rest
+  lost_right : {l m : Level} (limit within : NestingLimit) (ts between after rest : List Token) (how : Operator) (x : BehaviourView) → BindsTighter l m →
+      Parses (BehaviourPhrase text m within) ts x between → rank between ≡ level_rank l → Parses (OneOperator text l) between how after →
+      Fails (BehaviourPhrase text l (inside limit)) after rest → Fails (BehaviourPhrase text l limit) ts rest
   lost_right {l} limit within ts between after rest how x b f ranks o lost =
       lost_behind limit within ts between rest x b f ranks
-      (lost_second paired (Operation text l) (Expression text l (inside limit)) (firm_operation text l) between after rest how o
+      (lost_second paired (OneOperator text l) (BehaviourPhrase text l (inside limit)) (firm_operation text l) between after rest how o
       lost)
 
-  operator_opens : {l : Level} (front op : List Token) (how : Operator) → Operates text l op how → 1 ≤ openings (front ++ op)
+  operator_opens : {l : Level} (front op : List Token) (how : Operator) → IsOperator text l op how → 1 ≤ count_openings (front ++ op)
   operator_opens front _ how (enable_sign {o = o} i) = opens_among front [] o (opens_is i refl)
   operator_opens front _ how (disable_sign {o = o} i) = opens_among front [] o (opens_is i refl)
   operator_opens front _ how (interleave_sign {o = o} i) = opens_among front [] o (opens_is i refl)
@@ -256,10 +256,10 @@ module _ (text : List ℕ) where
   operator_opens front _ how (choice_sign {o = o} i) = opens_among front [] o (opens_is i refl)
 
   -- where the right operand is lost, so is the whole
-  pub carries_right : {l m : Level} (room : ℕ) (ts between after : List Token) (how : Operator) (x : Tree) → BindsTighter l m →
-      Found (Expression text m (Some room)) ts x between → rank between ≡ level_rank l →
-      Found (Operation text l) between how after →
-      Carries (Expression text l) (room - 1) after (Expression text l) room ts
+  pub carries_right : {l m : Level} (room : ℕ) (ts between after : List Token) (how : Operator) (x : BehaviourView) → BindsTighter l m →
+      Parses (BehaviourPhrase text m (Some room)) ts x between → rank between ≡ level_rank l →
+      Parses (OneOperator text l) between how after →
+      Carries (BehaviourPhrase text l) (room - 1) after (BehaviourPhrase text l) room ts
   carries_right room ts between after how x b f ranks o = record {
     free = λ rest. lost_right None (Some room) ts between after rest how x b f ranks o;
     limited = λ rest. lost_right (Some room) (Some room) ts between after rest how x b f ranks o;
@@ -269,12 +269,12 @@ module _ (text : List ℕ) where
   }
 
   -- with no room left, an operator that goes on begins nothing
-  pub deep_operation : {l m : Level} (room : ℕ) (ts between after : List Token) (n : Token) (which : Infix) (x : Tree) →
-      room ≡ 0 → BindsTighter l m → Found (Expression text m (Some room)) ts x between → between ≡ n ∷ after →
-      mark n.kind ≡ Some which → mark_level which ≡ l → Deeper (Expression text l) room ts n
+  pub deep_operation : {l m : Level} (room : ℕ) (ts between after : List Token) (n : Token) (which : Infix) (x : BehaviourView) →
+      room ≡ 0 → BindsTighter l m → Parses (BehaviourPhrase text m (Some room)) ts x between → between ≡ n ∷ after →
+      infix_of n.kind ≡ Some which → infix_level which ≡ l → IsTooDeepAt (BehaviourPhrase text l) room ts n
   deep_operation {l} room ts between after n which x h b f e i j = record {
     after = after;
-    lost = record {
+    fails = record {
       front = f.front;
       joined = f.joined ∙ ap (λ m. f.front ++ m) e;
       never = λ more own behind z st g p.
@@ -283,11 +283,11 @@ module _ (text : List ℕ) where
           (same ∙ marked between after n which e i j) (let q = f.whole.quits in omega (arith, same, q)) g
           (taken_level text b p.spells) p.quits (let k = p.within in omega (arith, h, k));
     };
-    crowded = crowded_here ts f.front after n room (f.joined ∙ ap (λ m. f.front ++ m) e) h (mark_opens n which i);
+    too_many_open = crowded_here ts f.front after n room (f.joined ∙ ap (λ m. f.front ++ m) e) h (mark_opens n which i);
     opens = mark_opens n which i;
   }
     where
-      never_deep : {l m : Level} (front more own behind : List Token) (o ends : Bool) (n nesting : ℕ) (x z : Tree) →
+      never_deep : {l m : Level} (front more own behind : List Token) (o ends : Bool) (n nesting : ℕ) (x z : BehaviourView) →
           BindsTighter l m → Spells text m o n front x → rank more ≡ level_rank l → rank more < bound m o →
           front ++ more ≡ own ++ behind → Levelled text l m ends nesting own z → rank behind < bound l ends → nesting ≤ 0 → ⊥
       never_deep {l = l} front more own behind o ends n nesting x z b c ranks quits e (alone d) q u =

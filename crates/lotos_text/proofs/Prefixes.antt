@@ -1,33 +1,33 @@
 -- Prefixes: what is found and lost behind an action.
 use Rattle.std.proofs.Common.{◌≡◌, ℕ, ◌+◌, ◌-◌, ◌<◌, List, [], ◌∷◌, ◌++◌, Some, None, refl, sym, ◌∙◌, ap, arith, subst}
-use Rattle.lotos_text.specs.Tree as t
-use Rattle.lotos_text.specs.Tree.{Tree}
-use Rattle.lotos_text.specs.Grammar.{Is, Acts, prefixing, Spells, prefix}
-use Rattle.lotos_text.specs.Parsing.{NotFirst, Limit, Found, Lost, Deeper}
-use Rattle.lotos_text.specs.Phrases.{One, Expression}
+use Rattle.lotos_text.specs.AstView as t
+use Rattle.lotos_text.specs.AstView.{BehaviourView}
+use Rattle.lotos_text.specs.Grammar.{IsOfKind, IsAction, prefixing, Spells, prefix}
+use Rattle.lotos_text.specs.ParserContracts.{DoesNotStartWith, NestingLimit, Parses, Fails, IsTooDeepAt}
+use Rattle.lotos_text.specs.Phrases.{OneToken, BehaviourPhrase}
 use Rattle.lotos_text.specs.declared.token.Sign.TheVariants as s
 use Rattle.lotos_text.specs.declared.token.Token.{Token}
 use Rattle.lotos_text.specs.declared.token.TokenKind.{TokenKind}
 use Rattle.lotos_text.specs.declared.token.TokenKind.TheVariants.{Reserved, Sign}
 use Rattle.lotos_text.specs.declared.token.Word.TheVariants as w
-use Rattle.lotos_text.specs.declared.tree.Action.{Action}
+use Rattle.lotos_text.specs.declared.ast.Action.{Action}
 use Rattle.lotos_text.proofs.FirstToken.{tail_same, starts_same}
 use Rattle.lotos_text.proofs.Limits.{inside, within_inside, opens_is, opens_among, crowded_here}
 use Rattle.lotos_text.proofs.Operands.{taken_internal, taken_prefix}
-use Rattle.lotos_text.proofs.Stops.{Carries}
+use Rattle.lotos_text.proofs.ParseErrors.{Carries}
 
 -- where a token of the kind is lost, the list does not begin with one
-pub lost_not_first : (k : TokenKind) (ts rest : List Token) → Lost (One k) ts rest → NotFirst k ts
+pub lost_not_first : (k : TokenKind) (ts rest : List Token) → Fails (OneToken k) ts rest → DoesNotStartWith k ts
 lost_not_first k [] rest l = tt
 lost_not_first k (n ∷ ts) rest l = λ i.
     l.never rest (n ∷ []) ts n (starts_same rest) (sym l.joined) (record { joined = refl; is = i })
 
 module _ (text : List ℕ) where
   -- an action, a semicolon and an operand are an operand
-  pub found_body : (room : ℕ) (n semicolon : Token) (act : Action) (ts after rest : List Token) (x z : Tree) → 0 < room →
-      Acts text n act → ts ≡ semicolon ∷ after → Is semicolon (Sign s.Semicolon) →
-      Found (Expression text prefixing (Some (room - 1))) after x rest → z ≡ t.prefix act x →
-      Found (Expression text prefixing (Some room)) (n ∷ ts) z rest
+  pub found_body : (room : ℕ) (n semicolon : Token) (act : Action) (ts after rest : List Token) (x z : BehaviourView) → 0 < room →
+      IsAction text n act → ts ≡ semicolon ∷ after → IsOfKind semicolon (Sign s.Semicolon) →
+      Parses (BehaviourPhrase text prefixing (Some (room - 1))) after x rest → z ≡ t.prefix act x →
+      Parses (BehaviourPhrase text prefixing (Some room)) (n ∷ ts) z rest
   found_body room n semicolon act ts after rest x z h i e j f g = record {
     front = n ∷ semicolon ∷ f.front;
     joined = ap (λ m. n ∷ m) (e ∙ ap (λ m. semicolon ∷ m) f.joined);
@@ -42,8 +42,8 @@ module _ (text : List ℕ) where
   }
 
   -- where the semicolon behind `i` is lost, so is the operand
-  pub lost_unseparated : (n : Token) (ts rest : List Token) → Is n (Reserved w.IWord) → Lost (One (Sign s.Semicolon)) ts rest →
-      Lost (Expression text prefixing None) (n ∷ ts) rest
+  pub lost_unseparated : (n : Token) (ts rest : List Token) → IsOfKind n (Reserved w.IWord) → Fails (OneToken (Sign s.Semicolon)) ts rest →
+      Fails (BehaviourPhrase text prefixing None) (n ∷ ts) rest
   lost_unseparated n ts rest i l = record {
     front = n ∷ l.front;
     joined = ap (λ m. n ∷ m) l.joined;
@@ -53,9 +53,9 @@ module _ (text : List ℕ) where
         (record { joined = refl; is = b.separates });
   }
 
-  lost_body : (limit : Limit) (n semicolon : Token) (act : Action) (ts after rest : List Token) → Acts text n act →
-      ts ≡ semicolon ∷ after → Is semicolon (Sign s.Semicolon) → Lost (Expression text prefixing (inside limit)) after rest →
-      Lost (Expression text prefixing limit) (n ∷ ts) rest
+  lost_body : (limit : NestingLimit) (n semicolon : Token) (act : Action) (ts after rest : List Token) → IsAction text n act →
+      ts ≡ semicolon ∷ after → IsOfKind semicolon (Sign s.Semicolon) → Fails (BehaviourPhrase text prefixing (inside limit)) after rest →
+      Fails (BehaviourPhrase text prefixing limit) (n ∷ ts) rest
   lost_body limit n semicolon act ts after rest i e j l = record {
     front = n ∷ semicolon ∷ l.front;
     joined = ap (λ m. n ∷ m) (e ∙ ap (λ m. semicolon ∷ m) l.joined);
@@ -71,9 +71,9 @@ module _ (text : List ℕ) where
   }
 
   -- where the operand behind the semicolon is lost, so is the whole
-  pub carries_body : (room : ℕ) (n semicolon : Token) (act : Action) (ts after : List Token) → Acts text n act →
-      ts ≡ semicolon ∷ after → Is semicolon (Sign s.Semicolon) →
-      Carries (Expression text prefixing) (room - 1) after (Expression text prefixing) room (n ∷ ts)
+  pub carries_body : (room : ℕ) (n semicolon : Token) (act : Action) (ts after : List Token) → IsAction text n act →
+      ts ≡ semicolon ∷ after → IsOfKind semicolon (Sign s.Semicolon) →
+      Carries (BehaviourPhrase text prefixing) (room - 1) after (BehaviourPhrase text prefixing) room (n ∷ ts)
   carries_body room n semicolon act ts after i e j = record {
     free = λ rest. lost_body None n semicolon act ts after rest i e j;
     limited = λ rest. lost_body (Some room) n semicolon act ts after rest i e j;
@@ -83,17 +83,17 @@ module _ (text : List ℕ) where
   }
 
   -- with no room left, an action and a semicolon begin nothing
-  pub deep_prefix : (room : ℕ) (n semicolon : Token) (act : Action) (ts after : List Token) → room ≡ 0 → Acts text n act →
-      ts ≡ semicolon ∷ after → Is semicolon (Sign s.Semicolon) → Deeper (Expression text prefixing) room (n ∷ ts) semicolon
+  pub deep_prefix : (room : ℕ) (n semicolon : Token) (act : Action) (ts after : List Token) → room ≡ 0 → IsAction text n act →
+      ts ≡ semicolon ∷ after → IsOfKind semicolon (Sign s.Semicolon) → IsTooDeepAt (BehaviourPhrase text prefixing) room (n ∷ ts) semicolon
   deep_prefix room n semicolon act ts after h i e j = record {
     after = after;
-    lost = record {
+    fails = record {
       front = n ∷ [];
       joined = ap (λ m. n ∷ m) e;
       never = λ more own behind x st g p.
           let b = taken_prefix text behind st.0 i j p.spells (sym g ∙ ap (λ m. n ∷ m) st.1) p.quits in
           let j = b.nesting in let k = p.within in absurd (omega (arith, h, j, k));
     };
-    crowded = crowded_here (n ∷ ts) (n ∷ []) after semicolon room (ap (λ m. n ∷ m) e) h (opens_is j refl);
+    too_many_open = crowded_here (n ∷ ts) (n ∷ []) after semicolon room (ap (λ m. n ∷ m) e) h (opens_is j refl);
     opens = opens_is j refl;
   }

@@ -6,7 +6,7 @@ use Rattle.std.proofs.Math.Seq.{drop-cons}
 use Rattle.std.specs.Char.{to_ascii_lowercase}
 use Rattle.std.specs.List.{list_all}
 use Rattle.std.specs.Str.{bytes_eq}
-use Rattle.lotos_text.specs.Cut.{is, word_kind}
+use Rattle.lotos_text.specs.Lexing.{equals_ignoring_case, classify}
 use Rattle.lotos_text.specs.declared.token.TokenKind.{TokenKind}
 use Rattle.lotos_text.specs.declared.token.TokenKind.TheVariants.{Identifier, Reserved}
 use Rattle.lotos_text.specs.declared.token.Word.{Word}
@@ -18,7 +18,7 @@ Row = Bor (List ℕ) × Word
 -- the kind that the first row gives whose spelling the word has, in upper or lower case
 abbrev pub kind_by : List Row → List ℕ → TokenKind
 kind_by [] found = Identifier
-kind_by (row ∷ rows) found = cond (is row.0.now found) (Reserved row.1) (kind_by rows found)
+kind_by (row ∷ rows) found = cond (equals_ignoring_case row.0.now found) (Reserved row.1) (kind_by rows found)
 
 -- the spellings are in lower case
 abbrev pub are_lower : List Row → Bool
@@ -26,23 +26,23 @@ are_lower rows = list_all (λ row. bytes_eq (map to_ascii_lowercase row.0.now) r
 
 -- what is known of the rows that are left
 pub record Left (rows : List Row) (found : List ℕ) : Type 0 where
-  pub decides : kind_by rows found ≡ word_kind found
+  pub decides : kind_by rows found ≡ classify found
   pub lower : are_lower rows ≡ true
 
 -- the two are one, but for upper and lower case
 abbrev pub Alike : List ℕ → List ℕ → Type 0
 Alike a b = map to_ascii_lowercase a ≡ map to_ascii_lowercase b
 
-is_not : (word found : List ℕ) → bytes_eq (map to_ascii_lowercase word) word ≡ true → (Alike found word → ⊥) → is word found ≡ false
+is_not : (word found : List ℕ) → bytes_eq (map to_ascii_lowercase word) word ≡ true → (Alike found word → ⊥) → equals_ignoring_case word found ≡ false
 is_not word found h k =
     let lower = (bytes_eq-Decides (map to_ascii_lowercase word) word).0 h in
-    false_from_ne_true (is word found) (λ t. k (sym (lower ∙ (bytes_eq-Decides word (map to_ascii_lowercase found)).0 t)))
+    false_from_ne_true (equals_ignoring_case word found) (λ t. k (sym (lower ∙ (bytes_eq-Decides word (map to_ascii_lowercase found)).0 t)))
 
 -- the first row is left out
 first_out : (row : Row) (rows : List Row) (found : List ℕ) → (Alike found row.0.now → ⊥) → Left (row ∷ rows) found → Left rows found
 first_out row rows found h left =
     let parts = and_parts (bytes_eq (map to_ascii_lowercase row.0.now) row.0.now) (are_lower rows) left.lower in
-    let other = cond-false (is row.0.now found) (Reserved row.1) (kind_by rows found) (is_not row.0.now found parts.0 h) in
+    let other = cond-false (equals_ignoring_case row.0.now found) (Reserved row.1) (kind_by rows found) (is_not row.0.now found parts.0 h) in
     record { decides = sym other ∙ left.decides; lower = parts.1 }
 
 first_left : (rows : List Row) (i : ℕ) (row : Row) (found : List ℕ) → i < length rows → Left (drop i rows) found → Left (get_or rows i row ∷ drop (suc i) rows) found

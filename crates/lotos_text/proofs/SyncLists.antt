@@ -1,10 +1,10 @@
 -- Operators, and the gates behind `|[`: what is found and lost.
 use Rattle.std.proofs.Common.{◌≡◌, ℕ, List, [], ◌∷◌, ◌++◌, Option, Some, None, refl, sym, ◌∙◌, ap, append_assoc, subst}
-use Rattle.lotos_text.specs.Tree as t
-use Rattle.lotos_text.specs.Grammar.{Is, Names, one_name, more_names, Level, parallel, Operator, synchronizes, Operates, interleave_sign, full_sign, sync_on_none, sync_on}
-use Rattle.lotos_text.specs.Opens.{mark}
-use Rattle.lotos_text.specs.Parsing.{Phrase, NotFirst, Found, Starts, Lost}
-use Rattle.lotos_text.specs.Phrases.{One, Before, NameList, Operation, SyncList, no_sync, some_sync}
+use Rattle.lotos_text.specs.AstView as t
+use Rattle.lotos_text.specs.Grammar.{IsOfKind, Names, one_name, more_names, Level, parallel, Operator, synchronizes, IsOperator, interleave_sign, full_sign, sync_on_none, sync_on}
+use Rattle.lotos_text.specs.OperandStarts.{infix_of}
+use Rattle.lotos_text.specs.ParserContracts.{Phrase, DoesNotStartWith, Parses, StartsAlike, Fails}
+use Rattle.lotos_text.specs.Phrases.{OneToken, Followed, NameList, OneOperator, SyncList, no_sync, some_sync}
 use Rattle.lotos_text.specs.declared.operators.Infix.{Infix}
 use Rattle.lotos_text.specs.declared.operators.Infix.TheVariants as i
 use Rattle.lotos_text.specs.declared.token.Sign.{Sign as SignKind}
@@ -12,7 +12,7 @@ use Rattle.lotos_text.specs.declared.token.Sign.TheVariants as s
 use Rattle.lotos_text.specs.declared.token.Token.{Token}
 use Rattle.lotos_text.specs.declared.token.TokenKind.{TokenKind}
 use Rattle.lotos_text.specs.declared.token.TokenKind.TheVariants.{Identifier, Reserved, Sign}
-use Rattle.lotos_text.specs.declared.tree.Placed.{Placed}
+use Rattle.lotos_text.specs.declared.ast.Placed.{Placed}
 use Rattle.lotos_text.proofs.FirstToken.{head_same, tail_same, apart, is_first, not_first, starts_not, starts_behind}
 use Rattle.lotos_text.proofs.NameLists.{firm_names}
 use Rattle.lotos_text.proofs.OneToken.{found_before, lost_unclosed, lost_within, firm_before}
@@ -30,7 +30,7 @@ abbrev Means : TokenKind → Option Infix → Type 0
 Means k None = Unit {0}
 Means k (Some m) = k ≡ Sign (sign_of m)
 
-means_sign : (x : SignKind) → Means (Sign x) (mark (Sign x))
+means_sign : (x : SignKind) → Means (Sign x) (infix_of (Sign x))
 means_sign s.Enable = refl
 means_sign s.Disable = refl
 means_sign s.Interleave = refl
@@ -39,32 +39,32 @@ means_sign s.LeftSync = refl
 means_sign s.Choice = refl
 means_sign _ = tt
 
-means : (k : TokenKind) → Means k (mark k)
+means : (k : TokenKind) → Means k (infix_of k)
 means Identifier = tt
 means (Reserved _) = tt
 means (Sign x) = means_sign x
 
 -- a token that is a mark is of the mark's sign
-pub is_mark : (n : Token) (m : Infix) → mark n.kind ≡ Some m → Is n (Sign (sign_of m))
+pub is_mark : (n : Token) (m : Infix) → infix_of n.kind ≡ Some m → IsOfKind n (Sign (sign_of m))
 is_mark n m e = record { same = subst (λ x. Means n.kind x) e (means n.kind) }
 
 module _ (text : List ℕ) where
   -- a mark that is an operator by itself
-  pub found_sign : {l : Level} {how : Operator} (n : Token) (ts : List Token) → Operates text l (n ∷ []) how →
-      Found (Operation text l) (n ∷ ts) how ts
+  pub found_sign : {l : Level} {how : Operator} (n : Token) (ts : List Token) → IsOperator text l (n ∷ []) how →
+      Parses (OneOperator text l) (n ∷ ts) how ts
   found_sign n ts i = record { front = n ∷ []; joined = refl; whole = record { operates = i } }
 
   -- `|[` and the gates behind it are an operator
-  pub found_sync : (n : Token) (ts rest : List Token) (names : List Placed) → Is n (Sign s.LeftSync) →
-      Found (SyncList text) ts names rest → Found (Operation text parallel) (n ∷ ts) (synchronizes (t.gates names)) rest
+  pub found_sync : (n : Token) (ts rest : List Token) (names : List Placed) → IsOfKind n (Sign s.LeftSync) →
+      Parses (SyncList text) ts names rest → Parses (OneOperator text parallel) (n ∷ ts) (synchronizes (t.gates names)) rest
   found_sync n ts rest names i f = record {
     front = n ∷ f.front;
     joined = ap (λ m. n ∷ m) f.joined;
     whole = record { operates = of_list i f.whole };
   }
     where
-      of_list : {n : Token} {own behind : List Token} {names : List Placed} → Is n (Sign s.LeftSync) →
-          SyncList text own names behind → Operates text parallel (n ∷ own) (synchronizes (t.gates names))
+      of_list : {n : Token} {own behind : List Token} {names : List Placed} → IsOfKind n (Sign s.LeftSync) →
+          SyncList text own names behind → IsOperator text parallel (n ∷ own) (synchronizes (t.gates names))
       of_list i (no_sync j k) = sync_on_none i j k
       of_list i (some_sync d j k) = sync_on i d j k
 
@@ -75,8 +75,8 @@ module _ (text : List ℕ) where
     pub joined : more ≡ own ++ behind
     pub list : SyncList text own names behind
 
-  listed : {n : Token} {own more : List Token} {how : Operator} (behind : List Token) → Is n (Sign s.LeftSync) →
-      Operates text parallel own how → n ∷ more ≡ own ++ behind → Listed more behind
+  listed : {n : Token} {own more : List Token} {how : Operator} (behind : List Token) → IsOfKind n (Sign s.LeftSync) →
+      IsOperator text parallel own how → n ∷ more ≡ own ++ behind → Listed more behind
   listed behind i (interleave_sign j) e = absurd (apart i j (head_same e) (λ e. cc))
   listed behind i (full_sign j) e = absurd (apart i j (head_same e) (λ e. cc))
   listed behind i (sync_on_none {right = right} {bar = bar} j k l) e = record {
@@ -93,8 +93,8 @@ module _ (text : List ℕ) where
   }
 
   -- where the gates behind `|[` are lost, so is the operator
-  pub lost_sync : (n : Token) (ts rest : List Token) → Is n (Sign s.LeftSync) → Lost (SyncList text) ts rest →
-      Lost (Operation text parallel) (n ∷ ts) rest
+  pub lost_sync : (n : Token) (ts rest : List Token) → IsOfKind n (Sign s.LeftSync) → Fails (SyncList text) ts rest →
+      Fails (OneOperator text parallel) (n ∷ ts) rest
   lost_sync n ts rest i l = record {
     front = n ∷ l.front;
     joined = ap (λ m. n ∷ m) l.joined;
@@ -106,8 +106,8 @@ module _ (text : List ℕ) where
   -- the list itself
 
   -- `]` and `|` are a list of no gates
-  pub found_no_sync : (ts between rest : List Token) (right bar : Token) → ts ≡ right ∷ between → Is right (Sign s.RightBracket) →
-      between ≡ bar ∷ rest → Is bar (Sign s.Bar) → Found (SyncList text) ts [] rest
+  pub found_no_sync : (ts between rest : List Token) (right bar : Token) → ts ≡ right ∷ between → IsOfKind right (Sign s.RightBracket) →
+      between ≡ bar ∷ rest → IsOfKind bar (Sign s.Bar) → Parses (SyncList text) ts [] rest
   found_no_sync ts between rest right bar e i f j = record {
     front = right ∷ bar ∷ [];
     joined = e ∙ ap (λ m. right ∷ m) f;
@@ -116,8 +116,8 @@ module _ (text : List ℕ) where
 
   -- names, `]` and `|` are a list of those gates
   pub found_some_sync : (ts between after rest : List Token) (right bar : Token) (names : List Placed) →
-      Found (NameList text) ts names between → between ≡ right ∷ after → Is right (Sign s.RightBracket) → after ≡ bar ∷ rest →
-      Is bar (Sign s.Bar) → Found (SyncList text) ts names rest
+      Parses (NameList text) ts names between → between ≡ right ∷ after → IsOfKind right (Sign s.RightBracket) → after ≡ bar ∷ rest →
+      IsOfKind bar (Sign s.Bar) → Parses (SyncList text) ts names rest
   found_some_sync ts between after rest right bar names f e i g j = record {
     front = f.front ++ right ∷ bar ∷ [];
     joined = f.joined ∙ ap (λ m. f.front ++ m) (e ∙ ap (λ m. right ∷ m) g) ∙ sym (append_assoc f.front (right ∷ bar ∷ []) rest);
@@ -125,13 +125,13 @@ module _ (text : List ℕ) where
   }
 
   names_begin : {n : Token} {own more : List Token} {names : List Placed} (behind : List Token) → Names text own names →
-      Is n (Sign s.RightBracket) → n ∷ more ≡ own ++ behind → ⊥
+      IsOfKind n (Sign s.RightBracket) → n ∷ more ≡ own ++ behind → ⊥
   names_begin behind (one_name j) i e = apart i j (head_same e) (λ e. cc)
   names_begin behind (more_names j k d) i e = apart i j (head_same e) (λ e. cc)
 
   -- where `|` is lost behind `]`, so is the list
-  pub lost_no_bar : (ts between rest : List Token) (right : Token) → ts ≡ right ∷ between → Is right (Sign s.RightBracket) →
-      Lost (One (Sign s.Bar)) between rest → Lost (SyncList text) ts rest
+  pub lost_no_bar : (ts between rest : List Token) (right : Token) → ts ≡ right ∷ between → IsOfKind right (Sign s.RightBracket) →
+      Fails (OneToken (Sign s.Bar)) between rest → Fails (SyncList text) ts rest
   lost_no_bar ts between rest right e i l = record {
     front = right ∷ l.front;
     joined = e ∙ ap (λ m. right ∷ m) l.joined;
@@ -141,8 +141,8 @@ module _ (text : List ℕ) where
   }
     where
       never : (right : Token) (more : List Token) {own behind : List Token} {names : List Placed} →
-          Is right (Sign s.RightBracket) →
-          ((bar : Token) (ms : List Token) → more ≡ bar ∷ ms → Is bar (Sign s.Bar) → ⊥) → right ∷ more ≡ own ++ behind →
+          IsOfKind right (Sign s.RightBracket) →
+          ((bar : Token) (ms : List Token) → more ≡ bar ∷ ms → IsOfKind bar (Sign s.Bar) → ⊥) → right ∷ more ≡ own ++ behind →
           SyncList text own names behind → ⊥
       never right more i none e (no_sync {bar = bar} {behind = behind} j k) = none bar behind (tail_same e) k
       never right more i none e (some_sync {right = other} {bar = bar} {ts = ts} {behind = behind} d j k) =
@@ -151,23 +151,23 @@ module _ (text : List ℕ) where
   -- the three parts of a list that is not empty
 
   abbrev Closed : Phrase (List Placed)
-  Closed = Before (NameList text) (Sign s.RightBracket)
+  Closed = Followed (NameList text) (Sign s.RightBracket)
 
   abbrev Barred : Phrase (List Placed)
-  Barred = Before Closed (Sign s.Bar)
+  Barred = Followed Closed (Sign s.Bar)
 
-  lost_barred : (ts rest : List Token) → NotFirst (Sign s.RightBracket) ts → Lost Barred ts rest → Lost (SyncList text) ts rest
+  lost_barred : (ts rest : List Token) → DoesNotStartWith (Sign s.RightBracket) ts → Fails Barred ts rest → Fails (SyncList text) ts rest
   lost_barred ts rest without l = record {
     front = l.front;
     joined = l.joined;
     never = λ more own behind names st g p.
-        let alike : Starts ts (l.front ++ more) =
-        subst (λ m. Starts m (l.front ++ more)) (sym l.joined) (starts_behind l.front rest more st) in
+        let alike : StartsAlike ts (l.front ++ more) =
+        subst (λ m. StartsAlike m (l.front ++ more)) (sym l.joined) (starts_behind l.front rest more st) in
         never (l.front ++ more) (starts_not _ ts (l.front ++ more) alike without)
         (λ own behind names h b. l.never more own behind names st h b) g p;
   }
     where
-      never : (more : List Token) {own behind : List Token} {names : List Placed} → NotFirst (Sign s.RightBracket) more →
+      never : (more : List Token) {own behind : List Token} {names : List Placed} → DoesNotStartWith (Sign s.RightBracket) more →
           ((own behind : List Token) (names : List Placed) → more ≡ own ++ behind → Barred own names behind → ⊥) →
           more ≡ own ++ behind → SyncList text own names behind → ⊥
       never more without none e (no_sync {right = right} {bar = bar} {behind = behind} j k) =
@@ -194,22 +194,22 @@ module _ (text : List ℕ) where
           })
 
   -- where the names are lost and no `]` stands, so is the list
-  pub lost_listed : (ts rest : List Token) → NotFirst (Sign s.RightBracket) ts → Lost (NameList text) ts rest →
-      Lost (SyncList text) ts rest
+  pub lost_listed : (ts rest : List Token) → DoesNotStartWith (Sign s.RightBracket) ts → Fails (NameList text) ts rest →
+      Fails (SyncList text) ts rest
   lost_listed ts rest without l =
       lost_barred ts rest without (lost_within Closed _ ts rest (lost_within (NameList text) _ ts rest l))
 
   -- where `]` is lost behind the names, so is the list
-  pub lost_unbracketed : (ts between rest : List Token) (names : List Placed) → NotFirst (Sign s.RightBracket) ts →
-      Found (NameList text) ts names between → Lost (One (Sign s.RightBracket)) between rest → Lost (SyncList text) ts rest
+  pub lost_unbracketed : (ts between rest : List Token) (names : List Placed) → DoesNotStartWith (Sign s.RightBracket) ts →
+      Parses (NameList text) ts names between → Fails (OneToken (Sign s.RightBracket)) between rest → Fails (SyncList text) ts rest
   lost_unbracketed ts between rest names without f l =
       lost_barred ts rest without (lost_within Closed _ ts rest
       (lost_unclosed (NameList text) _ (firm_names text) ts between rest names f l))
 
   -- where `|` is lost behind the names and `]`, so is the list
   pub lost_unbarred : (ts between after rest : List Token) (right : Token) (names : List Placed) →
-      NotFirst (Sign s.RightBracket) ts → Found (NameList text) ts names between → between ≡ right ∷ after → Is right (Sign s.RightBracket) →
-      Lost (One (Sign s.Bar)) after rest → Lost (SyncList text) ts rest
+      DoesNotStartWith (Sign s.RightBracket) ts → Parses (NameList text) ts names between → between ≡ right ∷ after → IsOfKind right (Sign s.RightBracket) →
+      Fails (OneToken (Sign s.Bar)) after rest → Fails (SyncList text) ts rest
   lost_unbarred ts between after rest right names without f e i l =
       lost_barred ts rest without (lost_unclosed Closed _ (firm_before (NameList text) _ (firm_names text)) ts after rest names
       (found_before (NameList text) _ ts between after right names f e i) l)

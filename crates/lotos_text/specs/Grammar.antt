@@ -1,38 +1,38 @@
 -- What tokens spell: each rule joins the tokens of its parts.
 use Rattle.std.specs.Prelude.{◌≡◌, ℕ, ◌+◌, ◌≤◌, max, Bool, true, false, List, [], ◌∷◌, ◌++◌, map, slice_range}
 use Rattle.std.specs.Char.{to_ascii_uppercase}
-use Rattle.lotos_text.specs.Tree as t
-use Rattle.lotos_text.specs.Tree.{Tree, Sync, Def, Defs}
+use Rattle.lotos_text.specs.AstView as t
+use Rattle.lotos_text.specs.AstView.{BehaviourView, SyncView, DefinitionView, DefinitionListView}
 use Rattle.lotos_text.specs.declared.token.Token.{Token}
 use Rattle.lotos_text.specs.declared.token.TokenKind.{TokenKind}
 use Rattle.lotos_text.specs.declared.token.TokenKind.TheVariants.{Identifier, Reserved, Sign}
 use Rattle.lotos_text.specs.declared.token.Word.TheVariants as w
 use Rattle.lotos_text.specs.declared.token.Sign.TheVariants as s
-use Rattle.lotos_text.specs.declared.tree.Placed.{Placed}
-use Rattle.lotos_text.specs.declared.tree.Action.{Action}
-use Rattle.lotos_text.specs.declared.tree.Action.TheVariants.{Internal, Gate}
-use Rattle.lotos_text.specs.declared.tree.Functionality.{Functionality}
-use Rattle.lotos_text.specs.declared.tree.Functionality.TheVariants as f
+use Rattle.lotos_text.specs.declared.ast.Placed.{Placed}
+use Rattle.lotos_text.specs.declared.ast.Action.{Action}
+use Rattle.lotos_text.specs.declared.ast.Action.TheVariants.{Internal, Gate}
+use Rattle.lotos_text.specs.declared.ast.Functionality.{Functionality}
+use Rattle.lotos_text.specs.declared.ast.Functionality.TheVariants as f
 
 -- the token is of that kind
-pub record Is (token : Token) (kind : TokenKind) : Type 0 where
+pub record IsOfKind (token : Token) (kind : TokenKind) : Type 0 where
   pub same : token.kind ≡ kind
 
 -- the name of an identifier, with its offset
-abbrev pub placed : List ℕ → Token → Placed
-placed text n = record { name = map to_ascii_uppercase (slice_range text n.at n.end); at = n.at }
+abbrev pub located_name : List ℕ → Token → Placed
+located_name text n = record { name = map to_ascii_uppercase (slice_range text n.at n.end); at = n.at }
 
 -- one or more names, separated by commas
 pub data Names (text : List ℕ) : List Token → List Placed → Type 0 where
-  one_name : {n : Token} → Is n Identifier → Names text (n ∷ []) (placed text n ∷ [])
+  one_name : {n : Token} → IsOfKind n Identifier → Names text (n ∷ []) (located_name text n ∷ [])
   more_names : {n comma : Token} {ts : List Token} {names : List Placed} →
-      Is n Identifier → Is comma (Sign s.Comma) → Names text ts names → Names text (n ∷ comma ∷ ts) (placed text n ∷ names)
+      IsOfKind n Identifier → IsOfKind comma (Sign s.Comma) → Names text ts names → Names text (n ∷ comma ∷ ts) (located_name text n ∷ names)
 
 -- nothing, or names in brackets
 pub data GateList (text : List ℕ) : List Token → List Placed → Type 0 where
   no_gates : GateList text [] []
   gates : {left right : Token} {ts : List Token} {names : List Placed} →
-      Is left (Sign s.LeftBracket) → Names text ts names → Is right (Sign s.RightBracket) →
+      IsOfKind left (Sign s.LeftBracket) → Names text ts names → IsOfKind right (Sign s.RightBracket) →
       GateList text (left ∷ ts ++ right ∷ []) names
 
 -- the levels of behaviour expressions, from the loosest to the tightest
@@ -54,120 +54,120 @@ pub data BindsTighter : Level → Level → Type 0 where
 pub data Operator : Type 0 where
   enables : ℕ → Operator
   disables : Operator
-  synchronizes : Sync → Operator
+  synchronizes : SyncView → Operator
   chooses : Operator
 
-abbrev pub join : Operator → Tree → Tree → Tree
-join (enables at) x y = t.enable x at y
-join disables x y = t.disable x y
-join (synchronizes sync) x y = t.par x sync y
-join chooses x y = t.choice x y
+abbrev pub apply : Operator → BehaviourView → BehaviourView → BehaviourView
+apply (enables at) x y = t.enable x at y
+apply disables x y = t.disable x y
+apply (synchronizes sync) x y = t.par x sync y
+apply chooses x y = t.choice x y
 
 -- the tokens of an operator, and its level
-pub data Operates (text : List ℕ) : Level → List Token → Operator → Type 0 where
-  enable_sign : {o : Token} → Is o (Sign s.Enable) → Operates text enabling (o ∷ []) (enables o.at)
-  disable_sign : {o : Token} → Is o (Sign s.Disable) → Operates text disabling (o ∷ []) disables
-  interleave_sign : {o : Token} → Is o (Sign s.Interleave) → Operates text parallel (o ∷ []) (synchronizes (t.gates []))
-  full_sign : {o : Token} → Is o (Sign s.Full) → Operates text parallel (o ∷ []) (synchronizes t.all)
-  sync_on_none : {o right bar : Token} → Is o (Sign s.LeftSync) → Is right (Sign s.RightBracket) → Is bar (Sign s.Bar) →
-      Operates text parallel (o ∷ right ∷ bar ∷ []) (synchronizes (t.gates []))
+pub data IsOperator (text : List ℕ) : Level → List Token → Operator → Type 0 where
+  enable_sign : {o : Token} → IsOfKind o (Sign s.Enable) → IsOperator text enabling (o ∷ []) (enables o.at)
+  disable_sign : {o : Token} → IsOfKind o (Sign s.Disable) → IsOperator text disabling (o ∷ []) disables
+  interleave_sign : {o : Token} → IsOfKind o (Sign s.Interleave) → IsOperator text parallel (o ∷ []) (synchronizes (t.gates []))
+  full_sign : {o : Token} → IsOfKind o (Sign s.Full) → IsOperator text parallel (o ∷ []) (synchronizes t.all)
+  sync_on_none : {o right bar : Token} → IsOfKind o (Sign s.LeftSync) → IsOfKind right (Sign s.RightBracket) → IsOfKind bar (Sign s.Bar) →
+      IsOperator text parallel (o ∷ right ∷ bar ∷ []) (synchronizes (t.gates []))
   sync_on : {o right bar : Token} {ts : List Token} {names : List Placed} →
-      Is o (Sign s.LeftSync) → Names text ts names → Is right (Sign s.RightBracket) → Is bar (Sign s.Bar) →
-      Operates text parallel (o ∷ ts ++ right ∷ bar ∷ []) (synchronizes (t.gates names))
-  choice_sign : {o : Token} → Is o (Sign s.Choice) → Operates text choosing (o ∷ []) chooses
+      IsOfKind o (Sign s.LeftSync) → Names text ts names → IsOfKind right (Sign s.RightBracket) → IsOfKind bar (Sign s.Bar) →
+      IsOperator text parallel (o ∷ ts ++ right ∷ bar ∷ []) (synchronizes (t.gates names))
+  choice_sign : {o : Token} → IsOfKind o (Sign s.Choice) → IsOperator text choosing (o ∷ []) chooses
 
 -- what a prefix does first: a gate or the internal action
-pub data Acts (text : List ℕ) : Token → Action → Type 0 where
-  gate : {n : Token} → Is n Identifier → Acts text n (Gate (placed text n))
-  internal : {n : Token} → Is n (Reserved w.IWord) → Acts text n Internal
+pub data IsAction (text : List ℕ) : Token → Action → Type 0 where
+  gate : {n : Token} → IsOfKind n Identifier → IsAction text n (Gate (located_name text n))
+  internal : {n : Token} → IsOfKind n (Reserved w.IWord) → IsAction text n Internal
 
 -- The tokens spell the behaviour at the level: whether the spelling is open, its nesting, its tokens, and the behaviour.
 -- A hide form stands at every level and is open, as is what ends in one; a left operand is never open. A binary operator
 -- groups to the right: its right operand is of its own level, its left one of the next tighter.
-pub data Spells (text : List ℕ) : Level → Bool → ℕ → List Token → Tree → Type 0 where
-  stop : {n : Token} → Is n (Reserved w.StopWord) → Spells text prefixing false 0 (n ∷ []) t.stop
-  exit : {n : Token} → Is n (Reserved w.ExitWord) → Spells text prefixing false 0 (n ∷ []) t.exit
-  parentheses : {left right : Token} {o : Bool} {n : ℕ} {ts : List Token} {x : Tree} →
-      Is left (Sign s.LeftParenthesis) → Spells text enabling o n ts x → Is right (Sign s.RightParenthesis) →
+pub data Spells (text : List ℕ) : Level → Bool → ℕ → List Token → BehaviourView → Type 0 where
+  stop : {n : Token} → IsOfKind n (Reserved w.StopWord) → Spells text prefixing false 0 (n ∷ []) t.stop
+  exit : {n : Token} → IsOfKind n (Reserved w.ExitWord) → Spells text prefixing false 0 (n ∷ []) t.exit
+  parentheses : {left right : Token} {o : Bool} {n : ℕ} {ts : List Token} {x : BehaviourView} →
+      IsOfKind left (Sign s.LeftParenthesis) → Spells text enabling o n ts x → IsOfKind right (Sign s.RightParenthesis) →
       Spells text prefixing false (n + 1) (left ∷ ts ++ right ∷ []) x
   call : {name : Token} {ts : List Token} {names : List Placed} →
-      Is name Identifier → GateList text ts names → Spells text prefixing false 0 (name ∷ ts) (t.call (placed text name) names)
-  prefix : {act semicolon : Token} {a : Action} {o : Bool} {n : ℕ} {ts : List Token} {x : Tree} →
-      Acts text act a → Is semicolon (Sign s.Semicolon) → Spells text prefixing o n ts x →
+      IsOfKind name Identifier → GateList text ts names → Spells text prefixing false 0 (name ∷ ts) (t.call (located_name text name) names)
+  prefix : {act semicolon : Token} {a : Action} {o : Bool} {n : ℕ} {ts : List Token} {x : BehaviourView} →
+      IsAction text act a → IsOfKind semicolon (Sign s.Semicolon) → Spells text prefixing o n ts x →
       Spells text prefixing o (n + 1) (act ∷ semicolon ∷ ts) (t.prefix a x)
-  tighter : {l m : Level} {o : Bool} {n : ℕ} {ts : List Token} {x : Tree} →
+  tighter : {l m : Level} {o : Bool} {n : ℕ} {ts : List Token} {x : BehaviourView} →
       BindsTighter l m → Spells text m o n ts x → Spells text l o n ts x
-  operation : {l m : Level} {o : Bool} {nl nr : ℕ} {left op right : List Token} {x y : Tree} {how : Operator} →
-      BindsTighter l m → Spells text m false nl left x → Operates text l op how → Spells text l o nr right y →
-      Spells text l o (max nl (nr + 1)) (left ++ op ++ right) (join how x y)
-  hide : {l : Level} {word within : Token} {o : Bool} {n : ℕ} {gates ts : List Token} {names : List Placed} {x : Tree} →
-      Is word (Reserved w.HideWord) → Names text gates names → Is within (Reserved w.InWord) → Spells text enabling o n ts x →
+  operation : {l m : Level} {o : Bool} {nl nr : ℕ} {left op right : List Token} {x y : BehaviourView} {how : Operator} →
+      BindsTighter l m → Spells text m false nl left x → IsOperator text l op how → Spells text l o nr right y →
+      Spells text l o (max nl (nr + 1)) (left ++ op ++ right) (apply how x y)
+  hide : {l : Level} {word within : Token} {o : Bool} {n : ℕ} {gates ts : List Token} {names : List Placed} {x : BehaviourView} →
+      IsOfKind word (Reserved w.HideWord) → Names text gates names → IsOfKind within (Reserved w.InWord) → Spells text enabling o n ts x →
       Spells text l true (n + 1) (word ∷ gates ++ within ∷ ts) (t.hide names x)
 
 -- the declared functionality
-pub data Declares : Token → Functionality → Type 0 where
-  exits : {n : Token} → Is n (Reserved w.ExitWord) → Declares n f.Exit
-  never_exits : {n : Token} → Is n (Reserved w.NoexitWord) → Declares n f.NoExit
+pub data IsFunctionality : Token → Functionality → Type 0 where
+  exits : {n : Token} → IsOfKind n (Reserved w.ExitWord) → IsFunctionality n f.Exit
+  never_exits : {n : Token} → IsOfKind n (Reserved w.NoexitWord) → IsFunctionality n f.NoExit
 
 -- what a definition is of, which is all that its own words depend on
-pub data Defined : Type 0 where
-  a_specification : Defined
-  a_process : Defined
+pub data DefinitionKind : Type 0 where
+  a_specification : DefinitionKind
+  a_process : DefinitionKind
 
 -- the word that it begins with
-abbrev pub opening_word : Defined → TokenKind
+abbrev pub opening_word : DefinitionKind → TokenKind
 opening_word a_specification = Reserved w.SpecificationWord
 opening_word a_process = Reserved w.ProcessWord
 
 -- what stands before its body
-abbrev pub defining_sign : Defined → TokenKind
+abbrev pub defining_sign : DefinitionKind → TokenKind
 defining_sign a_specification = Reserved w.BehaviourWord
 defining_sign a_process = Sign s.Define
 
 -- the word that it ends with
-abbrev pub closing_word : Defined → TokenKind
+abbrev pub closing_word : DefinitionKind → TokenKind
 closing_word a_specification = Reserved w.EndspecWord
 closing_word a_process = Reserved w.EndprocWord
 
 mutual
   -- the tokens define a specification or a process, with their nesting
-  pub data Defines (text : List ℕ) : Defined → ℕ → List Token → Def → Type 0 where
-    definition : {what : Defined} {word name colon returns define end : Token} {gates body rest : List Token}
-        {formals : List Placed} {func : Functionality} {o : Bool} {n m : ℕ} {x : Tree} {inner : Defs} →
-        Is word (opening_word what) → Is name Identifier → GateList text gates formals → Is colon (Sign s.Colon) →
-        Declares returns func → Is define (defining_sign what) → Spells text enabling o n body x → Rest text m rest inner →
-        Is end (closing_word what) →
-        Defines text what (max n m) (word ∷ name ∷ gates ++ colon ∷ returns ∷ define ∷ body ++ rest ++ end ∷ [])
-        (t.def (placed text name) formals func x inner)
+  pub data SpellsDefinition (text : List ℕ) : DefinitionKind → ℕ → List Token → DefinitionView → Type 0 where
+    definition : {what : DefinitionKind} {word name colon returns define end : Token} {gates body rest : List Token}
+        {formals : List Placed} {func : Functionality} {o : Bool} {n m : ℕ} {x : BehaviourView} {inner : DefinitionListView} →
+        IsOfKind word (opening_word what) → IsOfKind name Identifier → GateList text gates formals → IsOfKind colon (Sign s.Colon) →
+        IsFunctionality returns func → IsOfKind define (defining_sign what) → Spells text enabling o n body x → SpellsWhere text m rest inner →
+        IsOfKind end (closing_word what) →
+        SpellsDefinition text what (max n m) (word ∷ name ∷ gates ++ colon ∷ returns ∷ define ∷ body ++ rest ++ end ∷ [])
+        (t.def (located_name text name) formals func x inner)
 
   -- nothing, or `where` and one or more definitions of processes
-  pub data Rest (text : List ℕ) : ℕ → List Token → Defs → Type 0 where
-    nothing : Rest text 0 [] t.no_defs
-    definitions : {word : Token} {n : ℕ} {ts : List Token} {ds : Defs} →
-        Is word (Reserved w.WhereWord) → Several text n ts ds → Rest text n (word ∷ ts) ds
+  pub data SpellsWhere (text : List ℕ) : ℕ → List Token → DefinitionListView → Type 0 where
+    nothing : SpellsWhere text 0 [] t.no_defs
+    definitions : {word : Token} {n : ℕ} {ts : List Token} {ds : DefinitionListView} →
+        IsOfKind word (Reserved w.WhereWord) → SpellsDefinitions text n ts ds → SpellsWhere text n (word ∷ ts) ds
 
   -- one or more definitions of processes, each one deeper than itself
-  pub data Several (text : List ℕ) : ℕ → List Token → Defs → Type 0 where
-    last : {n : ℕ} {ts : List Token} {d : Def} → Defines text a_process n ts d → Several text (n + 1) ts (t.more_defs d t.no_defs)
-    another : {n m : ℕ} {first others : List Token} {d : Def} {ds : Defs} →
-        Defines text a_process n first d → Several text m others ds →
-        Several text (max (n + 1) m) (first ++ others) (t.more_defs d ds)
+  pub data SpellsDefinitions (text : List ℕ) : ℕ → List Token → DefinitionListView → Type 0 where
+    last : {n : ℕ} {ts : List Token} {d : DefinitionView} → SpellsDefinition text a_process n ts d → SpellsDefinitions text (n + 1) ts (t.more_defs d t.no_defs)
+    another : {n m : ℕ} {first others : List Token} {d : DefinitionView} {ds : DefinitionListView} →
+        SpellsDefinition text a_process n first d → SpellsDefinitions text m others ds →
+        SpellsDefinitions text (max (n + 1) m) (first ++ others) (t.more_defs d ds)
 
 -- the tokens spell the specification, with that nesting
-abbrev pub Specifies : List ℕ → ℕ → List Token → Def → Type 0
-Specifies text = Defines text a_specification
+abbrev pub SpellsSpecification : List ℕ → ℕ → List Token → DefinitionView → Type 0
+SpellsSpecification text = SpellsDefinition text a_specification
 
 -- some list that starts with these tokens spells a specification
-pub record BeginsSpecification (text : List ℕ) (ts : List Token) : Type 0 where
+pub record IsSpecificationPrefix (text : List ℕ) (ts : List Token) : Type 0 where
   pub more : List Token
   pub nesting : ℕ
-  pub whole : Def
-  pub spells : Specifies text nesting (ts ++ more) whole
+  pub whole : DefinitionView
+  pub spells : SpellsSpecification text nesting (ts ++ more) whole
 
 -- some list that starts with these tokens spells a specification whose nesting is at most that
-pub record BeginsWithin (limit : ℕ) (text : List ℕ) (ts : List Token) : Type 0 where
+pub record IsPrefixWithin (limit : ℕ) (text : List ℕ) (ts : List Token) : Type 0 where
   pub more : List Token
   pub nesting : ℕ
-  pub whole : Def
-  pub spells : Specifies text nesting (ts ++ more) whole
+  pub whole : DefinitionView
+  pub spells : SpellsSpecification text nesting (ts ++ more) whole
   pub within : nesting ≤ limit

@@ -1,9 +1,9 @@
 //! Cuts a text into tokens.
 ghost use Rattle.std.specs.Prelude.{◌≡◌, ◌<◌, ◌≤◌, length, take, IfOk, IfErr, IfSome, IfNone};
-ghost use Rattle.lotos_text.specs.Cut.{Cut, AllLieIn, Begins, IsComment, Unclosed, opening, is_blank, is_word_byte, spelled, word_kind};
-ghost use Rattle.lotos_text.specs.Front.{Front, mark_of};
-ghost use Rattle.lotos_text.specs.Profile.{longest_text};
-ghost use Rattle.lotos_text.specs.Refused.{IsStuck};
+ghost use Rattle.lotos_text.specs.Lexing.{Lexes, AreTokensIn, StartsWith, IsComment, IsUnclosedComment, comment_opening, is_blank, is_word_byte, sign_text, classify};
+ghost use Rattle.lotos_text.specs.Lexemes.{IsNextLexeme, longest_sign};
+ghost use Rattle.lotos_text.specs.Limits.{max_text_length};
+ghost use Rattle.lotos_text.specs.TextFaults.{IsLexingFault};
 ghost use Rattle.std.specs.List.{prefix_len};
 
 use crate::fault::TextFault;
@@ -22,10 +22,10 @@ pub const TEXT_LIMIT: usize = 1_048_576;
 /// begins no token, or with E02 at the opening of a comment that is not closed, whichever stands first; with E99 where a
 /// growth of the heap was refused.
 pub fn tokens(alloc: Global, text: &[u8]) -> Result<Vec<Token>, TextFault>
-    ensures short { IfOk result (λ found. length text.now ≤ longest_text) }
-    ensures cut { IfOk result (λ found. Cut text.now found.items) }
-    ensures stand { IfOk result (λ found. AllLieIn text.now found.items) }
-    ensures stuck { IfErr result (IsStuck text.now) }
+    ensures short { IfOk result (λ found. length text.now ≤ max_text_length) }
+    ensures cut { IfOk result (λ found. Lexes text.now found.items) }
+    ensures stand { IfOk result (λ found. AreTokensIn text.now found.items) }
+    ensures stuck { IfErr result (IsLexingFault text.now) }
 {
     if text.len() > TEXT_LIMIT {
         return Err(TextFault::E03);
@@ -33,16 +33,16 @@ pub fn tokens(alloc: Global, text: &[u8]) -> Result<Vec<Token>, TextFault>
     let mut found = Vec::new(alloc);
     let mut at = 0;
     while at < text.len() {
-        match front(&text[at..]) {
-            Piece::Blank => at += 1,
-            Piece::Comment(length) => at += length,
-            Piece::Token(length, kind) => {
+        match next_lexeme(&text[at..]) {
+            Lexeme::Blank => at += 1,
+            Lexeme::Comment(length) => at += length,
+            Lexeme::Token(length, kind) => {
                 let end = at + length;
                 found.push(Token { at, end, kind })?;
                 at = end;
             }
-            Piece::Unclosed => return Err(TextFault::E02(at)),
-            Piece::Unknown => return Err(TextFault::E01(at)),
+            Lexeme::Unclosed => return Err(TextFault::E02(at)),
+            Lexeme::Unknown => return Err(TextFault::E01(at)),
         }
     }
     Ok(found)
@@ -50,7 +50,7 @@ pub fn tokens(alloc: Global, text: &[u8]) -> Result<Vec<Token>, TextFault>
 
 /// What stands at the front of a text.
 #[derive(Clone, Copy)]
-enum Piece {
+enum Lexeme {
     /// One blank byte.
     Blank,
     /// A comment of so many bytes.
@@ -64,35 +64,35 @@ enum Piece {
 }
 
 /// What stands at the front of a text that is not empty.
-#[tactic(auto, using(crate::proofs::Fronts::found_fronts))]
-fn front(text: &[u8]) -> Piece
+#[tactic(auto, using(crate::proofs::NextLexemes::found_fronts))]
+fn next_lexeme(text: &[u8]) -> Lexeme
     requires { 0 < length text.now }
-    ensures { Front text.now result }
+    ensures { IsNextLexeme text.now result }
 {
     let first = text[0];
     if is_blank(first) {
-        Piece::Blank
+        Lexeme::Blank
     } else if first.is_ascii_alphabetic() {
         let length = word_length(text);
-        Piece::Token(length, word_kind(&text[..length]))
+        Lexeme::Token(length, classify_word(&text[..length]))
     } else if text.starts_with(b"(*") {
         match comment_length(text) {
-            Some(length) => Piece::Comment(length),
-            None => Piece::Unclosed,
+            Some(length) => Lexeme::Comment(length),
+            None => Lexeme::Unclosed,
         }
     } else {
-        match mark(text) {
-            Some(sign) => Piece::Token(spelling(sign).len(), TokenKind::Sign(sign)),
-            None => Piece::Unknown,
+        match longest_sign(text) {
+            Some(sign) => Lexeme::Token(sign_text(sign).len(), TokenKind::Sign(sign)),
+            None => Lexeme::Unknown,
         }
     }
 }
 
 /// How many bytes the comment has that opens at the front of a text, up to and with its closing.
 fn comment_length(text: &[u8]) -> Option<usize>
-    requires { Begins opening text.now }
+    requires { StartsWith comment_opening text.now }
     ensures closed { IfSome result (λ n. IsComment (take n text.now) × (n ≤ length text.now)) }
-    ensures open { IfNone result (Unclosed text.now) }
+    ensures open { IfNone result (IsUnclosedComment text.now) }
 {
     let mut at = 2;
     while at < text.len() {
@@ -124,7 +124,7 @@ fn word_length(text: &[u8]) -> usize
 }
 
 /// The reserved words, as they are spelled in lower case.
-const RESERVED: [(&[u8], Word); 19] = [
+const KEYWORDS: [(&[u8], Word); 19] = [
     (b"specification", Word::SpecificationWord),
     (b"endspec", Word::EndspecWord),
     (b"behaviour", Word::BehaviourWord),
@@ -147,10 +147,10 @@ const RESERVED: [(&[u8], Word); 19] = [
 ];
 
 /// What a word is, in upper or lower case.
-fn word_kind(found: &[u8]) -> TokenKind
-    ensures { result ≡ word_kind found.now }
+fn classify_word(found: &[u8]) -> TokenKind
+    ensures { result ≡ classify found.now }
 {
-    for (word, reserved) in &RESERVED {
+    for (word, reserved) in &KEYWORDS {
         if found.eq_ignore_ascii_case(word) {
             return TokenKind::Reserved(*reserved);
         }
@@ -159,7 +159,7 @@ fn word_kind(found: &[u8]) -> TokenKind
 }
 
 /// All marks, a longer one before each shorter one.
-const MARKS: [Sign; 15] = [
+const SIGNS: [Sign; 15] = [
     Sign::Interleave,
     Sign::Define,
     Sign::Choice,
@@ -178,18 +178,18 @@ const MARKS: [Sign; 15] = [
 ];
 
 /// The longest mark at the front of a text.
-fn mark(text: &[u8]) -> Option<Sign>
-    ensures { result ≡ mark_of text.now }
+fn longest_sign(text: &[u8]) -> Option<Sign>
+    ensures { result ≡ longest_sign text.now }
 {
-    MARKS
+    SIGNS
         .iter()
         .copied()
-        .find(|sign| text.starts_with(spelling(*sign)))
+        .find(|sign| text.starts_with(sign_text(*sign)))
 }
 
 /// The bytes of a mark.
-fn spelling(sign: Sign) -> &'static [u8]
-    ensures { result.now ≡ spelled sign }
+fn sign_text(sign: Sign) -> &'static [u8]
+    ensures { result.now ≡ sign_text sign }
 {
     match sign {
         Sign::Semicolon => b";",

@@ -5,22 +5,22 @@
 //! The definitions that the contracts cite stand in `specs/`, and the laws over them in [`laws`].
 #![tactic(auto)]
 
-mod descent;
-mod expression;
+mod ast;
+mod behaviour_parser;
 mod fault;
 pub mod laws;
 mod lexer;
 mod name;
 mod operators;
+mod parse_primitives;
 mod parser;
-mod place;
+mod position;
 mod token;
-mod tree;
 
+pub use ast::{Action, Behaviour, Definition, Functionality, Placed, Specification, SyncSet};
 pub use fault::TextFault;
 pub use lexer::{TEXT_LIMIT, tokens};
 pub use name::Name;
 pub use parser::{NESTING_LIMIT, parse};
-pub use place::line_column;
+pub use position::line_column;
 pub use token::{Sign, Token, TokenKind, Word};
-pub use tree::{Action, Behaviour, Definition, Functionality, Placed, Specification, SyncSet};

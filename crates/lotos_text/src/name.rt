@@ -5,7 +5,7 @@ ghost use Rattle.std.specs.Cmp.{partial_equiv_from_equiv};
 ghost use Rattle.std.specs.Cmp.Lexicographic.{nat_list_cmp_total, nat_list_eq_equiv, slice_cmp, texts_po, texts_ties};
 ghost use Rattle.std.specs.Ordering.{nat_cmp};
 ghost use Rattle.lotos_text.specs.Names.{IsName};
-ghost use Rattle.lotos_text.specs.Cut.{IsWord};
+ghost use Rattle.lotos_text.specs.Lexing.{IsWord};
 
 use std::alloc::{AllocError, Global};
 use std::cmp::Ordering;
@@ -37,7 +37,7 @@ impl Model for Name {
 
 impl Name {
     /// The name of a word of a text.
-    pub(crate) fn of_word(alloc: Global, word: &[u8]) -> Result<Name, AllocError>
+    pub(crate) fn from_word(alloc: Global, word: &[u8]) -> Result<Name, AllocError>
         requires { IsWord word.now }
         ensures { IfOk result (λ n. n ≡ map to_ascii_uppercase word.now) }
     {

@@ -1,16 +1,16 @@
 //! The binary operators of behaviour expressions, and their levels.
 ghost use Rattle.std.specs.Prelude.{◌≡◌, ◌<◌, ◌≤◌, ◌∷◌, Some, None, length, IfOk, IfErr, IfSome, IfNone, MatchOption, MatchBool};
-ghost use Rattle.lotos_text.specs.View.{level_of, operator_of};
+ghost use Rattle.lotos_text.specs.AstOf.{level_view, operator_view};
 ghost use Rattle.lotos_text.specs.Grammar.{BindsTighter, prefixing};
-ghost use Rattle.lotos_text.specs.Cut.{AllLieIn};
+ghost use Rattle.lotos_text.specs.Lexing.{AreTokensIn};
 ghost use Rattle.lotos_text.specs.Follow.{rank, level_rank};
-ghost use Rattle.lotos_text.specs.Parsing.{Found, IsLost};
-ghost use Rattle.lotos_text.specs.Phrases.{Operation, SyncList};
-ghost use Rattle.lotos_text.specs.Opens as opens;
+ghost use Rattle.lotos_text.specs.ParserContracts.{Parses, FailsAtAnyNesting};
+ghost use Rattle.lotos_text.specs.Phrases.{OneOperator, SyncList};
+ghost use Rattle.lotos_text.specs.OperandStarts as opens;
 
-use crate::descent::{Stop, eat, expect, names, split};
+use crate::ast::{BinaryOperator, Placed, SyncSet};
+use crate::parse_primitives::{ParseError, eat, expect, parse_names, split_first_token};
 use crate::token::{Sign, Token, TokenKind};
-use crate::tree::{Operator, Placed, SyncSet};
 use std::alloc::Global;
 
 /// A level of behaviour expressions: that of its operators, or of the operands between all operators.
@@ -24,9 +24,9 @@ pub(crate) enum Level {
 }
 
 /// The next tighter level, that of the operators' left operands.
-pub(crate) fn tighter(level: Level) -> Option<Level>
-    ensures { MatchOption result (level_of level ≡ prefixing)
-        (λ m. BindsTighter (level_of level) (level_of m)) }
+pub(crate) fn next_tighter(level: Level) -> Option<Level>
+    ensures { MatchOption result (level_view level ≡ prefixing)
+        (λ m. BindsTighter (level_view level) (level_view m)) }
 {
     match level {
         Level::Enabling => Some(Level::Disabling),
@@ -50,7 +50,7 @@ pub(crate) enum Infix {
 }
 
 fn infix_of(kind: TokenKind) -> Option<Infix>
-    ensures { result ≡ opens.mark kind }
+    ensures { result ≡ opens.infix_of kind }
 {
     match kind {
         TokenKind::Sign(Sign::Enable) => Some(Infix::Enable),
@@ -64,26 +64,26 @@ fn infix_of(kind: TokenKind) -> Option<Infix>
 }
 
 /// The operator's mark of the level at the front, its token, and the tokens behind it.
-pub(crate) fn going_on(tokens: &[Token], level: Level) -> Option<(Infix, Token, &[Token])>
+pub(crate) fn operator_at(tokens: &[Token], level: Level) -> Option<(Infix, Token, &[Token])>
     ensures some { IfSome result (λ p. (tokens.now ≡ p.1 ∷ p.2.now)
-        × (opens.mark p.1.kind ≡ Some p.0) × (opens.mark_level p.0 ≡ level_of level)) }
-    ensures none { IfNone result (rank tokens.now ≡ level_rank (level_of level) →
-        level_of level ≡ prefixing) }
+        × (opens.infix_of p.1.kind ≡ Some p.0) × (opens.infix_level p.0 ≡ level_view level)) }
+    ensures none { IfNone result (rank tokens.now ≡ level_rank (level_view level) →
+        level_view level ≡ prefixing) }
 {
-    let (first, rest) = split(tokens)?;
+    let (first, rest) = split_first_token(tokens)?;
     let mark = infix_of(first.kind)?;
-    if is_of_level(mark, level) {
+    if has_level(mark, level) {
         Some((mark, first, rest))
     } else {
         None
     }
 }
 
-fn is_of_level(mark: Infix, level: Level) -> bool
-    ensures { MatchBool result (opens.mark_level mark ≡ level_of level) (opens.mark_level mark
-        ≡ level_of level → ⊥) }
+fn has_level(kind: Infix, level: Level) -> bool
+    ensures { MatchBool result (opens.infix_level kind ≡ level_view level) (opens.infix_level kind
+        ≡ level_view level → ⊥) }
 {
-    match mark {
+    match kind {
         Infix::Enable => matches!(level, Level::Enabling),
         Infix::Disable => matches!(level, Level::Disabling),
         Infix::Interleave | Infix::Full | Infix::Sync => matches!(level, Level::Parallel),
@@ -92,48 +92,48 @@ fn is_of_level(mark: Infix, level: Level) -> bool
 }
 
 /// The operator whose mark is the first token.
-pub(crate) fn operator<'a>(
+pub(crate) fn parse_operator<'a>(
     alloc: Global,
     text: &[u8],
-    mark: Infix,
+    kind: Infix,
     first: Token,
     tokens: &'a [Token],
-) -> Result<(Operator, &'a [Token]), Stop<'a>>
-    requires begins { opens.mark first.kind ≡ Some mark }
-    requires stand { AllLieIn text.now tokens.now }
-    ensures found { IfOk result
-        (λ p. Found (Operation text.now (opens.mark_level mark)) (first ∷ tokens.now) (operator_of p.0) p.1.now) }
-    ensures rest { IfOk result (λ p. AllLieIn text.now p.1.now) }
+) -> Result<(BinaryOperator, &'a [Token]), ParseError<'a>>
+    requires begins { opens.infix_of first.kind ≡ Some kind }
+    requires stand { AreTokensIn text.now tokens.now }
+    ensures parses { IfOk result
+        (λ p. Parses (OneOperator text.now (opens.infix_level kind)) (first ∷ tokens.now) (operator_view p.0) p.1.now) }
+    ensures rest { IfOk result (λ p. AreTokensIn text.now p.1.now) }
     ensures shorter { IfOk result (λ p. length p.1.now ≤ length tokens.now) }
-    ensures lost { IfErr result (IsLost (Operation text.now (opens.mark_level mark)) (first ∷ tokens.now)) }
+    ensures fails { IfErr result (FailsAtAnyNesting (OneOperator text.now (opens.infix_level kind)) (first ∷ tokens.now)) }
 {
-    match mark {
-        Infix::Enable => Ok((Operator::Enable(first.at), tokens)),
-        Infix::Disable => Ok((Operator::Disable, tokens)),
+    match kind {
+        Infix::Enable => Ok((BinaryOperator::Enable(first.at), tokens)),
+        Infix::Disable => Ok((BinaryOperator::Disable, tokens)),
         Infix::Interleave => {
             let none = Vec::new(alloc);
-            Ok((Operator::Synchronize(SyncSet::Gates(none)), tokens))
+            Ok((BinaryOperator::Synchronize(SyncSet::Gates(none)), tokens))
         }
-        Infix::Full => Ok((Operator::Synchronize(SyncSet::All), tokens)),
+        Infix::Full => Ok((BinaryOperator::Synchronize(SyncSet::All), tokens)),
         Infix::Sync => {
-            let (gates, rest) = sync_list(alloc, text, tokens)?;
-            Ok((Operator::Synchronize(SyncSet::Gates(gates)), rest))
+            let (gates, rest) = parse_sync_list(alloc, text, tokens)?;
+            Ok((BinaryOperator::Synchronize(SyncSet::Gates(gates)), rest))
         }
-        Infix::Choice => Ok((Operator::Choose, tokens)),
+        Infix::Choice => Ok((BinaryOperator::Choose, tokens)),
     }
 }
 
 /// The gates behind `|[`, which may be none, up to and with the `]` and the `|`.
-fn sync_list<'a>(
+fn parse_sync_list<'a>(
     alloc: Global,
     text: &[u8],
     tokens: &'a [Token],
-) -> Result<(Vec<Placed>, &'a [Token]), Stop<'a>>
-    requires { AllLieIn text.now tokens.now }
-    ensures found { IfOk result (λ p. Found (SyncList text.now) tokens.now p.0.items p.1.now) }
-    ensures rest { IfOk result (λ p. AllLieIn text.now p.1.now) }
+) -> Result<(Vec<Placed>, &'a [Token]), ParseError<'a>>
+    requires { AreTokensIn text.now tokens.now }
+    ensures parses { IfOk result (λ p. Parses (SyncList text.now) tokens.now p.0.items p.1.now) }
+    ensures rest { IfOk result (λ p. AreTokensIn text.now p.1.now) }
     ensures shorter { IfOk result (λ p. length p.1.now ≤ length tokens.now) }
-    ensures lost { IfErr result (IsLost (SyncList text.now) tokens.now) }
+    ensures fails { IfErr result (FailsAtAnyNesting (SyncList text.now) tokens.now) }
 {
     match eat(tokens, TokenKind::Sign(Sign::RightBracket)) {
         Some((_, rest)) => {
@@ -141,7 +141,7 @@ fn sync_list<'a>(
             Ok((Vec::new(alloc), rest))
         }
         None => {
-            let (gates, rest) = names(alloc, text, tokens)?;
+            let (gates, rest) = parse_names(alloc, text, tokens)?;
             let (_, rest) = expect(rest, TokenKind::Sign(Sign::RightBracket))?;
             let (_, rest) = expect(rest, TokenKind::Sign(Sign::Bar))?;
             Ok((gates, rest))

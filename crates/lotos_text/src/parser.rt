@@ -1,24 +1,26 @@
 //! Specifications and the definitions of processes.
 ghost use Rattle.std.specs.Prelude.{◌≡◌, ◌<◌, ◌≤◌, [], Some, length, IfOk, IfErr};
-ghost use Rattle.lotos_text.specs.Tree.{Def};
-ghost use Rattle.lotos_text.specs.View.{defined_of, definition_of, definitions_of};
+ghost use Rattle.lotos_text.specs.AstView.{DefinitionView};
+ghost use Rattle.lotos_text.specs.AstOf.{definition_kind_view, definition_view, definitions_view};
 ghost use Rattle.lotos_text.specs.Grammar.{defining_sign, closing_word};
-ghost use Rattle.lotos_text.specs.Cut.{AllLieIn};
-ghost use Rattle.lotos_text.specs.Profile.{deepest_nesting};
+ghost use Rattle.lotos_text.specs.Lexing.{AreTokensIn};
+ghost use Rattle.lotos_text.specs.Limits.{max_nesting};
 ghost use Rattle.lotos_text.specs.Spelled.{Spelled};
-ghost use Rattle.lotos_text.specs.Refused.{IsRefused, SpellsNothing};
-ghost use Rattle.lotos_text.specs.Inside.{IsFaultInside, IsInside};
-ghost use Rattle.lotos_text.specs.Kinds.{is_full, is_full_word};
-ghost use Rattle.lotos_text.specs.Parsing.{Found, IsLost, IsLostWithin, IsMissed, stop_fault};
-ghost use Rattle.lotos_text.specs.Phrases.{Contents, Header, Inner, Nothing, Row, Whole};
+ghost use Rattle.lotos_text.specs.TextFaults.{IsFaultOfText, SpellsNoSpecification};
+ghost use Rattle.lotos_text.specs.OffsetsInside.{IsFaultInside, IsInside};
+ghost use Rattle.lotos_text.specs.ConstructOpenings.{is_full_lotos, is_full_lotos_word};
+ghost use Rattle.lotos_text.specs.ParserContracts.{Parses, FailsAtAnyNesting, FailsWithin, FailsUnlessMemory, fault_of_error};
+ghost use Rattle.lotos_text.specs.Phrases.{DefinitionRest, HeaderPhrase, WherePhrase, EndOfInput, DefinitionList, SpecificationPhrase};
 
-use crate::descent::{Stop, eat, expect, functionality, gate_list, placed};
-use crate::expression::behaviour;
+use crate::ast::{Definition, Functionality, Placed, Specification};
+use crate::behaviour_parser::parse_behaviour;
 use crate::fault::TextFault;
 use crate::lexer::tokens;
 use crate::operators::Level;
+use crate::parse_primitives::{
+    ParseError, eat, expect, parse_functionality, parse_gate_list, place_name,
+};
 use crate::token::{Sign, Token, TokenKind, Word};
-use crate::tree::{Definition, Functionality, Placed, Specification};
 use std::alloc::Global;
 
 /// The most constructs that may be open at once in a text (this project's profile): parentheses, prefixes, hide forms,
@@ -32,52 +34,52 @@ pub const NESTING_LIMIT: usize = 200;
 /// with E04; with E06 at the text's length where its tokens begin a specification and are none; with E99 where a growth of
 /// the heap was refused.
 pub fn parse(alloc: Global, text: &[u8]) -> Result<Specification, TextFault>
-    ensures spelled { IfOk result (λ found. Spelled text.now (definition_of found.whole)) }
-    ensures only { IfOk result (λ found. (other : Def) → Spelled text.now other →
-        other ≡ definition_of found.whole) }
-    ensures refused { IfErr result (IsRefused text.now) }
-    ensures nothing { IfErr result (SpellsNothing text.now) }
+    ensures spelled { IfOk result (λ found. Spelled text.now (definition_view found.whole)) }
+    ensures only { IfOk result (λ found. (other : DefinitionView) → Spelled text.now other →
+        other ≡ definition_view found.whole) }
+    ensures refused { IfErr result (IsFaultOfText text.now) }
+    ensures nothing { IfErr result (SpellsNoSpecification text.now) }
     ensures fault_inside { IfErr result (IsFaultInside (length text.now)) }
     ensures tree_inside { IfOk result
-        (λ found. IsInside (length text.now) (definition_of found.whole)) }
+        (λ found. IsInside (length text.now) (definition_view found.whole)) }
 {
     let cut = tokens(alloc, text)?;
-    match specification(alloc, text, cut.as_slice()) {
+    match parse_specification(alloc, text, cut.as_slice()) {
         Ok(whole) => Ok(Specification { whole }),
-        Err(stop) => Err(fault_of(stop, text.len())),
+        Err(stop) => Err(fault_of_error(stop, text.len())),
     }
 }
 
 /// The fault of a text of so many bytes, where the parser stopped.
-fn fault_of(stop: Stop<'_>, length: usize) -> TextFault
-    ensures { result ≡ stop_fault stop.entry length }
+fn fault_of_error(error: ParseError<'_>, length: usize) -> TextFault
+    ensures { result ≡ fault_of_error error.entry length }
 {
-    match stop {
-        Stop::At([]) => TextFault::E06(length),
-        Stop::At([first, ..]) => {
-            if is_full(first.kind) {
+    match error {
+        ParseError::Unexpected([]) => TextFault::E06(length),
+        ParseError::Unexpected([first, ..]) => {
+            if is_full_lotos(first.kind) {
                 TextFault::E07(first.at)
             } else {
                 TextFault::E04(first.at)
             }
         }
-        Stop::Deep(token) => TextFault::E05(token.at),
-        Stop::Memory(error) => TextFault::E99(error),
+        ParseError::TooDeep(token) => TextFault::E05(token.at),
+        ParseError::Memory(error) => TextFault::E99(error),
     }
 }
 
 /// Whether a token is a word of full LOTOS.
-fn is_full(kind: TokenKind) -> bool
-    ensures { result ≡ is_full kind }
+fn is_full_lotos(kind: TokenKind) -> bool
+    ensures { result ≡ is_full_lotos kind }
 {
     match kind {
-        TokenKind::Reserved(word) => is_full_word(word),
+        TokenKind::Reserved(word) => is_full_lotos_word(word),
         TokenKind::Identifier | TokenKind::Sign(_) => false,
     }
 }
 
-fn is_full_word(word: Word) -> bool
-    ensures { result ≡ is_full_word word }
+fn is_full_lotos_word(word: Word) -> bool
+    ensures { result ≡ is_full_lotos_word word }
 {
     matches!(
         word,
@@ -91,81 +93,87 @@ fn is_full_word(word: Word) -> bool
 }
 
 /// The whole specification, behind which nothing stands.
-fn specification<'a>(
+fn parse_specification<'a>(
     alloc: Global,
     text: &[u8],
     tokens: &'a [Token],
-) -> Result<Definition, Stop<'a>>
-    requires { AllLieIn text.now tokens.now }
-    ensures found { IfOk result
-        (λ whole. Found (Whole text.now (Some deepest_nesting)) tokens.now (definition_of whole) []) }
-    ensures lost { IfErr result (IsLostWithin (Whole text.now) deepest_nesting tokens.now) }
+) -> Result<Definition, ParseError<'a>>
+    requires { AreTokensIn text.now tokens.now }
+    ensures parses { IfOk result
+        (λ whole. Parses (SpecificationPhrase text.now (Some max_nesting)) tokens.now (definition_view whole) []) }
+    ensures fails { IfErr result (FailsWithin (SpecificationPhrase text.now) max_nesting tokens.now) }
 {
     let (_, rest) = expect(tokens, TokenKind::Reserved(Word::SpecificationWord))?;
-    let (whole, rest) = contents(alloc, text, NESTING_LIMIT, Defined::Specification, rest)?;
-    end(rest)?;
+    let (whole, rest) = parse_definition_rest(
+        alloc,
+        text,
+        NESTING_LIMIT,
+        DefinitionKind::Specification,
+        rest,
+    )?;
+    expect_end(rest)?;
     Ok(whole)
 }
 
 /// Nothing, at the end of the tokens.
-fn end<'a>(tokens: &'a [Token]) -> Result<(), Stop<'a>>
-    ensures found { IfOk result (λ _. tokens.now ≡ []) }
-    ensures lost { IfErr result (IsMissed Nothing tokens.now) }
+fn expect_end<'a>(tokens: &'a [Token]) -> Result<(), ParseError<'a>>
+    ensures parses { IfOk result (λ _. tokens.now ≡ []) }
+    ensures fails { IfErr result (FailsUnlessMemory EndOfInput tokens.now) }
 {
     if tokens.is_empty() {
         Ok(())
     } else {
-        Err(Stop::At(tokens))
+        Err(ParseError::Unexpected(tokens))
     }
 }
 
 /// What a definition is of.
 #[derive(Clone, Copy)]
-enum Defined {
+enum DefinitionKind {
     Specification,
     Process,
 }
 
 /// What stands before the body of a definition.
-fn defining_sign(what: Defined) -> TokenKind
-    ensures { result ≡ defining_sign (defined_of what) }
+fn defining_sign(what: DefinitionKind) -> TokenKind
+    ensures { result ≡ defining_sign (definition_kind_view what) }
 {
     match what {
-        Defined::Specification => TokenKind::Reserved(Word::BehaviourWord),
-        Defined::Process => TokenKind::Sign(Sign::Define),
+        DefinitionKind::Specification => TokenKind::Reserved(Word::BehaviourWord),
+        DefinitionKind::Process => TokenKind::Sign(Sign::Define),
     }
 }
 
 /// The last word of a definition.
-fn closing_word(what: Defined) -> TokenKind
-    ensures { result ≡ closing_word (defined_of what) }
+fn closing_word(what: DefinitionKind) -> TokenKind
+    ensures { result ≡ closing_word (definition_kind_view what) }
 {
     match what {
-        Defined::Specification => TokenKind::Reserved(Word::EndspecWord),
-        Defined::Process => TokenKind::Reserved(Word::EndprocWord),
+        DefinitionKind::Specification => TokenKind::Reserved(Word::EndspecWord),
+        DefinitionKind::Process => TokenKind::Reserved(Word::EndprocWord),
     }
 }
 
 /// What stands behind the first word of a definition, up to and with its last word.
 #[cycle(definitions)]
-fn contents<'a>(
+fn parse_definition_rest<'a>(
     alloc: Global,
     text: &[u8],
-    room: usize,
-    what: Defined,
+    nesting_left: usize,
+    what: DefinitionKind,
     tokens: &'a [Token],
-) -> Result<(Definition, &'a [Token]), Stop<'a>>
-    requires { AllLieIn text.now tokens.now }
-    ensures found { IfOk result
-        (λ p. Found (Contents text.now (defined_of what) (Some room)) tokens.now (definition_of p.0) p.1.now) }
-    ensures rest { IfOk result (λ p. AllLieIn text.now p.1.now) }
+) -> Result<(Definition, &'a [Token]), ParseError<'a>>
+    requires { AreTokensIn text.now tokens.now }
+    ensures parses { IfOk result
+        (λ p. Parses (DefinitionRest text.now (definition_kind_view what) (Some nesting_left)) tokens.now (definition_view p.0) p.1.now) }
+    ensures rest { IfOk result (λ p. AreTokensIn text.now p.1.now) }
     ensures shorter { IfOk result (λ p. length p.1.now < length tokens.now) }
-    ensures lost { IfErr result (IsLostWithin (Contents text.now (defined_of what)) room tokens.now) }
+    ensures fails { IfErr result (FailsWithin (DefinitionRest text.now (definition_kind_view what)) nesting_left tokens.now) }
 {
-    let (heading, rest) = header(alloc, text, tokens)?;
+    let (heading, rest) = parse_header(alloc, text, tokens)?;
     let (_, rest) = expect(rest, defining_sign(what))?;
-    let (body, rest) = behaviour(alloc, text, room, Level::Enabling, rest)?;
-    let (inner, rest) = inner(alloc, text, room, rest)?;
+    let (body, rest) = parse_behaviour(alloc, text, nesting_left, Level::Enabling, rest)?;
+    let (inner, rest) = parse_where(alloc, text, nesting_left, rest)?;
     let (_, rest) = expect(rest, closing_word(what))?;
     let whole = Definition {
         name: heading.name,
@@ -179,30 +187,30 @@ fn contents<'a>(
 
 /// What the header of a definition says.
 #[derive(Drop)]
-struct Heading {
+struct Header {
     name: Placed,
     formals: Vec<Placed>,
     functionality: Functionality,
 }
 
 /// The name, the formal gates, the colon and the functionality.
-fn header<'a>(
+fn parse_header<'a>(
     alloc: Global,
     text: &[u8],
     tokens: &'a [Token],
-) -> Result<(Heading, &'a [Token]), Stop<'a>>
-    requires { AllLieIn text.now tokens.now }
-    ensures found { IfOk result
-        (λ p. Found (Header text.now) tokens.now (p.0.name, p.0.formals.items, p.0.functionality) p.1.now) }
-    ensures rest { IfOk result (λ p. AllLieIn text.now p.1.now) }
+) -> Result<(Header, &'a [Token]), ParseError<'a>>
+    requires { AreTokensIn text.now tokens.now }
+    ensures parses { IfOk result
+        (λ p. Parses (HeaderPhrase text.now) tokens.now (p.0.name, p.0.formals.items, p.0.functionality) p.1.now) }
+    ensures rest { IfOk result (λ p. AreTokensIn text.now p.1.now) }
     ensures shorter { IfOk result (λ p. length p.1.now < length tokens.now) }
-    ensures lost { IfErr result (IsLost (Header text.now) tokens.now) }
+    ensures fails { IfErr result (FailsAtAnyNesting (HeaderPhrase text.now) tokens.now) }
 {
     let (token, rest) = expect(tokens, TokenKind::Identifier)?;
-    let name = placed(alloc, text, token)?;
-    let (formals, rest) = gate_list(alloc, text, rest)?;
-    let (functionality, rest) = functionality(rest)?;
-    let heading = Heading {
+    let name = place_name(alloc, text, token)?;
+    let (formals, rest) = parse_gate_list(alloc, text, rest)?;
+    let (functionality, rest) = parse_functionality(rest)?;
+    let heading = Header {
         name,
         formals,
         functionality,
@@ -212,48 +220,54 @@ fn header<'a>(
 
 /// The inner definitions behind the word `where`, or none where that word does not stand.
 #[cycle(definitions)]
-fn inner<'a>(
+fn parse_where<'a>(
     alloc: Global,
     text: &[u8],
-    room: usize,
+    nesting_left: usize,
     tokens: &'a [Token],
-) -> Result<(Vec<Definition>, &'a [Token]), Stop<'a>>
-    requires { AllLieIn text.now tokens.now }
-    ensures found { IfOk result
-        (λ p. Found (Inner text.now (Some room)) tokens.now (definitions_of p.0.items) p.1.now) }
-    ensures rest { IfOk result (λ p. AllLieIn text.now p.1.now) }
+) -> Result<(Vec<Definition>, &'a [Token]), ParseError<'a>>
+    requires { AreTokensIn text.now tokens.now }
+    ensures parses { IfOk result
+        (λ p. Parses (WherePhrase text.now (Some nesting_left)) tokens.now (definitions_view p.0.items) p.1.now) }
+    ensures rest { IfOk result (λ p. AreTokensIn text.now p.1.now) }
     ensures shorter { IfOk result (λ p. length p.1.now ≤ length tokens.now) }
-    ensures lost { IfErr result (IsLostWithin (Inner text.now) room tokens.now) }
+    ensures fails { IfErr result (FailsWithin (WherePhrase text.now) nesting_left tokens.now) }
 {
     match eat(tokens, TokenKind::Reserved(Word::WhereWord)) {
-        Some((_, rest)) => row(alloc, text, room, rest),
+        Some((_, rest)) => parse_definitions(alloc, text, nesting_left, rest),
         None => Ok((Vec::new(alloc), tokens)),
     }
 }
 
 /// One or more definitions of processes.
 #[cycle(definitions)]
-fn row<'a>(
+fn parse_definitions<'a>(
     alloc: Global,
     text: &[u8],
-    room: usize,
+    nesting_left: usize,
     tokens: &'a [Token],
-) -> Result<(Vec<Definition>, &'a [Token]), Stop<'a>>
-    requires { AllLieIn text.now tokens.now }
-    ensures found { IfOk result
-        (λ p. Found (Row text.now (Some room)) tokens.now (definitions_of p.0.items) p.1.now) }
-    ensures rest { IfOk result (λ p. AllLieIn text.now p.1.now) }
+) -> Result<(Vec<Definition>, &'a [Token]), ParseError<'a>>
+    requires { AreTokensIn text.now tokens.now }
+    ensures parses { IfOk result
+        (λ p. Parses (DefinitionList text.now (Some nesting_left)) tokens.now (definitions_view p.0.items) p.1.now) }
+    ensures rest { IfOk result (λ p. AreTokensIn text.now p.1.now) }
     ensures shorter { IfOk result (λ p. length p.1.now < length tokens.now) }
-    ensures lost { IfErr result (IsLostWithin (Row text.now) room tokens.now) }
+    ensures fails { IfErr result (FailsWithin (DefinitionList text.now) nesting_left tokens.now) }
 {
     let mut found = Vec::new(alloc);
     let mut rest = tokens;
     loop {
         let (word, after) = expect(rest, TokenKind::Reserved(Word::ProcessWord))?;
-        if room == 0 {
-            return Err(Stop::Deep(word));
+        if nesting_left == 0 {
+            return Err(ParseError::TooDeep(word));
         }
-        let (one, behind) = contents(alloc, text, room - 1, Defined::Process, after)?;
+        let (one, behind) = parse_definition_rest(
+            alloc,
+            text,
+            nesting_left - 1,
+            DefinitionKind::Process,
+            after,
+        )?;
         found.push(one)?;
         let Some(_) = eat(behind, TokenKind::Reserved(Word::ProcessWord)) else {
             return Ok((found, behind));

@@ -4,19 +4,19 @@ use Rattle.std.proofs.lemmas.List.{length-map}
 use Rattle.std.specs.Io.KnownBytes.{Appends}
 use Rattle.std.proofs.KnownBytes.{Appends-kept}
 use Rattle.lotos_check.specs.Flat.{FlatProcess, System}
-use Rattle.lotos_check.specs.View.{process_of}
-use Rattle.lotos_check.specs.declared.code.Process.{Process}
-use Rattle.lotos_tool.specs.Answers.{CheckAnswers}
-use Rattle.lotos_tool.specs.Lines.{check_lines}
-use Rattle.lotos_tool.specs.Searching.{IsFinished, ReadsAccepted}
-use Rattle.lotos_tool.specs.declared.answer.Ended.{Ended}
-use Rattle.lotos_tool.specs.declared.answer.Ended.TheVariants.{Complete, Refused, Stopped}
-use Rattle.lotos_tool.specs.declared.answer.Why.TheVariants as why
+use Rattle.lotos_check.specs.CheckedView.{process_of}
+use Rattle.lotos_check.specs.declared.resolved.Process.{Process}
+use Rattle.lotos_tool.specs.OutcomeContracts.{CheckOutcome}
+use Rattle.lotos_tool.specs.OutputLines.{check_lines}
+use Rattle.lotos_tool.specs.SearchSetup.{IsFinished, ReadsAccepted}
+use Rattle.lotos_tool.specs.declared.outcome.Ended.{Ended}
+use Rattle.lotos_tool.specs.declared.outcome.Ended.TheVariants.{Complete, Refused, Stopped}
+use Rattle.lotos_tool.specs.declared.outcome.Why.TheVariants as why
 
 -- after all lines, the flush decides the answer
 pub check_ended : (left left' got mid got' : Option (List ℕ)) (system : System) (lines : ℕ) (ended : Ended) → ReadsAccepted left left' system →
     Appends got mid (check_lines system) → lines ≡ length system.processes → IsFinished mid got' None lines ended →
-    CheckAnswers left left' got got' ended
+    CheckOutcome left left' got got' ended
 check_ended left left' got mid got' system lines (Complete counted) read front count h = record {
   text = read.text;
   system = system;

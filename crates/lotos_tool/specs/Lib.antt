@@ -1,6 +1,6 @@
-pub mod Accepted
-pub mod Lines
-pub mod Answers
+pub mod AcceptedText
+pub mod OutputLines
+pub mod OutcomeContracts
 pub mod WriteFaults
-pub mod Searching
-pub mod Runs
+pub mod SearchSetup
+pub mod ProgramRuns

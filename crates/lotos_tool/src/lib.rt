@@ -6,21 +6,21 @@
 //! [`Sink`]; [`FromRead`] and [`FromWrite`] make them of std's.
 #![tactic(auto)]
 
-mod accepting;
-mod answer;
-mod checking;
-mod lines;
-mod listing;
-mod message;
+mod check_command;
+mod listing_output;
+mod messages;
+mod outcome;
+mod output_flush;
+mod output_lines;
+mod program;
 mod refusal;
-mod running;
-mod searching;
-mod writing;
+mod search_command;
+mod specification_input;
 
-pub use answer::{Ended, Why};
-pub use checking::check_text;
+pub use check_command::check_text;
 pub use lotos_command::{CommandFault, Request, SearchRequest, request};
 pub use lotos_device::{DeviceFailed, FromRead, FromWrite, Sink, Source};
+pub use outcome::{Ended, Why};
+pub use program::run;
 pub use refusal::Refusal;
-pub use running::run;
-pub use searching::list;
+pub use search_command::list;

@@ -1,6 +1,6 @@
 //! Why a search or a check is refused.
 
-use crate::message::At;
+use crate::messages::PositionText;
 use lotos_check::CheckFault;
 use lotos_pattern::PatternFault;
 use lotos_search::MarkFault;
@@ -11,13 +11,13 @@ use thiserror::Error;
 #[derive(Debug, Drop, Error)]
 pub enum Refusal {
     /// The text spells no specification. The place is that of the fault's offset; E03 has none. No fault here is E99.
-    #[error("{}{}", At(*.place), .fault)]
+    #[error("{}{}", PositionText(*.place), .fault)]
     Text {
         fault: TextFault,
         place: Option<(usize, usize)>,
     },
     /// The specification breaks a static rule. The place is that of the fault's offset. No fault here is E99.
-    #[error("{}{}", At(Some((*.line, *.column))), .fault)]
+    #[error("{}{}", PositionText(Some((*.line, *.column))), .fault)]
     Check {
         fault: CheckFault,
         line: usize,

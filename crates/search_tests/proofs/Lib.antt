@@ -1,2 +1,2 @@
-pub mod Meeting
-pub mod Told
+pub mod Exploration
+pub mod ReturnedLabels

@@ -4,20 +4,20 @@
 #![tactic(auto)]
 
 #[cfg(test)]
-mod calls;
+mod call_tests;
 #[cfg(test)]
-mod comparison;
-#[cfg(test)]
-mod derivations;
+mod derivation_oracle;
 #[cfg(test)]
 mod graph;
 #[cfg(test)]
-mod marks;
+mod length_oracle;
 #[cfg(test)]
-mod rows;
+mod listing_run;
 #[cfg(test)]
-mod runs;
+mod listing_tables;
+#[cfg(test)]
+mod mark_tests;
+#[cfg(test)]
+mod oracle_comparison;
 #[cfg(test)]
 mod samples;
-#[cfg(test)]
-mod stages;

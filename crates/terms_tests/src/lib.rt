@@ -5,36 +5,36 @@
 #![tactic(auto)]
 
 #[cfg(test)]
-mod accepting;
+mod accepted_text;
 #[cfg(test)]
-mod colours;
+mod bisimulation;
 #[cfg(test)]
-mod comparison;
+mod explored_table;
 #[cfg(test)]
-mod equality;
-#[cfg(test)]
-mod forms;
+mod gate_names;
 #[cfg(test)]
 mod graph;
 #[cfg(test)]
-mod lost;
+mod inference_rules;
 #[cfg(test)]
-mod met;
+mod large_terms;
 #[cfg(test)]
-mod names;
+mod operator_tests;
 #[cfg(test)]
-mod reading;
+mod oracle_comparison;
 #[cfg(test)]
-mod rules;
+mod oracle_error;
 #[cfg(test)]
-mod sizes;
+mod oracle_system;
 #[cfg(test)]
-mod steps;
+mod oracle_terms;
 #[cfg(test)]
-mod system;
+mod rule_oracle;
 #[cfg(test)]
-mod terms;
+mod step_tests;
+#[cfg(test)]
+mod term_equality;
 #[cfg(test)]
 mod texts;
 #[cfg(test)]
-mod walks;
+mod walk_tests;

@@ -5,14 +5,14 @@
 #![tactic(auto)]
 
 #[cfg(test)]
-mod names;
+mod ast_tests;
 #[cfg(test)]
-mod nesting;
+mod lexer_tests;
 #[cfg(test)]
-mod refusals;
+mod name_tests;
 #[cfg(test)]
-mod tokens;
+mod nesting_tests;
 #[cfg(test)]
-mod trees;
+mod table_texts;
 #[cfg(test)]
-mod written;
+mod text_fault_tests;

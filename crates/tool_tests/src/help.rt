@@ -1,6 +1,6 @@
 //! Runs that ask for help.
 
-use super::devices::{ArrayWriter, SliceReader, WhenFull, run_on};
+use super::memory_devices::{ArrayWriter, SliceReader, WhenFull, run_on};
 
 /// Words that ask for help, and the line with which that help begins.
 const ROWS: &[(&[&str], &[u8])] = &[

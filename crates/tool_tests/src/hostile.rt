@@ -1,12 +1,12 @@
 //! Whole runs over texts, words and devices that are as bad as they can be.
 
-mod beginnings;
+mod failing_messages;
+mod foreign_bytes;
 mod lengths;
 mod nesting;
-mod silence;
-mod strangers;
+mod truncated_texts;
 
-use super::devices::{ArrayWriter, SliceReader, run_on};
+use super::memory_devices::{ArrayWriter, SliceReader, run_on};
 use std::alloc::Global;
 use std::process::Abort;
 

@@ -4,28 +4,28 @@
 #![tactic(auto)]
 
 #[cfg(test)]
-mod checks;
+mod byte_output_tests;
 #[cfg(test)]
-mod devices;
+mod check_runs;
 #[cfg(test)]
-mod forms;
+mod grammar_runs;
 #[cfg(test)]
 mod help;
 #[cfg(test)]
 mod hostile;
 #[cfg(test)]
-mod large;
+mod large_runs;
 #[cfg(test)]
-mod listings;
+mod memory_devices;
 #[cfg(test)]
-mod reading;
+mod output_failures;
 #[cfg(test)]
-mod rows;
+mod program_run;
 #[cfg(test)]
-mod running;
+mod search_runs;
 #[cfg(test)]
-mod stops;
+mod text_input_tests;
 #[cfg(test)]
-mod wrapping;
+mod worked_rows;
 #[cfg(test)]
-mod writing;
+mod wrapped_device_tests;

@@ -1,4 +1,4 @@
-pub mod Places
+pub mod FaultPositions
 pub mod Faults
 pub mod Searches
 pub mod Runs

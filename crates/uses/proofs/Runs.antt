@@ -2,13 +2,13 @@
 use Rattle.std.proofs.Common.{◌≡◌, ℕ, ◌<◌, List, [], ◌∷◌, ◌++◌, Some, length, refl, sym, subst, ◌∙◌, inl, slice_get}
 use Rattle.std.specs.Prelude.{None}
 use Rattle.std.proofs.lemmas.Option.{slice_get_within, slice_get-get_or}
-use Rattle.lotos_check.specs.Names.{In}
-use Rattle.lotos_terms.specs.Held.{AreSuccessors, Grows, Held, IsLabel}
+use Rattle.lotos_check.specs.NameLists.{In}
+use Rattle.lotos_terms.specs.TableView.{AreSuccessors, Grows, TableView, IsLabel}
 use Rattle.lotos_terms.specs.Steps.{Step}
 use Rattle.lotos_terms.specs.Terms.{stop}
 use Rattle.lotos_terms.specs.declared.label.Label.{Label}
 use Rattle.lotos_terms.specs.declared.label.Label.TheVariants as l
-use Rattle.uses.specs.Walking.{IsDead, IsStep, RunTo}
+use Rattle.uses.specs.TermRuns.{IsDeadlock, IsStep, RunTo}
 
 first_in : {A : Type 0} (xs : List A) (x : A) → Some x ≡ slice_get xs 0 → In x xs
 first_in [] x e = absurd cc
@@ -19,7 +19,7 @@ none_in [] e x h = h
 none_in (y ∷ xs) e x h = absurd cc
 
 -- the first of the successors is a step
-pub first_is_step : (old new : Held) → Grows old new → (n : ℕ) → n < length old.terms → (xs : List (Label × ℕ)) → AreSuccessors new n xs →
+pub first_is_step : (old new : TableView) → Grows old new → (n : ℕ) → n < length old.terms → (xs : List (Label × ℕ)) → AreSuccessors new n xs →
     (s : Label × ℕ) → Some s ≡ slice_get xs 0 → IsStep new n s
 first_is_step old new grows n lt xs answers s e =
     let stands = grows.terms n _ (slice_get-get_or old.terms n stop lt) in
@@ -27,22 +27,22 @@ first_is_step old new grows n lt xs answers s e =
     record { label = a.0; from = _; to = a.1.0; stands = stands; leads = a.1.1; derived = a.1.2 }
 
 -- a term without successors has no step
-pub none_is_dead : (old new : Held) → Grows old new → (n : ℕ) → n < length old.terms → (xs : List (Label × ℕ)) → AreSuccessors new n xs →
-    None ≡ slice_get xs 0 → IsDead new n
+pub none_is_dead : (old new : TableView) → Grows old new → (n : ℕ) → n < length old.terms → (xs : List (Label × ℕ)) → AreSuccessors new n xs →
+    None ≡ slice_get xs 0 → IsDeadlock new n
 none_is_dead old new grows n lt xs answers e =
     let stands = grows.terms n _ (slice_get-get_or old.terms n stop lt) in
     record { term = _; stands = stands; none = λ k t step. let a = answers.all _ stands k t step in none_in xs e (k, a.0) a.2 }
 
 -- a step leads to a number of the table
-pub leads_below : (held : Held) (n : ℕ) (s : Label × ℕ) → IsStep held n s → s.1 < length held.terms
+pub leads_below : (held : TableView) (n : ℕ) (s : Label × ℕ) → IsStep held n s → s.1 < length held.terms
 leads_below held n s step = slice_get_within held.terms s.1 step.to step.leads
 
-label_grows : (old new : Held) → Grows old new → (k : Label) → IsLabel old k → IsLabel new k
+label_grows : (old new : TableView) → Grows old new → (k : Label) → IsLabel old k → IsLabel new k
 label_grows old new grows l.Exit h = tt
 label_grows old new grows l.Internal h = tt
 label_grows old new grows (l.Gate g) h = subst (λ names. g < length names) (sym grows.names) h
 
-step_grows : (old new : Held) → Grows old new → (n : ℕ) (s : Label × ℕ) → IsStep old n s → IsStep new n s
+step_grows : (old new : TableView) → Grows old new → (n : ℕ) (s : Label × ℕ) → IsStep old n s → IsStep new n s
 step_grows old new grows n s step = record {
   label = label_grows old new grows s.0 step.label;
   from = step.from;
@@ -52,24 +52,24 @@ step_grows old new grows n s step = record {
   derived = subst (λ p. Step p step.from s.0 step.to) (sym grows.processes) step.derived;
 }
 
-run_same : (old new : Held) → Grows old new → (n : ℕ) (steps : List (Label × ℕ)) (m : ℕ) → RunTo old n steps m → RunTo new n steps m
+run_same : (old new : TableView) → Grows old new → (n : ℕ) (steps : List (Label × ℕ)) (m : ℕ) → RunTo old n steps m → RunTo new n steps m
 run_same old new grows n [] m e = e
 run_same old new grows n (s ∷ steps) m r = (step_grows old new grows n s r.0, run_same old new grows s.1 steps m r.1)
 
 -- a run from the start stays one where the table grows
-pub run_grows : (old new : Held) → Grows old new → (steps : List (Label × ℕ)) (m : ℕ) → RunTo old old.start steps m → RunTo new new.start steps m
+pub run_grows : (old new : TableView) → Grows old new → (steps : List (Label × ℕ)) (m : ℕ) → RunTo old old.start steps m → RunTo new new.start steps m
 run_grows old new grows steps m r = subst (λ n. RunTo new n steps m) (sym grows.start) (run_same old new grows old.start steps m r)
 
 -- one step more at its end
-pub run_push : (held : Held) (n : ℕ) (steps : List (Label × ℕ)) (m : ℕ) (s : Label × ℕ) → RunTo held n steps m → IsStep held m s →
+pub run_push : (held : TableView) (n : ℕ) (steps : List (Label × ℕ)) (m : ℕ) (s : Label × ℕ) → RunTo held n steps m → IsStep held m s →
     RunTo held n (steps ++ s ∷ []) s.1
 run_push held n [] m s e step = (subst (λ k. IsStep held k s) (sym e) step, refl)
 run_push held n (x ∷ steps) m s r step = (r.0, run_push held x.1 steps m s r.1 step)
 
-pub grows_same : (held : Held) → Grows held held
+pub grows_same : (held : TableView) → Grows held held
 grows_same held = record { names = refl; processes = refl; start = refl; terms = λ k t h. h }
 
-pub grows_then : (a b c : Held) → Grows a b → Grows b c → Grows a c
+pub grows_then : (a b c : TableView) → Grows a b → Grows b c → Grows a c
 grows_then a b c g h = record {
   names = h.names ∙ g.names;
   processes = h.processes ∙ g.processes;

@@ -1,4 +1,4 @@
-pub mod Matching
-pub mod Placing
-pub mod Resuming
-pub mod Walking
+pub mod PatternMatching
+pub mod FaultPositions
+pub mod ResumedListings
+pub mod TermRuns

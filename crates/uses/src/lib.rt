@@ -4,12 +4,12 @@
 //! definitions that the contracts cite stand in `specs/`.
 #![tactic(auto)]
 
-mod matching;
-mod placing;
-mod resuming;
-mod walk;
+mod fault_position;
+mod pattern_matching;
+mod resumed_listing;
+mod term_run;
 
-pub use matching::matches;
-pub use placing::{Judged, fault_place};
-pub use resuming::{ItemFault, item_behind, second_item};
-pub use walk::first_run;
+pub use fault_position::{Verdict, find_fault};
+pub use pattern_matching::matches;
+pub use resumed_listing::{ItemFault, item_after, second_item};
+pub use term_run::first_run;

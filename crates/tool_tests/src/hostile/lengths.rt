@@ -1,6 +1,6 @@
 //! Texts as long as they may be, longer by a byte, and without an end.
 
-use super::super::devices::{ArrayWriter, Blanks, SliceReader, run_on};
+use super::super::memory_devices::{ArrayWriter, Blanks, SliceReader, run_on};
 use super::{Answer, CHECK, NOTHING, SEARCH, expect, expect_refused};
 use lotos_text::TEXT_LIMIT;
 use std::alloc::{AllocError, Global};

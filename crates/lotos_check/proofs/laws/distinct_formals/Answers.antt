@@ -1,4 +1,4 @@
-use Rattle.lotos_check.proofs.TwiceNamed.{formals_distinct, process_distinct}
+use Rattle.lotos_check.proofs.DuplicateNames.{formals_distinct, process_distinct}
 use Rattle.lotos_check.proofs.laws.distinct_formals.Goals as goal
 
 pub returns : goal.returns

@@ -2,7 +2,7 @@ use Rattle.std.proofs.Common.{◌≡◌, Bool, true, false, sym}
 use Rattle.std.specs.Prelude.{MatchBool, not, ◌&&◌}
 use Rattle.std.specs.Str.{bytes_eq}
 use Rattle.std.proofs.lemmas.Slice.Eq.{bytes_eq-Decides}
-use Rattle.lotos_pattern.specs.Labels.{Label, internal}
+use Rattle.lotos_pattern.specs.PatternLabels.{Label, internal}
 use Rattle.lotos_pattern.specs.Patterns.{IsObservable}
 use Rattle.lotos_pattern.proofs.pattern.is_hidden.Goals as goal
 

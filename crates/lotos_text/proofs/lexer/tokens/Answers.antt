@@ -1,6 +1,6 @@
 use Rattle.std.proofs.Common.{◌+◌, arith, subst, sym}
-use Rattle.lotos_text.proofs.Cutting.{Reached, token_some, reached_start, reached_blank, reached_comment, reached_token, reached_end, stuck_at_byte, stuck_at_comment}
-use Rattle.lotos_text.proofs.Standing.{all_stand}
+use Rattle.lotos_text.proofs.LexingSteps.{Reached, token_some, reached_start, reached_blank, reached_comment, reached_token, reached_end, stuck_at_byte, stuck_at_comment}
+use Rattle.lotos_text.proofs.TokensInText.{all_stand}
 use Rattle.lotos_text.proofs.lexer.tokens.Goals as goal
 
 pub loop-at-init : goal.loop-at-init

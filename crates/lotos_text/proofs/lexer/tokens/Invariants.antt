@@ -1,5 +1,5 @@
 use Rattle.std.proofs.Common.{◌-◌, length}
-use Rattle.lotos_text.proofs.Cutting.{Reached}
+use Rattle.lotos_text.proofs.LexingSteps.{Reached}
 use Rattle.lotos_text.proofs.lexer.tokens.Given as goal
 
 -- up to the offset the text is cut into the tokens so far

@@ -1,31 +1,31 @@
 use Rattle.std.proofs.Common.{◌≤◌, List, ◌++◌, map, Some, length}
-use Rattle.lotos_text.specs.Cut.{AllLieIn}
-use Rattle.lotos_text.specs.Parsing.{Found}
-use Rattle.lotos_text.specs.Phrases.{Row}
-use Rattle.lotos_text.specs.Tree.{Def}
-use Rattle.lotos_text.specs.View.{row_of, definition_of}
+use Rattle.lotos_text.specs.Lexing.{AreTokensIn}
+use Rattle.lotos_text.specs.ParserContracts.{Parses}
+use Rattle.lotos_text.specs.Phrases.{DefinitionList}
+use Rattle.lotos_text.specs.AstView.{DefinitionView}
+use Rattle.lotos_text.specs.AstOf.{definition_list_view, definition_view}
 use Rattle.lotos_text.specs.declared.token.Token.{Token}
-use Rattle.lotos_text.proofs.Stops.{Carries}
+use Rattle.lotos_text.proofs.ParseErrors.{Carries}
 use Rattle.lotos_text.proofs.parser.+definitions.Given as goal
 
-abbrev pub decreases-contents : goal.decreases-contents
-decreases-contents l = length l.tokens.now
+abbrev pub decreases-parse_definition_rest : goal.decreases-parse_definition_rest
+decreases-parse_definition_rest l = length l.tokens.now
 
-abbrev pub decreases-inner : goal.decreases-inner
-decreases-inner l = length l.tokens.now
+abbrev pub decreases-parse_where : goal.decreases-parse_where
+decreases-parse_where l = length l.tokens.now
 
-abbrev pub decreases-row : goal.decreases-row
-decreases-row l = length l.tokens.now
+abbrev pub decreases-parse_definitions : goal.decreases-parse_definitions
+decreases-parse_definitions l = length l.tokens.now
 
 -- what is found or lost in the rest is found or lost in the whole
-abbrev pub invariant-row-loop-found : goal.invariant-row-loop-found
-invariant-row-loop-found l = record {
-  stand : AllLieIn l.text l.rest;
+abbrev pub invariant-parse_definitions-loop-found : goal.invariant-parse_definitions-loop-found
+invariant-parse_definitions-loop-found l = record {
+  stand : AreTokensIn l.text l.rest;
   left : length l.rest ≤ length l.fn.tokens;
-  finds : (ds : List Def) (behind : List Token) → Found (Row l.text (Some l.room)) l.rest (row_of ds) behind →
-      Found (Row l.text (Some l.room)) l.fn.tokens (row_of (map definition_of l.found.items ++ ds)) behind;
-  carries : Carries (Row l.text) l.room l.rest (Row l.text) l.room l.fn.tokens;
+  finds : (ds : List DefinitionView) (behind : List Token) → Parses (DefinitionList l.text (Some l.nesting_left)) l.rest (definition_list_view ds) behind →
+      Parses (DefinitionList l.text (Some l.nesting_left)) l.fn.tokens (definition_list_view (map definition_view l.found.items ++ ds)) behind;
+  carries : Carries (DefinitionList l.text) l.nesting_left l.rest (DefinitionList l.text) l.nesting_left l.fn.tokens;
 }
 
-abbrev pub decreases-row-loop-found : goal.decreases-row-loop-found
-decreases-row-loop-found l = length l.rest
+abbrev pub decreases-parse_definitions-loop-found : goal.decreases-parse_definitions-loop-found
+decreases-parse_definitions-loop-found l = length l.rest

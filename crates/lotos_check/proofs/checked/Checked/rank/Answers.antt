@@ -1,5 +1,5 @@
-use Rattle.lotos_check.specs.View.{system_of, ranks_of}
-use Rattle.lotos_check.proofs.Kept.{rank_read}
+use Rattle.lotos_check.specs.CheckedView.{system_of, ranks_of}
+use Rattle.lotos_check.proofs.CheckedInvariants.{rank_read}
 use Rattle.lotos_check.proofs.checked.Checked.rank.Goals as goal
 
 pub returns-clause-place : goal.returns-clause-place

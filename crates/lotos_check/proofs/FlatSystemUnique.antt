@@ -1,0 +1,173 @@
+-- A specification whose names are distinct has one flat system.
+use Rattle.std.proofs.Common.{◌≡◌, ℕ, ◌<◌, ◌⊎◌, List, [], ◌∷◌, refl, sym, ◌∙◌, subst, inl, inr, arith, Some, length, zero, suc}
+use Rattle.std.specs.Prelude.{slice_get}
+use Rattle.lotos_text.specs.AstView.{BehaviourView, DefinitionView, body_of}
+use Rattle.lotos_text.specs.declared.ast.Placed.{Placed}
+use Rattle.lotos_text.specs.declared.ast.Functionality.{Functionality}
+use Rattle.lotos_check.specs.NameLists.{Name, In, Below, IsAscendingNames, none, one, more, IsSetOf}
+use Rattle.lotos_check.specs.Scope.{Scope, Scoped, Binds, IsDistinctScope, processes_of, within}
+use Rattle.lotos_check.specs.StaticFaults.{IsDistinct}
+use Rattle.lotos_check.specs.Flat.{Flat, FlatProcess, System, Pairwise, no_pair, one_pair, IsProcess, IsFlat, Resolves, of_stop, of_exit, of_prefix, of_choice, of_par, of_par_all, of_hide, of_enable, of_disable, of_call}
+use Rattle.lotos_check.specs.Guard.{Calls, CallsUnguarded, itself, left_choice, right_choice, left_par, right_par, under_hide, left_enable, left_disable, right_disable}
+use Rattle.lotos_check.proofs.BindingUnique.{one_meant}
+use Rattle.lotos_check.proofs.ScopedDefinitions.{visible_distinct, meant_below}
+
+below_differ : (x y : Name) → Below x y → x ≡ y → ⊥
+below_differ [] [] h e = h
+below_differ [] (b ∷ y) h e = cc
+below_differ (a ∷ x) [] h e = h
+below_differ (a ∷ x) (b ∷ y) (inl h) e = let f : a ≡ b = cc in absurd (omega arith)
+below_differ (a ∷ x) (b ∷ y) (inr (f, h)) e = below_differ x y h (cc)
+
+not_below : (x : Name) → Below x x → ⊥
+not_below x h = below_differ x x h refl
+
+below_both : (x y z : Name) → Below x y → Below y z → Below x z
+below_both [] [] z h k = absurd h
+below_both [] (b ∷ y) [] h k = absurd k
+below_both [] (b ∷ y) (c ∷ z) h k = tt
+below_both (a ∷ x) [] z h k = absurd h
+below_both (a ∷ x) (b ∷ y) [] h k = absurd k
+below_both (a ∷ x) (b ∷ y) (c ∷ z) (inl h) (inl k) = inl (omega arith)
+below_both (a ∷ x) (b ∷ y) (c ∷ z) (inl h) (inr (f, k)) = inl (subst (λ n. a < n) f h)
+below_both (a ∷ x) (b ∷ y) (c ∷ z) (inr (e, h)) (inl k) = inl (subst (λ n. n < c) (sym e) k)
+below_both (a ∷ x) (b ∷ y) (c ∷ z) (inr (e, h)) (inr (f, k)) = inr (e ∙ f, below_both x y z h k)
+
+first_below : (x : Name) (xs : List Name) → IsAscendingNames (x ∷ xs) → (y : Name) → In y xs → Below x y
+first_below x [] a y i = absurd i
+first_below x (z ∷ zs) (more b a) y (inl e) = subst (Below x) e b
+first_below x (z ∷ zs) (more b a) y (inr i) = below_both x z y b (first_below z zs a y i)
+
+rest_ascends : (x : Name) (xs : List Name) → IsAscendingNames (x ∷ xs) → IsAscendingNames xs
+rest_ascends x [] one = none
+rest_ascends x (y ∷ ys) (more b a) = a
+
+same_first : (x y : Name) (xs ys : List Name) → IsAscendingNames (x ∷ xs) → IsAscendingNames (y ∷ ys) → (x ≡ y) ⊎ In y xs → (y ≡ x) ⊎ In x ys → x ≡ y
+same_first x y xs ys a b (inl e) j = e
+same_first x y xs ys a b (inr i) (inl e) = sym e
+same_first x y xs ys a b (inr i) (inr j) = absurd (not_below x (below_both x y x (first_below x xs a y i) (first_below y ys b x j)))
+
+in_rest : (x y n : Name) (xs ys : List Name) → IsAscendingNames (x ∷ xs) → x ≡ y → (In n (x ∷ xs) → In n (y ∷ ys)) → In n xs → In n ys
+in_rest x y n xs ys a e to i = elim (to (inr i)) [
+  | inl f ↦ absurd (not_below x (subst (Below x) (sym (e ∙ f)) (first_below x xs a n i)))
+  | inr j ↦ j
+]
+
+-- names in order without repeats are known by which they are
+pub one_set : (xs ys : List Name) → IsAscendingNames xs → IsAscendingNames ys → ((n : Name) → In n xs → In n ys) → ((n : Name) → In n ys → In n xs) → xs ≡ ys
+one_set [] [] a b to from = refl
+one_set [] (y ∷ ys) a b to from = absurd (from y (inl refl))
+one_set (x ∷ xs) [] a b to from = absurd (to x (inl refl))
+one_set (x ∷ xs) (y ∷ ys) a b to from =
+    let e = same_first x y xs ys a b (from y (inl refl)) (to x (inl refl)) in
+    let r = one_set xs ys (rest_ascends x xs a) (rest_ascends y ys b)
+    (λ n. in_rest x y n xs ys a e (to n)) (λ n. in_rest y x n ys xs b (sym e) (from n)) in
+    cc
+
+one_set_of : (xs ys : List Name) (list : List Placed) → IsSetOf xs list → IsSetOf ys list → xs ≡ ys
+one_set_of xs ys list h k =
+    one_set xs ys h.ascends k.ascends (λ n i. (k.same n).1 ((h.same n).0 i)) (λ n i. (h.same n).1 ((k.same n).0 i))
+
+-- a behaviour has one flat form where names have one meaning
+pub one_flat : (scope : Scope) → IsDistinctScope scope → (t : BehaviourView) (c e : Flat) → Resolves scope t c → Resolves scope t e → c ≡ e
+one_flat scope distinct t c e of_stop of_stop = refl
+one_flat scope distinct t c e of_exit of_exit = refl
+one_flat scope distinct t c e (of_prefix x) (of_prefix y) = let a = one_flat scope distinct _ _ _ x y in cc
+one_flat scope distinct t c e (of_choice x u) (of_choice y v) =
+    let a = one_flat scope distinct _ _ _ x y in let b = one_flat scope distinct _ _ _ u v in cc
+one_flat scope distinct t c e (of_par {gs = gs} {names = names} x s u) (of_par {names = other} y r v) =
+    let a = one_flat scope distinct _ _ _ x y in let b = one_flat scope distinct _ _ _ u v in let d = one_set_of names other gs s r in cc
+one_flat scope distinct t c e (of_par_all x u) (of_par_all y v) =
+    let a = one_flat scope distinct _ _ _ x y in let b = one_flat scope distinct _ _ _ u v in cc
+one_flat scope distinct t c e (of_hide {gs = gs} {names = names} s x) (of_hide {names = other} r y) =
+    let a = one_flat scope distinct _ _ _ x y in let d = one_set_of names other gs s r in cc
+one_flat scope distinct t c e (of_enable x u) (of_enable y v) =
+    let a = one_flat scope distinct _ _ _ x y in let b = one_flat scope distinct _ _ _ u v in cc
+one_flat scope distinct t c e (of_disable x u) (of_disable y v) =
+    let a = one_flat scope distinct _ _ _ x y in let b = one_flat scope distinct _ _ _ u v in cc
+one_flat scope distinct t c e (of_call {p = p} {k = i} {d = d} x) (of_call {k = j} {d = f} y) =
+    let a = (one_meant scope distinct p.name i j d f x y).0 in cc
+
+same_parts : (n m : Name) (f g : List Name) (x y : Functionality) (b c : Flat) → n ≡ m → f ≡ g → x ≡ y → b ≡ c →
+    ◌≡◌ {A = FlatProcess} (record { name = n; formals = f; functionality = x; body = b }) (record { name = m; formals = g; functionality = y; body = c })
+same_parts n m f g x y b c e h k l = rw (e, h, k, l) refl
+
+one_process : (v : Scoped) → IsDistinctScope v.scope → (p q : FlatProcess) → IsProcess v p → IsProcess v q → p ≡ q
+one_process v distinct p q h k =
+    let n : p.name ≡ q.name = h.name ∙ sym k.name in
+    let f : p.formals ≡ q.formals = h.formals ∙ sym k.formals in
+    let g : p.functionality ≡ q.functionality = h.functionality ∙ sym k.functionality in
+    let b : p.body ≡ q.body = one_flat v.scope distinct (body_of v.definition) p.body q.body h.body k.body in
+    same_parts p.name q.name p.formals q.formals p.functionality q.functionality p.body q.body n f g b
+
+one_processes : (vs : List Scoped) → ((v : Scoped) → In v vs → IsDistinctScope v.scope) → (ps qs : List FlatProcess) →
+    Pairwise IsProcess vs ps → Pairwise IsProcess vs qs → ps ≡ qs
+one_processes [] distinct [] [] no_pair no_pair = refl
+one_processes (v ∷ vs) distinct (p ∷ ps) (q ∷ qs) (one_pair h hs) (one_pair k ks) =
+    let a = one_process v (distinct v (inl refl)) p q h k in
+    let b = one_processes vs (λ w i. distinct w (inr i)) ps qs hs ks in
+    cc
+one_processes [] distinct (p ∷ ps) qs h k = elim h [ ]
+one_processes [] distinct [] (q ∷ qs) h k = elim k [ ]
+one_processes (v ∷ vs) distinct [] qs h k = elim h [ ]
+one_processes (v ∷ vs) distinct (p ∷ ps) [] h k = elim k [ ]
+
+-- the processes of a specification's flat systems are the same
+pub same_processes : (whole : DefinitionView) (s r : System) → IsDistinct whole → IsFlat whole s → IsFlat whole r → s.processes ≡ r.processes
+same_processes whole s r distinct h k =
+    one_processes (processes_of whole) (λ v i. visible_distinct whole distinct v (inr i)) s.processes r.processes h.processes k.processes
+
+same_system : (f g : List Name) (b c : Flat) (ps qs : List FlatProcess) → f ≡ g → b ≡ c → ps ≡ qs →
+    ◌≡◌ {A = System} (record { formals = f; start = b; processes = ps }) (record { formals = g; start = c; processes = qs })
+same_system f g b c ps qs e h k = rw (e, h, k) refl
+
+-- a specification has one flat system
+pub one_system : (whole : DefinitionView) (s r : System) → IsDistinct whole → IsFlat whole s → IsFlat whole r → s ≡ r
+one_system whole s r distinct h k =
+    let f : s.formals ≡ r.formals = h.formals ∙ sym k.formals in
+    let b : s.start ≡ r.start = one_flat (within whole 0 [])
+    (visible_distinct whole distinct (record { scope = within whole 0 []; definition = whole }) (inl refl))
+    (body_of whole) s.start r.start h.start k.start in
+    same_system s.formals r.formals s.start r.start s.processes r.processes f b (same_processes whole s r distinct h k)
+
+-- an unguarded call goes to a process whose number a name means
+called_meant : (scope : Scope) (t : BehaviourView) (c : Flat) (q : ℕ) → Resolves scope t c → CallsUnguarded c q → (n : Name) × (d : DefinitionView) × Binds scope n q d
+called_meant scope t c q (of_call {p = p} {d = d} m) itself = (p.name, d, m)
+called_meant scope t c q (of_choice x y) (left_choice h) = called_meant scope _ _ q x h
+called_meant scope t c q (of_choice x y) (right_choice h) = called_meant scope _ _ q y h
+called_meant scope t c q (of_par x s y) (left_par h) = called_meant scope _ _ q x h
+called_meant scope t c q (of_par x s y) (right_par h) = called_meant scope _ _ q y h
+called_meant scope t c q (of_par_all x y) (left_par h) = called_meant scope _ _ q x h
+called_meant scope t c q (of_par_all x y) (right_par h) = called_meant scope _ _ q y h
+called_meant scope t c q (of_hide s x) (under_hide h) = called_meant scope _ _ q x h
+called_meant scope t c q (of_enable x y) (left_enable h) = called_meant scope _ _ q x h
+called_meant scope t c q (of_disable x y) (left_disable h) = called_meant scope _ _ q x h
+called_meant scope t c q (of_disable x y) (right_disable h) = called_meant scope _ _ q y h
+called_meant scope t c q of_stop h = elim h [ ]
+called_meant scope t c q of_exit h = elim h [ ]
+called_meant scope t c q (of_prefix x) h = elim h [ ]
+
+-- an item of the second of two lists has its pair
+pub paired_at : (vs : List Scoped) (ps : List FlatProcess) → Pairwise IsProcess vs ps → (i : ℕ) (p : FlatProcess) → slice_get ps i ≡ Some p →
+    (v : Scoped) × In v vs × IsProcess v p
+paired_at [] [] no_pair i p e = cc
+paired_at (v ∷ vs) (q ∷ ps) (one_pair h hs) zero p e = let f : q ≡ p = cc in (v, inl refl, subst (IsProcess v) f h)
+paired_at (v ∷ vs) (q ∷ ps) (one_pair h hs) (suc i) p e = let r = paired_at vs ps hs i p e in (r.0, inr r.1, r.2)
+paired_at [] (q ∷ ps) h i p e = elim h [ ]
+paired_at (v ∷ vs) [] h i p e = elim h [ ]
+
+-- two lists item by item have one length
+pub paired_length : {X Y : Type 0} {P : X → Y → Type 0} (xs : List X) (ys : List Y) → Pairwise P xs ys → length xs ≡ length ys
+paired_length [] [] no_pair = refl
+paired_length (x ∷ xs) (y ∷ ys) (one_pair h hs) = let r = paired_length xs ys hs in omega arith
+paired_length [] (y ∷ ys) h = elim h [ ]
+paired_length (x ∷ xs) [] h = elim h [ ]
+
+-- every unguarded call of a flat system goes to one of its processes
+pub calls_within : (whole : DefinitionView) (s : System) → IsFlat whole s → (p q : ℕ) → Calls s.processes p q → q < length s.processes
+calls_within whole s flat p q h =
+    let at = paired_at (processes_of whole) s.processes flat.processes p h.process h.stands in
+    let m = called_meant at.0.scope (body_of at.0.definition) h.process.body q at.2.body h.calls in
+    let b = meant_below whole at.0 (inr at.1) m.0 q m.1 m.2 in
+    let l = paired_length (processes_of whole) s.processes flat.processes in
+    omega arith

@@ -1,0 +1,49 @@
+use Rattle.std.proofs.Common.{◌<◌, ◌≤◌, length, arith, refl}
+use Rattle.std.proofs.lemmas.List.{drop_all}
+use Rattle.lotos_text.specs.AstOf.{definition_view}
+use Rattle.lotos_check.specs.Acceptance.{IsDuplicateFault}
+use Rattle.lotos_check.proofs.SameFault.{passed_on}
+use Rattle.lotos_check.proofs.VisibleNames.{from_place}
+use Rattle.lotos_check.proofs.PassedDefinitions.{passed_none, passed_more, passed_again, passed_inside, passed_all, gate_again}
+use Rattle.lotos_check.proofs.duplicates.+check_distinct.Goals as goal
+
+pub returns-in-Some-clause-repeat : goal.returns-in-Some-clause-repeat
+returns-in-Some-clause-repeat t c = gate_again c.args.whole.now c.in-Some.gate c.as_slice.result.now c.as_slice.ensures.value
+    (rw c.in-Some.is at c.in_ok-gate.ensures)
+
+pub loop-inner-init : goal.loop-inner-init
+loop-inner-init t c = passed_none (λ k. k.now) c.new-names.result.keys c.deref-inner-items.result.now c.new-names.ensures.empty
+
+pub returns-then-not-branch-clause-repeat : goal.returns-then-not-branch-clause-repeat
+returns-then-not-branch-clause-repeat t c =
+    let within : c.loop-inner.inner-index < length c.deref-inner-items.result.now = omega arith in
+    let next = from_place c.deref-inner-items.result.now c.loop-inner.inner-index _ c.inner-item.result within c.inner-item.is in
+    passed_again (λ k. k.now)
+    c.loop-inner.names.keys c.insert.new.self.keys c.text.result c.deref-inner-items.result.now _ _ c.inner-item.result c.text.result.now
+    c.loop-inner.invariant next c.text.ensures.bytes _ c.in_ok-insert.ensures.added c.args.whole.now c.deref-inner-items.ensures.value _ c.in_ok-copy_placed.ensures c.if-not-branch.true
+
+pub returns-in_err-check_distinct-clause-repeat : goal.returns-in_err-check_distinct-clause-repeat
+returns-in_err-check_distinct-clause-repeat t c =
+    let within : c.loop-inner.inner-index < length c.deref-inner-items.result.now = omega arith in
+    let next = from_place c.deref-inner-items.result.now c.loop-inner.inner-index _ c.inner-item.result within c.inner-item.is in
+    passed_on (IsDuplicateFault (definition_view c.args.whole.now))
+    c.from_residual-in_err-check_distinct.result c.in_err-check_distinct.field-0.0 c.from_residual-in_err-check_distinct.ensures.1
+    (passed_inside (λ k. k.now)
+    c.loop-inner.names.keys c.insert.new.self.keys c.text.result c.deref-inner-items.result.now _ _ c.inner-item.result c.text.result.now
+    c.loop-inner.invariant next c.text.ensures.bytes _ c.in_ok-insert.ensures.added c.args.whole.now c.deref-inner-items.ensures.value
+    c.in_err-check_distinct.field-0.0 c.in_err-check_distinct.ensures.repeat)
+
+pub loop-inner-preserved : goal.loop-inner-preserved
+loop-inner-preserved t c =
+    let within : c.loop-inner.inner-index < length c.deref-inner-items.result.now = omega arith in
+    let next = from_place c.deref-inner-items.result.now c.loop-inner.inner-index _ c.inner-item.result within c.inner-item.is in
+    passed_more (λ k. k.now)
+    c.loop-inner.names.keys c.insert.new.self.keys c.text.result c.deref-inner-items.result.now _ _ c.inner-item.result c.text.result.now
+    c.loop-inner.invariant next c.text.ensures.bytes _ c.in_ok-insert.ensures.added c.if-not-branch.false refl c.in_ok-insert.ensures.keys c.in_ok-check_distinct.ensures.distinct
+
+pub returns-clause-distinct : goal.returns-clause-distinct
+returns-clause-distinct t c =
+    let done : length c.deref-inner-items.result.now ≤ c.loop-inner.inner-index = omega arith in
+    passed_all (λ k. k.now) _ c.deref-inner-items.result.now _ c.args.whole.now c.as_slice.result.now c.loop-inner.invariant
+    (drop_all c.loop-inner.inner-index c.deref-inner-items.result.now done)
+    c.deref-inner-items.ensures.value c.as_slice.ensures.value (rw c.in_default.is at c.in_ok-gate.ensures)

@@ -1,9 +1,0 @@
-use Rattle.std.proofs.Common.{map, length, ◌-◌}
-use Rattle.lotos_check.specs.Guarding.{Ordered}
-use Rattle.lotos_check.proofs.guard.number.Given as goal
-
-abbrev pub invariant-loop-next : goal.invariant-loop-next
-invariant-loop-next l = Ordered (map (λ v. v.items) l.edges) l.ranks l.next
-
-abbrev pub decreases-loop-next : goal.decreases-loop-next
-decreases-loop-next l = length l.edges - l.next

@@ -1,5 +1,0 @@
-use Rattle.std.proofs.Common.{◌≡◌, ◌++◌, map, drop, Some}
-use Rattle.lotos_check.proofs.guard.numbers_of.Given as goal
-
-abbrev pub invariant-loop-rank : goal.invariant-loop-rank
-invariant-loop-rank l = map Some l.numbers.items ++ drop l.rank-index l.ranks ≡ l.ranks

@@ -1,8 +1,0 @@
-use Rattle.std.proofs.Common.{arith}
-use Rattle.lotos_check.proofs.Unnumbered.{places_end, are_waiting}
-use Rattle.lotos_check.proofs.guard.waiting_of.Goals as goal
-
-pub returns : goal.returns
-returns c = are_waiting c.loop-rank.waiting.items c.args.ranks.now
-    (places_end c.loop-rank.waiting.items c.loop-rank.rank-index c.args.ranks.now
-    (omega (arith, c.loop-rank-test.false)) c.loop-rank.invariant.rest)

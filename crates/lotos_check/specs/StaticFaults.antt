@@ -1,0 +1,94 @@
+-- Why a specification is refused: each cause with the placed name, or the offset, at which it stands.
+use Rattle.std.specs.Prelude.{◌≡◌, ◌≢◌, ℕ, List, length}
+use Rattle.lotos_text.specs.AstView.{BehaviourView, call, enable, DefinitionView, name_of, formals_of, declared_of, body_of, inner_of}
+use Rattle.lotos_text.specs.declared.ast.Placed.{Placed}
+use Rattle.lotos_text.specs.declared.ast.Functionality.{Functionality}
+use Rattle.lotos_text.specs.declared.ast.Functionality.TheVariants.{NoExit}
+use Rattle.lotos_check.specs.NameLists.{Name, In, texts, IsDuplicate}
+use Rattle.lotos_check.specs.Scope.{Scope, IsDefinition, Binds, declared_names}
+use Rattle.lotos_check.specs.Subexpressions.{IsSubexpression, UsesGate}
+use Rattle.lotos_check.specs.Functionality.{Func}
+
+-- in the body of a definition stands this part, in which these processes are visible and these gates may be used
+pub record Occurs (whole : DefinitionView) (scope : Scope) (known : List Name) (part : BehaviourView) : Type 0 where
+  pub definition : DefinitionView
+  pub stands : IsDefinition whole scope definition
+  pub inside : IsSubexpression (texts (formals_of definition)) (body_of definition) known part
+
+-- a formal gate stands twice in one list
+pub record IsE20 (whole : DefinitionView) (gate : Placed) : Type 0 where
+  pub scope : Scope
+  pub definition : DefinitionView
+  pub stands : IsDefinition whole scope definition
+  pub second : IsDuplicate gate (formals_of definition)
+
+-- a gate is not declared where it is used
+pub record IsE21 (whole : DefinitionView) (gate : Placed) : Type 0 where
+  pub scope : Scope
+  pub known : List Name
+  pub part : BehaviourView
+  pub occurs : Occurs whole scope known part
+  pub uses : UsesGate part gate
+  pub unknown : In gate.name known → ⊥
+
+-- no process of that name is visible
+pub record IsE22 (whole : DefinitionView) (name : Placed) : Type 0 where
+  pub scope : Scope
+  pub known : List Name
+  pub actuals : List Placed
+  pub occurs : Occurs whole scope known (call name actuals)
+  pub unknown : (k : ℕ) (d : DefinitionView) → Binds scope name.name k d → ⊥
+
+-- a call has another number of gates than the definition
+pub record IsE23 (whole : DefinitionView) (name : Placed) (formal actual : ℕ) : Type 0 where
+  pub scope : Scope
+  pub known : List Name
+  pub actuals : List Placed
+  pub process : ℕ
+  pub definition : DefinitionView
+  pub occurs : Occurs whole scope known (call name actuals)
+  pub means : Binds scope name.name process definition
+  pub declared : formal ≡ length (formals_of definition)
+  pub given : actual ≡ length actuals
+  pub differ : formal ≢ actual
+
+-- one `where` declares a process name twice
+pub record IsE24 (whole : DefinitionView) (name : Placed) : Type 0 where
+  pub scope : Scope
+  pub definition : DefinitionView
+  pub stands : IsDefinition whole scope definition
+  pub second : IsDuplicate name (declared_names (inner_of definition))
+
+-- the declared functionality differs from the body's
+pub record IsE25 (whole : DefinitionView) (name : Placed) (declared : Functionality) : Type 0 where
+  pub scope : Scope
+  pub definition : DefinitionView
+  pub other : Functionality
+  pub stands : IsDefinition whole scope definition
+  pub named : name ≡ name_of definition
+  pub says : declared ≡ declared_of definition
+  pub has : Func scope (body_of definition) other
+  pub differ : other ≢ declared
+
+-- the left operand of `>>` has noexit
+pub record IsE26 (whole : DefinitionView) (at : ℕ) : Type 0 where
+  pub scope : Scope
+  pub known : List Name
+  pub left : BehaviourView
+  pub right : BehaviourView
+  pub occurs : Occurs whole scope known (enable left at right)
+  pub never_exits : Func scope left NoExit
+
+-- formal gates and process names are distinct, each in its list
+pub record IsDistinct (whole : DefinitionView) : Type 0 where
+  pub gates : (p : Placed) → IsE20 whole p → ⊥
+  pub processes : (p : Placed) → IsE24 whole p → ⊥
+
+-- the static rules, guardedness apart: none of the causes stands
+pub record WellTyped (whole : DefinitionView) : Type 0 where
+  pub distinct : IsDistinct whole
+  pub known_gates : (p : Placed) → IsE21 whole p → ⊥
+  pub known_processes : (p : Placed) → IsE22 whole p → ⊥
+  pub same_numbers : (p : Placed) (formal actual : ℕ) → IsE23 whole p formal actual → ⊥
+  pub as_declared : (p : Placed) (f : Functionality) → IsE25 whole p f → ⊥
+  pub left_exits : (at : ℕ) → IsE26 whole at → ⊥

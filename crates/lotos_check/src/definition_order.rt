@@ -1,0 +1,22 @@
+//! All definitions of a specification, in the order of the text.
+ghost use Rattle.std.specs.Prelude.{◌≡◌, ◌++◌, OnOk, map};
+ghost use Rattle.lotos_text.specs.AstOf.{definition_view};
+ghost use Rattle.lotos_check.specs.Scope.{definitions_in};
+
+use lotos_text::Definition;
+use std::alloc::AllocError;
+
+/// Adds a definition, and behind it all that stand inside, each followed at once by its inner ones.
+pub(crate) fn add_definitions<'a>(
+    of: &'a Definition,
+    into: &mut Vec<&'a Definition>,
+) -> Result<(), AllocError>
+    ensures { OnOk result (map (λ d. definition_view d.now) into.new.items
+        ≡ map (λ d. definition_view d.now) into.old.items ++ definitions_in (definition_view of.now)) }
+{
+    into.push(of)?;
+    for inner in &of.inner {
+        add_definitions(inner, into)?;
+    }
+    Ok(())
+}

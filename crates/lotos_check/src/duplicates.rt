@@ -1,0 +1,43 @@
+//! Formal gates and process names that are declared twice.
+ghost use Rattle.std.specs.Prelude.{◌≡◌, IfOk, IfErr, Option, MatchOption};
+ghost use Rattle.lotos_text.specs.AstOf.{definition_view};
+ghost use Rattle.lotos_check.specs.NameLists.{AreDistinct, IsDuplicate};
+ghost use Rattle.lotos_check.specs.StaticFaults.{IsDistinct};
+ghost use Rattle.lotos_check.specs.Acceptance.{IsDuplicateFault};
+
+use crate::fault::{CheckFault, copy_placed};
+use indexmap::IndexSet;
+use lotos_text::{Definition, Placed};
+use std::alloc::{AllocError, Global};
+
+/// Refuses a name that is declared twice, the first in the order of the text: with E20 a formal gate of one list, with E24 a
+/// process of one `where`.
+pub(crate) fn check_distinct(alloc: Global, whole: &Definition) -> Result<(), CheckFault>
+    ensures distinct { IfOk result (λ _. IsDistinct (definition_view whole.now)) }
+    ensures repeat { IfErr result (IsDuplicateFault (definition_view whole.now)) }
+{
+    if let Some(gate) = first_repeated(alloc, whole.formals.as_slice())? {
+        return Err(CheckFault::E20(gate));
+    }
+    let mut names: IndexSet<&str> = IndexSet::new(alloc);
+    for inner in &whole.inner {
+        if !names.insert(inner.name.name.text())? {
+            return Err(CheckFault::E24(copy_placed(alloc, &inner.name)?));
+        }
+        check_distinct(alloc, inner)?;
+    }
+    Ok(())
+}
+
+/// The first name that stands behind one of the same text.
+fn first_repeated(alloc: Global, names: &[Placed]) -> Result<Option<Placed>, AllocError>
+    ensures { IfOk result (λ r. MatchOption r (AreDistinct names.now) (λ p. IsDuplicate p names.now)) }
+{
+    let mut seen: IndexSet<&str> = IndexSet::new(alloc);
+    for placed in names {
+        if !seen.insert(placed.name.text())? {
+            return Ok(Some(copy_placed(alloc, placed)?));
+        }
+    }
+    Ok(None)
+}

@@ -1,0 +1,49 @@
+//! The gates that may be used at a place of a body: the formal ones, and those hidden around the place.
+//!
+//! A set keeps its names in the order in which they came. So the names that a hide form adds stand behind those that were
+//! known before, and the set is cut back to these where the form ends.
+ghost use Rattle.std.specs.Prelude.{◌≡◌, ◌++◌, ◌↔◌, ◌≤◌, List, OnOk, IfOk, IfErr, IsTrue, length, take};
+ghost use Rattle.lotos_text.specs.declared.ast.Placed.{Placed as AnyPlaced};
+ghost use Rattle.lotos_check.specs.NameLists.{In, Name, texts};
+ghost use Rattle.lotos_check.specs.ProcessScopes.{HasNames};
+ghost use Rattle.lotos_check.specs.Resolution.{IsUndeclaredGate};
+
+use crate::fault::{CheckFault, copy_placed};
+use indexmap::IndexSet;
+use lotos_text::Placed;
+use std::alloc::{AllocError, Global};
+
+/// Adds the gates of a list behind those that are known.
+pub(crate) fn add_gates<'a>(
+    scope: &mut IndexSet<&'a str>,
+    gates: &'a [Placed],
+) -> Result<(), AllocError>
+    ensures added { OnOk result ((names : List Name) → HasNames (λ k. k.now) scope.old.keys names →
+        HasNames (λ k. k.now) scope.new.keys (texts gates.now ++ names)) }
+    ensures before { OnOk result (take (length scope.old.keys) scope.new.keys ≡ scope.old.keys) }
+{
+    for gate in gates {
+        scope.insert(gate.name.text())?;
+    }
+    Ok(())
+}
+
+/// Refuses the first of the gates that is not known, with E21.
+pub(crate) fn check_declared(
+    alloc: Global,
+    scope: &IndexSet<&str>,
+    gates: &[Placed],
+) -> Result<(), CheckFault>
+    ensures declared { IfOk result (λ _. (names : List Name) →
+        HasNames (λ k. k.now) scope.now.keys names → (g : AnyPlaced) → In g gates.now →
+        In g.name names) }
+    ensures undeclared { IfErr result (λ fault. (names : List Name) →
+        HasNames (λ k. k.now) scope.now.keys names → IsUndeclaredGate names gates.now fault) }
+{
+    for gate in gates {
+        if !scope.contains(gate.name.text()) {
+            return Err(CheckFault::E21(copy_placed(alloc, gate)?));
+        }
+    }
+    Ok(())
+}

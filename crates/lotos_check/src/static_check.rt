@@ -1,0 +1,123 @@
+//! What the passes over a specification find together.
+ghost use Rattle.std.specs.Prelude.{◌≡◌, ◌<◌, ◌∷◌, [], ℕ, List, Some, IfErr, IfOk, length, map, slice_get, suc};
+ghost use Rattle.lotos_text.specs.AstView.{DefinitionView, formals_of, inner_of, name_of};
+ghost use Rattle.lotos_text.specs.OffsetsInside.{IsInside};
+ghost use Rattle.lotos_text.specs.AstOf.{definition_view};
+ghost use Rattle.lotos_text.specs.declared.ast.Placed.{Placed as AnyPlaced};
+ghost use Rattle.lotos_check.specs.NameLists.{Name as AnyName, texts};
+ghost use Rattle.lotos_check.specs.Scope.{definitions_in, all_definitions, row_in};
+ghost use Rattle.lotos_check.specs.StaticFaults.{IsDistinct, WellTyped};
+ghost use Rattle.lotos_check.specs.Flat.{IsFlat, Pairwise, System};
+ghost use Rattle.lotos_check.specs.Guard.{IsE27, IsLargestUnguardedSet};
+ghost use Rattle.lotos_check.specs.Acceptance.{AreRanks, IsAccepted, IsStaticFault, IsFlattened, IsNotAccepted, IsDuplicateFault};
+ghost use Rattle.lotos_check.specs.FaultOffsets.{IsOffsetWithin};
+ghost use Rattle.lotos_check.specs.Resolution.{AddsBodies, IsNameFaultIn};
+ghost use Rattle.lotos_check.specs.FunctionalityRules.{HasDeclaredFunctionality, IsFunctionalityFaultIn};
+ghost use Rattle.lotos_check.specs.CheckedView.{flat_of, process_of, ranks_of, system_of};
+ghost use Rattle.lotos_check.specs.declared.resolution.ResolvedBody.{ResolvedBody as AnyResolved};
+ghost use Rattle.lotos_check.specs.declared.resolved.Code.{Code as AnyCode};
+ghost use Rattle.lotos_check.specs.declared.resolved.Process.{Process as AnyProcess};
+ghost use Rattle.lotos_check.specs.declared.fault.CheckFault.{CheckFault as AnyFault};
+
+use crate::body_walk::resolve_bodies;
+use crate::checked::Checked;
+use crate::definition_order::add_definitions;
+use crate::duplicates::check_distinct;
+use crate::fault::{CheckFault, copy_placed};
+use crate::functionality_check::check_functionality;
+use crate::guardedness::{Ranking, rank_processes};
+use crate::resolution::{ResolvedBody, copy_names};
+use crate::resolved::{Code, Process};
+use lotos_text::{Definition, Specification};
+use std::alloc::{AllocError, Global};
+
+/// Checks the static rules of a specification, and answers it with its processes numbered and its calls by number.
+///
+/// Four passes are made, and the first that finds a fault answers the one that stands first in the text: E20 and E24; E21 to
+/// E23; E25 and E26; E27. Answers E99 where a growth of the heap was refused.
+pub fn check(alloc: Global, tree: Specification) -> Result<Checked, CheckFault>
+    ensures faulty { IfErr result (IsStaticFault (definition_view tree.whole)) }
+    ensures refused { IfErr result (IsNotAccepted (definition_view tree.whole)) }
+    ensures inside { IfErr result (λ fault. (n : ℕ) → IsInside n (definition_view tree.whole) →
+        IsOffsetWithin n fault) }
+    ensures accepted { IfOk result (λ c. IsAccepted (definition_view tree.whole) (system_of c)) }
+    ensures ranks { IfOk result (λ c. AreRanks (system_of c).processes (ranks_of c)) }
+{
+    check_distinct(alloc, &tree.whole)?;
+    let mut definitions = Vec::new(alloc);
+    add_definitions(&tree.whole, &mut definitions)?;
+    let mut tables = Vec::new(alloc);
+    let mut found = Vec::new(alloc);
+    resolve_bodies(alloc, &mut tables, &tree.whole, 0, &mut found)?;
+    check_functionality(alloc, definitions.as_slice(), found.as_slice())?;
+    let gates = copy_names(alloc, tree.whole.formals.as_slice())?;
+    let (start, processes) = flatten(alloc, definitions.as_slice(), found)?;
+    match rank_processes(alloc, processes.as_slice())? {
+        Ranking::Guarded(ranks) => Ok(Checked {
+            gates,
+            start,
+            processes,
+            ranks,
+        }),
+        Ranking::Unguarded(set) => Err(CheckFault::E27 {
+            name: copy_placed(alloc, &definitions[set[0] + 1].name)?,
+            set,
+        }),
+    }
+}
+
+/// What the passes find is what the static rules say: with no fault the specification is well typed and its code the flat
+/// system; each fault is one of the specification.
+pub(crate) fn passes_are_static_rules()
+    ensures typed { (whole : DefinitionView) (found : List AnyResolved) → IsDistinct whole →
+        AddsBodies (all_definitions whole) [] found → Pairwise HasDeclaredFunctionality (definitions_in whole) found →
+        WellTyped whole }
+    ensures flat { (whole : DefinitionView) (found : List AnyResolved) (formals : List AnyName)
+        (start : AnyCode) (processes : List AnyProcess) → AddsBodies (all_definitions whole) [] found →
+        IsFlattened (whole ∷ row_in (inner_of whole)) found start processes →
+        formals ≡ texts (formals_of whole) →
+        IsFlat whole (record { formals = formals; start = flat_of start; processes = map process_of processes }) }
+    ensures repeated { (whole : DefinitionView) (fault : AnyFault) → IsDuplicateFault whole fault →
+        IsStaticFault whole fault }
+    ensures name_fault { (whole : DefinitionView) (fault : AnyFault) → IsNameFaultIn (all_definitions whole) fault →
+        IsStaticFault whole fault }
+    ensures functionality_fault { (whole : DefinitionView) (found : List AnyResolved) (fault : AnyFault) →
+        AddsBodies (all_definitions whole) [] found → IsFunctionalityFaultIn (definitions_in whole) found fault →
+        IsStaticFault whole fault }
+    ensures unguarded { (whole : DefinitionView) (system : System) (set : List ℕ) (first : ℕ)
+        (others : List ℕ) (name : AnyPlaced) (d : DefinitionView) → IsFlat whole system →
+        IsLargestUnguardedSet system.processes set → set ≡ first ∷ others →
+        slice_get (definitions_in whole) (suc first) ≡ Some d → name ≡ name_of d →
+        IsE27 whole name set }
+{}
+
+/// The code of the first definition, which is the specification, and the others as processes.
+pub(crate) fn flatten(
+    alloc: Global,
+    definitions: &[&Definition],
+    found: Vec<ResolvedBody>,
+) -> Result<(Code, Vec<Process>), AllocError>
+    requires some { 0 < length found.items }
+    requires sized { length definitions.now ≡ length found.items }
+    ensures { IfOk result
+        (λ p. IsFlattened (map (λ d. definition_view d.now) definitions.now) found.items p.0 p.1.items) }
+{
+    let mut start = Code::Stop;
+    let mut processes = Vec::new(alloc);
+    let mut index = 0;
+    for one in found {
+        if index == 0 {
+            start = one.code;
+        } else {
+            let definition = definitions[index];
+            processes.push(Process {
+                name: definition.name.name.copy(alloc)?,
+                formals: copy_names(alloc, definition.formals.as_slice())?,
+                functionality: definition.functionality,
+                body: one.code,
+            })?;
+        }
+        index += 1;
+    }
+    Ok((start, processes))
+}

@@ -1,0 +1,32 @@
+-- Why words ask for nothing that can be done, by the kinds of the faults that clap finds in them.
+use Rattle.std.specs.Prelude.{◌≡◌, ◌≢◌, true, List, ⊤}
+use Rattle.clap.specs.Words.{IsAmong, Text, fault_of, takes}
+use Rattle.clap.specs.declared.error.kind.ErrorKind.{ErrorKind}
+use Rattle.clap.specs.declared.error.kind.ErrorKind.TheVariants as kind
+use Rattle.lotos_command.specs.CommandRules.{lotosseq}
+use Rattle.lotos_command.specs.declared.command.CommandFault.{CommandFault}
+use Rattle.lotos_command.specs.declared.command.CommandFault.TheVariants.{Help, Memory, Wrong}
+
+-- clap takes the words, as a request
+abbrev pub AreAccepted : List Text → Type 0
+AreAccepted words = takes lotosseq words ≡ true
+
+-- the words ask for help
+abbrev pub AskForHelp : List Text → Type 0
+AskForHelp words = IsAmong kind.DisplayHelp (fault_of lotosseq words)
+
+-- clap finds a fault in the words that is no question for help
+abbrev pub AreRejected : List Text → Type 0
+AreRejected words = (k : ErrorKind) × IsAmong k (fault_of lotosseq words) × (k ≢ kind.DisplayHelp)
+
+-- the words have this fault; memory may be wanting whatever they are
+abbrev pub IsFaultOf : List Text → CommandFault → Type 0
+IsFaultOf words (Help text) = AskForHelp words
+IsFaultOf words (Wrong text) = AreRejected words
+IsFaultOf words Memory = ⊤
+
+-- what a fault of clap's with this kind is to the command
+abbrev pub IsFaultOfKind : ErrorKind → CommandFault → Type 0
+IsFaultOfKind k (Help text) = k ≡ kind.DisplayHelp
+IsFaultOfKind k (Wrong text) = (k ≢ kind.DisplayHelp) × (k ≢ kind.OutOfMemory)
+IsFaultOfKind k Memory = ⊤

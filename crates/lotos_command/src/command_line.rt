@@ -1,0 +1,282 @@
+//! Reads the words of the command.
+ghost use Rattle.std.specs.Prelude.{◌≡◌, IfErr, IfOk, IfSome, IsSomeAnd, Some, true, false, map, [], codes, option_map, string_bytes, unwrap_or};
+ghost use Rattle.std.specs.Option.{option_map_or};
+ghost use Rattle.clap.specs.Words.{all_of, app_of, first_of, found_of, kind_of, new_app, one_of, rows_of, rule_of, subcommand_rows_of};
+ghost use Rattle.clap.specs.declared.builder.command.Command.TheViews.{out-Command as fields_of};
+ghost use Rattle.lotos_command.specs.CommandRules.{after_rule, check_app, depth_rule, explain_rule, limit_rule, lotosseq, search_app, strong_rule, terms_rule, words_rule};
+ghost use Rattle.lotos_command.specs.CommandFaults.{AreAccepted, IsFaultOfKind, IsFaultOf};
+ghost use Rattle.lotos_command.specs.EntryRules.{FitsRequest, FitsSearch, IsNumberIn, IsTruthText};
+ghost use Rattle.lotos_command.specs.Request.{HasBounds, HasSearchBounds, RequestOf, flag, number, request_from, request_view, search_from, search_view, texts_of};
+
+use crate::command::{CommandFault, Request, SearchRequest};
+use crate::help::{
+    ABOUT, AFTER_HELP, AFTER_LONG_HELP, CHECK_ABOUT, CHECK_LONG_ABOUT, CHECK_STATUSES, DEPTH_HELP,
+    DEPTH_LONG_HELP, EXPLAIN_HELP, EXPLAIN_LONG_HELP, LIMIT_HELP, LIMIT_LONG_HELP, LONG_ABOUT,
+    SEARCH_ABOUT, SEARCH_LONG_ABOUT, SEARCH_STATUSES, STATUSES, STRONG_HELP, STRONG_LONG_HELP,
+    TERMS_HELP, TERMS_LONG_HELP, WORDS_HELP, WORDS_LONG_HELP,
+};
+use clap::error::ErrorKind;
+use clap::{Arg, ArgAction, ArgMatches, Command, Error, value_parser};
+use std::alloc::{AllocError, Global};
+
+/// The most terms that a prefix may reach where the words do not say.
+const DEFAULT_TERMS: usize = 100_000;
+
+/// The request of the words, the program's own name first.
+///
+/// Words that ask for help are a fault too, and so are words that fit no command. Where memory is wanting the fault is
+/// [`CommandFault::Memory`], whatever the words are.
+pub fn request(alloc: Global, words: &[&str]) -> Result<Request, CommandFault>
+    ensures is { IfOk result (λ r. RequestOf (texts_of words.now) (request_view r)) }
+    ensures bounds { IfOk result HasBounds }
+    ensures fault { IfErr result (IsFaultOf (texts_of words.now)) }
+    ensures taken { IfErr result (λ e. AreAccepted (texts_of words.now) → e ≡ CommandFault.Memory) }
+{
+    match lotosseq_command(alloc)?.try_get_matches_from(words) {
+        Ok(found) => Ok(read_request(alloc, &found)?),
+        Err(error) => Err(command_fault(alloc, &error)),
+    }
+}
+
+// ---- the command line
+
+fn lotosseq_command<'a>(alloc: Global) -> Result<Command<'a>, AllocError>
+    ensures { IfOk result (λ c. app_of c ≡ lotosseq) }
+{
+    Command::new(alloc, "lotosseq")
+        .about(ABOUT)
+        .long_about(LONG_ABOUT)
+        .after_help(STATUSES)
+        .subcommand_required(true)
+        .subcommand(search_command(alloc)?)?
+        .subcommand(check_command(alloc))
+}
+
+fn search_command<'a>(alloc: Global) -> Result<Command<'a>, AllocError>
+    ensures app { IfOk result (λ c. app_of c ≡ search_app) }
+    ensures local { IfOk result (λ c. (fields_of c).has_globals ≡ false) }
+{
+    bare_search_command(alloc)
+        .arg(depth_arg(alloc))?
+        .arg(limit_arg(alloc))?
+        .arg(terms_arg(alloc))?
+        .arg(after_arg(alloc))?
+        .arg(explain_arg(alloc))?
+        .arg(strong_arg(alloc))?
+        .arg(words_arg(alloc))
+}
+
+fn bare_search_command<'a>(alloc: Global) -> Command<'a>
+    ensures app { app_of result ≡ new_app (codes "search") }
+    ensures local { (fields_of result).has_globals ≡ false }
+{
+    Command::new(alloc, "search")
+        .about(SEARCH_ABOUT)
+        .long_about(SEARCH_LONG_ABOUT)
+        .after_help(SEARCH_STATUSES)
+}
+
+fn check_command<'a>(alloc: Global) -> Command<'a>
+    ensures app { app_of result ≡ check_app }
+    ensures local { (fields_of result).has_globals ≡ false }
+{
+    Command::new(alloc, "check")
+        .about(CHECK_ABOUT)
+        .long_about(CHECK_LONG_ABOUT)
+        .after_help(CHECK_STATUSES)
+}
+
+fn depth_arg<'a>(alloc: Global) -> Arg<'a>
+    ensures rule { rule_of result ≡ depth_rule }
+    ensures local { result.global ≡ false }
+{
+    Arg::new(alloc, "depth")
+        .long("depth")
+        .required(true)
+        .action(ArgAction::Set)
+        .value_name("N")
+        .value_parser(value_parser!(u8))
+        .help(DEPTH_HELP)
+        .long_help(DEPTH_LONG_HELP)
+}
+
+fn limit_arg<'a>(alloc: Global) -> Arg<'a>
+    ensures rule { rule_of result ≡ limit_rule }
+    ensures local { result.global ≡ false }
+{
+    Arg::new(alloc, "limit")
+        .long("limit")
+        .action(ArgAction::Set)
+        .value_name("N")
+        .value_parser(value_parser!(u32).range(1..=1000000000))
+        .help(LIMIT_HELP)
+        .long_help(LIMIT_LONG_HELP)
+}
+
+fn terms_arg<'a>(alloc: Global) -> Arg<'a>
+    ensures rule { rule_of result ≡ terms_rule }
+    ensures local { result.global ≡ false }
+{
+    Arg::new(alloc, "terms")
+        .long("terms")
+        .action(ArgAction::Set)
+        .value_name("N")
+        .value_parser(value_parser!(usize).range(1..=1000000))
+        .default_value("100000")
+        .help(TERMS_HELP)
+        .long_help(TERMS_LONG_HELP)
+}
+
+fn after_arg<'a>(alloc: Global) -> Arg<'a>
+    ensures rule { rule_of result ≡ after_rule }
+    ensures local { result.global ≡ false }
+{
+    Arg::new(alloc, "after")
+        .long("after")
+        .action(ArgAction::Set)
+        .value_name("LINE")
+        .help(AFTER_HELP)
+        .long_help(AFTER_LONG_HELP)
+}
+
+fn explain_arg<'a>(alloc: Global) -> Arg<'a>
+    ensures rule { rule_of result ≡ explain_rule }
+    ensures local { result.global ≡ false }
+{
+    Arg::new(alloc, "explain")
+        .long("explain")
+        .action(ArgAction::SetTrue)
+        .help(EXPLAIN_HELP)
+        .long_help(EXPLAIN_LONG_HELP)
+}
+
+fn strong_arg<'a>(alloc: Global) -> Arg<'a>
+    ensures rule { rule_of result ≡ strong_rule }
+    ensures local { result.global ≡ false }
+{
+    Arg::new(alloc, "strong")
+        .long("strong")
+        .action(ArgAction::SetTrue)
+        .help(STRONG_HELP)
+        .long_help(STRONG_LONG_HELP)
+}
+
+fn words_arg<'a>(alloc: Global) -> Arg<'a>
+    ensures rule { rule_of result ≡ words_rule }
+    ensures local { result.global ≡ false }
+{
+    Arg::new(alloc, "words")
+        .action(ArgAction::Append)
+        .num_args(0..)
+        .value_name("WORD")
+        .help(WORDS_HELP)
+        .long_help(WORDS_LONG_HELP)
+}
+
+// ---- what was given
+
+fn read_request(alloc: Global, found: &ArgMatches<'_>) -> Result<Request, AllocError>
+    requires { FitsRequest (subcommand_rows_of found.now) }
+    ensures is { IfOk result (λ r. request_from (subcommand_rows_of found.now) ≡ Some (request_view r)) }
+    ensures bounds { IfOk result HasBounds }
+{
+    let (name, given) = found.subcommand().unwrap();
+    if name == "search" {
+        Ok(Request::Search(read_search_request(alloc, given)?))
+    } else {
+        Ok(Request::Check)
+    }
+}
+
+fn read_search_request(alloc: Global, found: &ArgMatches<'_>) -> Result<SearchRequest, AllocError>
+    requires { FitsSearch (rows_of (found_of found.now)) }
+    ensures is { IfOk result (λ r. search_from (rows_of (found_of found.now)) ≡ Some (search_view r)) }
+    ensures bounds { IfOk result HasSearchBounds }
+{
+    Ok(SearchRequest {
+        depth: read_depth(found),
+        limit: read_limit(found),
+        terms: read_terms(found),
+        after: read_after(alloc, found)?,
+        explain: read_explain(found),
+        strong: read_strong(found),
+        words: read_words(alloc, found)?,
+    })
+}
+
+fn read_depth(found: &ArgMatches<'_>) -> u8
+    requires { IsSomeAnd (one_of (codes "depth") (rows_of (found_of found.now))) (IsNumberIn 0 255) }
+    ensures { option_map number (one_of (codes "depth") (rows_of (found_of found.now))) ≡ Some result }
+{
+    found.get_one::<u8>("depth").unwrap()
+}
+
+fn read_limit(found: &ArgMatches<'_>) -> Option<u32>
+    requires { IfSome (one_of (codes "limit") (rows_of (found_of found.now))) (IsNumberIn 1 1000000000) }
+    ensures { result ≡ option_map number (one_of (codes "limit") (rows_of (found_of found.now))) }
+{
+    found.get_one::<u32>("limit")
+}
+
+fn read_terms(found: &ArgMatches<'_>) -> usize
+    requires { IfSome (one_of (codes "terms") (rows_of (found_of found.now))) (IsNumberIn 1 1000000) }
+    ensures { result ≡ option_map_or number (one_of (codes "terms") (rows_of (found_of found.now))) 100000 }
+{
+    found.get_one::<usize>("terms").unwrap_or(DEFAULT_TERMS)
+}
+
+fn read_after(alloc: Global, found: &ArgMatches<'_>) -> Result<Option<String>, AllocError>
+    ensures { IfOk result (λ after. option_map string_bytes after ≡ first_of (codes "after") (rows_of (found_of found.now))) }
+{
+    match found.get_str("after") {
+        Some(text) => Ok(Some(String::from_str(alloc, text)?)),
+        None => Ok(None),
+    }
+}
+
+fn read_explain(found: &ArgMatches<'_>) -> bool
+    requires { IfSome (one_of (codes "explain") (rows_of (found_of found.now))) IsTruthText }
+    ensures { result ≡ flag (codes "explain") (rows_of (found_of found.now)) }
+{
+    found.get_flag("explain")
+}
+
+fn read_strong(found: &ArgMatches<'_>) -> bool
+    requires { IfSome (one_of (codes "strong") (rows_of (found_of found.now))) IsTruthText }
+    ensures { result ≡ flag (codes "strong") (rows_of (found_of found.now)) }
+{
+    found.get_flag("strong")
+}
+
+fn read_words(alloc: Global, found: &ArgMatches<'_>) -> Result<Vec<String>, AllocError>
+    ensures { IfOk result (λ v. map string_bytes v.items ≡ unwrap_or (all_of (codes "words") (rows_of (found_of found.now))) []) }
+{
+    match found.get_raw("words") {
+        Some(texts) => copy_texts(alloc, texts),
+        None => Ok(Vec::new(alloc)),
+    }
+}
+
+fn copy_texts(alloc: Global, texts: &[&str]) -> Result<Vec<String>, AllocError>
+    ensures { IfOk result (λ v. map string_bytes v.items ≡ texts_of texts.now) }
+{
+    let mut all = Vec::new(alloc);
+    for text in texts {
+        all.push(String::from_str(alloc, text)?)?;
+    }
+    Ok(all)
+}
+
+fn command_fault(alloc: Global, error: &Error) -> CommandFault
+    ensures { IsFaultOfKind (kind_of error.now) result }
+{
+    let kind = error.kind();
+    if kind == ErrorKind::OutOfMemory {
+        return CommandFault::Memory;
+    }
+    match format!(in alloc; "{error}") {
+        Ok(text) if kind == ErrorKind::DisplayHelp => CommandFault::Help(text),
+        Ok(text) => CommandFault::Wrong(text),
+        Err(_) => CommandFault::Memory,
+    }
+}

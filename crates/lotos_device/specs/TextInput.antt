@@ -1,0 +1,25 @@
+-- What reading a whole text answers.
+use Rattle.std.specs.Prelude.{◌≡◌, ℕ, ◌≤◌, Bool, true, false, List, length, Option, Result, Err}
+use Rattle.std.specs.Io.KnownBytes.{Consumes, IsAtEnd}
+use Rattle.lotos_text.specs.Limits.{max_text_length}
+use Rattle.lotos_device.specs.declared.text_input.ReadFault.{ReadFault}
+use Rattle.lotos_device.specs.declared.text_input.ReadFault.TheVariants.{Device}
+
+-- the text is all that was left, and no longer than a text may be
+pub record ReadsAll (old new : Option (List ℕ)) (text : List ℕ) : Type 0 where
+  pub bytes : Consumes old new text
+  pub end : IsAtEnd new
+  pub within : length text ≤ max_text_length
+
+-- at most so many bytes were taken
+abbrev pub TakesAtMost : Option (List ℕ) → Option (List ℕ) → ℕ → Type 0
+TakesAtMost old new n = (taken : List ℕ) × (length taken ≤ n) × Consumes old new taken
+
+-- so many bytes were taken
+abbrev pub TakesExactly : Option (List ℕ) → Option (List ℕ) → ℕ → Type 0
+TakesExactly old new n = (taken : List ℕ) × (length taken ≡ n) × Consumes old new taken
+
+-- the reader failed
+abbrev pub is_device_fault : {T : Type 0} → Result T ReadFault → Bool
+is_device_fault (Err Device) = true
+is_device_fault _ = false

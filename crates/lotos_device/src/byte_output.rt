@@ -1,0 +1,21 @@
+//! Writes bytes whole.
+ghost use Rattle.std.specs.Prelude.{◌≡◌, false, OnOk, OnErr};
+ghost use Rattle.std.specs.Io.KnownBytes.{Appends};
+ghost use Rattle.lotos_device.specs.DeviceContracts.{SetsFailed};
+ghost use Rattle.lotos_device.specs.ByteOutput.{AppendsPart};
+
+use crate::device::{DeviceFailed, Sink};
+
+/// Writes all the bytes, piece by piece as the writer takes them.
+pub fn write_bytes<W: Sink>(writer: &mut W, bytes: &[u8]) -> Result<(), DeviceFailed>
+    requires { W.has_failed writer.old ≡ false }
+    ensures whole { OnOk result (Appends (W.got writer.old) (W.got writer.new) bytes.now) }
+    ensures part { OnErr result (AppendsPart (W.got writer.old) (W.got writer.new) bytes.now) }
+    ensures flag { SetsFailed (W.has_failed writer.old) (W.has_failed writer.new) result }
+{
+    let mut at = 0;
+    while at < bytes.len() {
+        at += writer.write(&bytes[at..])?;
+    }
+    Ok(())
+}

@@ -1,0 +1,60 @@
+//! Reads a whole text, and no more than a text may have.
+ghost use Rattle.std.specs.Prelude.{◌≡◌, ◌+◌, ◌≤◌, false, IfOk, IsErrOf};
+ghost use Rattle.lotos_text.specs.Limits.{max_text_length};
+ghost use Rattle.lotos_device.specs.TextInput.{ReadsAll, TakesAtMost, TakesExactly, is_device_fault};
+
+use crate::device::{DeviceFailed, Source};
+use lotos_text::TEXT_LIMIT;
+use std::alloc::{AllocError, Global};
+
+/// The most bytes that one read asks for.
+const CHUNK_SIZE: usize = 4096;
+
+/// Why a text could not be read.
+#[derive(Clone, Copy, Debug, PartialEq, Eq)]
+pub enum ReadFault {
+    Device,
+    TooLong,
+    Memory,
+}
+
+impl From<AllocError> for ReadFault {
+    ghost use Rattle.std.specs.Prelude.{◌≡◌};
+    ghost use Rattle.lotos_device.specs.declared.text_input.ReadFault.TheVariants.{Memory};
+
+    ghost from_gives = { λ _ e. e ≡ Memory };
+
+    fn from(_error: AllocError) -> ReadFault {
+        ReadFault::Memory
+    }
+}
+
+/// Reads all that the reader has left. One byte more than a text may have is the most that is taken, whatever the reader gives,
+/// and is too long.
+pub fn read_text<R: Source>(alloc: Global, reader: &mut R) -> Result<Vec<u8>, ReadFault>
+    requires { R.has_failed reader.old ≡ false }
+    ensures whole { IfOk result (λ text. ReadsAll (R.left reader.old) (R.left reader.new) text.items) }
+    ensures given { R.given reader.new ≤ R.given reader.old + (max_text_length + 1) }
+    ensures failed { R.has_failed reader.new ≡ is_device_fault result }
+    ensures too_long { IsErrOf result ReadFault.TooLong →
+        TakesExactly (R.left reader.old) (R.left reader.new) (max_text_length + 1) }
+    ensures memory { IsErrOf result ReadFault.Memory →
+        TakesAtMost (R.left reader.old) (R.left reader.new) (max_text_length + 1) }
+    ensures device { IsErrOf result ReadFault.Device →
+        TakesAtMost (R.left reader.old) (R.left reader.new) max_text_length }
+{
+    let mut text = Vec::new(alloc);
+    let mut piece = [0; CHUNK_SIZE];
+    loop {
+        let room = CHUNK_SIZE.min(TEXT_LIMIT + 1 - text.len());
+        let count = match reader.read(&mut piece[..room]) {
+            Ok(0) => return Ok(text),
+            Ok(count) => count,
+            Err(DeviceFailed) => return Err(ReadFault::Device),
+        };
+        text.extend_from_slice(&piece[..count])?;
+        if text.len() > TEXT_LIMIT {
+            return Err(ReadFault::TooLong);
+        }
+    }
+}

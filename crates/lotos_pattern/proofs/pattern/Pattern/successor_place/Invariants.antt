@@ -1,0 +1,9 @@
+use Rattle.std.proofs.Common.{◌-◌, length}
+use Rattle.lotos_pattern.proofs.PlaceTransitions.{IsPassing}
+use Rattle.lotos_pattern.proofs.pattern.Pattern.successor_place.Given as goal
+
+abbrev pub invariant-loop-state : goal.invariant-loop-state
+invariant-loop-state l = IsPassing l.self.elements l.place l.label l.state l.next
+
+abbrev pub decreases-loop-state : goal.decreases-loop-state
+decreases-loop-state l = length l.self.elements - l.state

@@ -1,8 +1,0 @@
-use Rattle.lotos_pattern.proofs.Passings.{reached_next, reached_over}
-use Rattle.lotos_pattern.proofs.pattern.reached_behind.Goals as goal
-
-pub returns-then-may_be_empty : goal.returns-then-may_be_empty
-returns-then-may_be_empty c = reached_over _ _ _ _ c.if-may_be_empty.ensures
-
-pub returns-else-may_be_empty : goal.returns-else-may_be_empty
-returns-else-may_be_empty c = rw c.unwrap_or.ensures (reached_next _ _ _ _ c.first_from.result c.requires c.if-may_be_empty.ensures c.first_from.ensures)

@@ -1,0 +1,37 @@
+-- The elements that the program keeps, as those of the definition.
+use Rattle.std.specs.Prelude.{◌≤◌, Bool, List, All, length, map}
+use Rattle.std.specs.String.{string_bytes}
+use Rattle.lotos_pattern.specs.Patterns.{Element, OnlyLastDemandsDeadlock, IsObservable, Pattern, any, deadlock, one, until, until_deadlock, while, while_any}
+use Rattle.lotos_pattern.specs.declared.element.Element.{Element as Kept}
+use Rattle.lotos_pattern.specs.declared.element.Element.TheVariants as kept
+
+abbrev pub element_of : Kept → Element
+element_of (kept.Label text) = one (string_bytes text)
+element_of kept.Any = any
+element_of (kept.Until text) = until (string_bytes text)
+element_of (kept.While text) = while (string_bytes text)
+element_of kept.WhileAny = while_any
+element_of kept.Deadlock = deadlock
+element_of kept.UntilDeadlock = until_deadlock
+
+abbrev pub elements_of : List Kept → List Element
+elements_of = map element_of
+
+abbrev pub pattern_of : (strong : Bool) → List Element → Pattern
+pattern_of strong elements = record { elements = elements; strong = strong }
+
+-- the label of the element, if it has one, can be observed
+abbrev pub CanOccur : (strong : Bool) → Element → Type 0
+CanOccur strong (one l) = IsObservable strong l
+CanOccur strong any = Unit {0}
+CanOccur strong (until l) = IsObservable strong l
+CanOccur strong (while l) = Unit {0}
+CanOccur strong while_any = Unit {0}
+CanOccur strong deadlock = Unit {0}
+CanOccur strong until_deadlock = Unit {0}
+
+-- what a pattern keeps true
+pub record IsPattern (p : Pattern) : Type 0 where
+  pub ends_last : OnlyLastDemandsDeadlock p.elements
+  pub observable : All (CanOccur p.strong) p.elements
+  pub short : length p.elements ≤ 256

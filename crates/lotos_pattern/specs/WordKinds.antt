@@ -1,0 +1,47 @@
+-- What a word of a pattern means by itself, and what the reading of one element answers.
+use Rattle.std.specs.Prelude.{◌≡◌, ◌≢◌, ℕ, ◌+◌, ◌<◌, ◌≤◌, Bool, false, List, ◌++◌, codes, length, take}
+use Rattle.std.specs.String.{string_bytes}
+use Rattle.lotos_pattern.specs.Patterns.{Element, LastDemandsDeadlock}
+use Rattle.lotos_pattern.specs.Spelling.{Names, EqualsIgnoringCase, Spelling, Text}
+use Rattle.lotos_pattern.specs.Faults.{BeginsElement, BeginsNoElement, IsCause, IsInternal, IsUntil, IsWhile, SpellsNone}
+use Rattle.lotos_pattern.specs.declared.fault.PatternFault.{PatternFault}
+use Rattle.lotos_pattern.specs.declared.fault.PatternFault.TheVariants.{E41, E42, E43, E44, E45, E48, E99}
+use Rattle.lotos_pattern.specs.declared.pattern_parser.WordKind.{WordKind}
+use Rattle.lotos_pattern.specs.declared.pattern_parser.WordKind.TheVariants as meaning
+
+-- what the word means by itself
+abbrev pub IsKindOfWord : (strong : Bool) → Text → WordKind → Type 0
+IsKindOfWord strong word (meaning.Label text) = Names strong word (string_bytes text)
+IsKindOfWord strong word meaning.Internal = IsInternal word × (strong ≡ false)
+IsKindOfWord strong word meaning.Any = EqualsIgnoringCase word (codes "<any>")
+IsKindOfWord strong word meaning.Until = IsUntil word
+IsKindOfWord strong word meaning.While = IsWhile word
+IsKindOfWord strong word meaning.Deadlock = EqualsIgnoringCase word (codes "<deadlock>")
+IsKindOfWord strong word meaning.Unknown = BeginsNoElement strong word
+
+-- another element may follow these, of which there are at most 256
+pub record CanBeFollowed (p : List Element) : Type 0 where
+  pub goes_on : LastDemandsDeadlock p → ⊥
+  pub room : length p ≢ 256
+
+-- why none may follow them, at the word with this number
+abbrev pub IsEndFault : List Element → ℕ → PatternFault → Type 0
+IsEndFault p n (E41 m) = ⊥
+IsEndFault p n (E42 m) = ⊥
+IsEndFault p n (E43 m) = LastDemandsDeadlock p × (m ≡ n)
+IsEndFault p n (E44 m) = (LastDemandsDeadlock p → ⊥) × (length p ≡ 256) × (m ≡ n)
+IsEndFault p n (E45 m) = ⊥
+IsEndFault p n (E48 m) = ⊥
+IsEndFault p n (E99 e) = ⊥
+
+-- the words from this place up to where the next element begins spell the element
+pub record ParsesAt (strong : Bool) (words : List Text) (place : ℕ) (e : Element) (behind : ℕ) : Type 0 where
+  pub own : List Text
+  pub spelling : Spelling strong e own
+  pub stands : take behind words ≡ take place words ++ own
+  pub further : place < behind
+  pub within : behind ≤ length words
+
+-- where an element begins at this place, the fault has its cause and the words spell no pattern
+abbrev pub IsFaultAt : (strong : Bool) → List Text → ℕ → PatternFault → Type 0
+IsFaultAt strong words place fault = BeginsElement strong words (place + 1) → IsCause strong words fault × SpellsNone strong words fault

@@ -1,0 +1,125 @@
+-- What stands behind the first word of a definition: what is found and lost of it.
+use Rattle.std.proofs.Common.{◌≡◌, ℕ, List, [], ◌∷◌, ◌++◌, Some, None, refl, sym, ◌∙◌, ap, append_assoc, arith}
+use Rattle.lotos_text.specs.Grammar.{IsOfKind, enabling, DefinitionKind, defining_sign, closing_word}
+use Rattle.lotos_text.specs.ParserContracts.{Phrase, NestingLimit, Parses, Fails}
+use Rattle.lotos_text.specs.Phrases.{Sequence, OneToken, BehaviourPhrase, HeaderValue, HeaderPhrase, BodyPhrase, WherePhrase, make_definition, DefinitionRest}
+use Rattle.lotos_text.specs.AstView.{BehaviourView, DefinitionView, DefinitionListView}
+use Rattle.lotos_text.specs.declared.token.Token.{Token}
+use Rattle.lotos_text.proofs.Definitions.{firm_inner}
+use Rattle.lotos_text.proofs.PhraseUniqueness.{FirmWithin, firm_always, firm_then_within, firm_behind_within, firm_expression, firm_header, lost_after}
+use Rattle.lotos_text.proofs.OneToken.{found_behind, lost_before, lost_behind, found_before, lost_within}
+use Rattle.lotos_text.proofs.Sequences.{found_then, lost_first, lost_second}
+use Rattle.lotos_text.proofs.ParseErrors.{Carries}
+
+abbrev bodied : HeaderValue → BehaviourView → HeaderValue × BehaviourView
+bodied heading body = (heading, body)
+
+module _ (text : List ℕ) (what : DefinitionKind) where
+  -- the header and the body
+  abbrev Outer : NestingLimit → Phrase (HeaderValue × BehaviourView)
+  Outer limit = Sequence bodied (HeaderPhrase text) (BodyPhrase text what limit)
+
+  -- the header, the body and the inner definitions
+  abbrev Open : NestingLimit → Phrase DefinitionView
+  Open limit = Sequence make_definition (Outer limit) (WherePhrase text limit)
+
+  firm_outer : FirmWithin Outer
+  firm_outer = firm_then_within bodied (λ _. HeaderPhrase text) (BodyPhrase text what) (firm_always (HeaderPhrase text) (firm_header text))
+      (firm_behind_within (defining_sign what) (BehaviourPhrase text enabling) (firm_expression text enabling))
+
+  firm_open : FirmWithin Open
+  firm_open = firm_then_within make_definition Outer (WherePhrase text) firm_outer (firm_inner text)
+
+  -- the sign and the behaviour are the body
+  pub found_body : (limit : NestingLimit) (ts between rest : List Token) (n : Token) (x : BehaviourView) → ts ≡ n ∷ between →
+      IsOfKind n (defining_sign what) →
+      Parses (BehaviourPhrase text enabling limit) between x rest → Parses (BodyPhrase text what limit) ts x rest
+  found_body limit ts between rest n x e i f =
+      found_behind (defining_sign what) (BehaviourPhrase text enabling limit) ts between rest n x e i f
+
+  found_outer : (limit : NestingLimit) (ts r q : List Token) (heading : HeaderValue) (x : BehaviourView) → Parses (HeaderPhrase text) ts heading r →
+      Parses (BodyPhrase text what limit) r x q → Parses (Outer limit) ts (heading, x) q
+  found_outer limit ts r q heading x f g =
+      found_then bodied (HeaderPhrase text) (BodyPhrase text what limit) ts r q heading x (heading, x) f g refl
+
+  found_open : (limit : NestingLimit) (ts r q p : List Token) (heading : HeaderValue) (x : BehaviourView) (inner : DefinitionListView) →
+      Parses (HeaderPhrase text) ts heading r →
+      Parses (BodyPhrase text what limit) r x q → Parses (WherePhrase text limit) q inner p →
+      Parses (Open limit) ts (make_definition (heading, x) inner) p
+  found_open limit ts r q p heading x inner f g h = found_then make_definition (Outer limit) (WherePhrase text limit) ts q p (heading, x) inner
+      (make_definition (heading, x) inner) (found_outer limit ts r q heading x f g) h refl
+
+  -- header, body, inner definitions and the last word are the contents
+  pub found_contents : (limit : NestingLimit) (ts r q p rest : List Token) (n : Token) (heading : HeaderValue) (x : BehaviourView) (inner : DefinitionListView) →
+      Parses (HeaderPhrase text) ts heading r → Parses (BodyPhrase text what limit) r x q → Parses (WherePhrase text limit) q inner p → p ≡ n ∷ rest →
+      IsOfKind n (closing_word what) → Parses (DefinitionRest text what limit) ts (make_definition (heading, x) inner) rest
+  found_contents limit ts r q p rest n heading x inner f g h e i = found_before (Open limit) (closing_word what) ts p rest n
+      (make_definition (heading, x) inner) (found_open limit ts r q p heading x inner f g h) e i
+
+  lost_outer : (limit : NestingLimit) (ts rest : List Token) → Fails (Outer limit) ts rest → Fails (DefinitionRest text what limit) ts rest
+  lost_outer limit ts rest l = lost_within (Open limit) (closing_word what) ts rest
+      (lost_first make_definition (Outer limit) (WherePhrase text limit) ts rest l)
+
+  -- where the header is lost, so are the contents
+  pub lost_header : (limit : NestingLimit) (ts rest : List Token) → Fails (HeaderPhrase text) ts rest → Fails (DefinitionRest text what limit) ts rest
+  lost_header limit ts rest l = lost_outer limit ts rest (lost_first bodied (HeaderPhrase text) (BodyPhrase text what limit) ts rest l)
+
+  lost_body : (limit : NestingLimit) (ts r rest : List Token) (heading : HeaderValue) → Parses (HeaderPhrase text) ts heading r →
+      Fails (BodyPhrase text what limit) r rest → Fails (DefinitionRest text what limit) ts rest
+  lost_body limit ts r rest heading f l = lost_outer limit ts rest
+      (lost_second bodied (HeaderPhrase text) (BodyPhrase text what limit) (firm_header text) ts r rest heading f l)
+
+  -- where the sign behind the header is lost, so are the contents
+  pub lost_sign : (limit : NestingLimit) (ts r rest : List Token) (heading : HeaderValue) → Parses (HeaderPhrase text) ts heading r →
+      Fails (OneToken (defining_sign what)) r rest → Fails (DefinitionRest text what limit) ts rest
+  lost_sign limit ts r rest heading f l = lost_body limit ts r rest heading f
+      (lost_before (defining_sign what) (BehaviourPhrase text enabling limit) r rest l)
+
+  -- where the behaviour behind the sign is lost, so are the contents
+  pub lost_behaviour : (limit : NestingLimit) (ts r between rest : List Token) (n : Token) (heading : HeaderValue) →
+      Parses (HeaderPhrase text) ts heading r →
+      r ≡ n ∷ between → IsOfKind n (defining_sign what) → Fails (BehaviourPhrase text enabling limit) between rest →
+      Fails (DefinitionRest text what limit) ts rest
+  lost_behaviour limit ts r between rest n heading f e i l = lost_body limit ts r rest heading f
+      (lost_behind (defining_sign what) (BehaviourPhrase text enabling limit) r between rest n e i l)
+
+  -- where the inner definitions behind the body are lost, so are the contents
+  pub lost_inner : (found limit : NestingLimit) (ts r q rest : List Token) (heading : HeaderValue) (x : BehaviourView) →
+      Parses (HeaderPhrase text) ts heading r →
+      Parses (BodyPhrase text what found) r x q → Fails (WherePhrase text limit) q rest → Fails (DefinitionRest text what limit) ts rest
+  lost_inner found limit ts r q rest heading x f g l = lost_within (Open limit) (closing_word what) ts rest
+      (lost_after make_definition Outer (WherePhrase text limit) found limit firm_outer ts q rest (heading, x)
+      (found_outer found ts r q heading x f g) l)
+
+  -- where the last word is lost, so are the contents
+  pub lost_closing : (found limit : NestingLimit) (ts r q p rest : List Token) (heading : HeaderValue) (x : BehaviourView) (inner : DefinitionListView) →
+      Parses (HeaderPhrase text) ts heading r → Parses (BodyPhrase text what found) r x q → Parses (WherePhrase text found) q inner p →
+      Fails (OneToken (closing_word what)) p rest → Fails (DefinitionRest text what limit) ts rest
+  lost_closing found limit ts r q p rest heading x inner f g h l = lost_after (λ said token. said) Open (OneToken (closing_word what))
+      found limit firm_open ts p rest (make_definition (heading, x) inner) (found_open found ts r q p heading x inner f g h) l
+
+  -- the behaviour carries to the contents what is lost in it
+  pub carries_behaviour : (room : ℕ) (ts r between : List Token) (n : Token) (heading : HeaderValue) →
+      Parses (HeaderPhrase text) ts heading r →
+      r ≡ n ∷ between → IsOfKind n (defining_sign what) →
+      Carries (BehaviourPhrase text enabling) room between (DefinitionRest text what) room ts
+  carries_behaviour room ts r between n heading f e i = record {
+    free = λ rest l. lost_behaviour None ts r between rest n heading f e i l;
+    limited = λ rest l. lost_behaviour (Some room) ts r between rest n heading f e i l;
+    before = f.front ++ n ∷ [];
+    joined = f.joined ∙ ap (λ m. f.front ++ m) e ∙ sym (append_assoc f.front (n ∷ []) between);
+    crowds = omega arith;
+  }
+
+  -- so do the inner definitions
+  pub carries_inner : (room : ℕ) (ts r q : List Token) (heading : HeaderValue) (x : BehaviourView) → Parses (HeaderPhrase text) ts heading r →
+      Parses (BodyPhrase text what (Some room)) r x q → Carries (WherePhrase text) room q (DefinitionRest text what) room ts
+  carries_inner room ts r q heading x f g =
+      let h = found_outer (Some room) ts r q heading x f g in
+      record {
+        free = λ rest l. lost_inner (Some room) None ts r q rest heading x f g l;
+        limited = λ rest l. lost_inner (Some room) (Some room) ts r q rest heading x f g l;
+        before = h.front;
+        joined = h.joined;
+        crowds = omega arith;
+      }

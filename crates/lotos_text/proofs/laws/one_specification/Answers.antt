@@ -1,5 +1,0 @@
-use Rattle.lotos_text.proofs.Definitions.{one_specification}
-use Rattle.lotos_text.proofs.laws.one_specification.Goals as goal
-
-pub returns : goal.returns
-returns c = one_specification

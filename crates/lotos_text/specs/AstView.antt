@@ -1,0 +1,46 @@
+-- The trees of specifications, without where they lie in memory.
+use Rattle.std.specs.Prelude.{ℕ, List}
+use Rattle.lotos_text.specs.declared.ast.Placed.{Placed}
+use Rattle.lotos_text.specs.declared.ast.Action.{Action}
+use Rattle.lotos_text.specs.declared.ast.Functionality.{Functionality}
+
+-- the gates on which both sides of a parallel expression synchronize: those of a list, or all
+pub data SyncView : Type 0 where
+  gates : List Placed → SyncView
+  all : SyncView
+
+-- a behaviour expression; the number of an enabling is the offset of its operator
+pub data BehaviourView : Type 0 where
+  stop : BehaviourView
+  exit : BehaviourView
+  prefix : Action → BehaviourView → BehaviourView
+  choice : BehaviourView → BehaviourView → BehaviourView
+  par : BehaviourView → SyncView → BehaviourView → BehaviourView
+  hide : List Placed → BehaviourView → BehaviourView
+  enable : BehaviourView → ℕ → BehaviourView → BehaviourView
+  disable : BehaviourView → BehaviourView → BehaviourView
+  call : Placed → List Placed → BehaviourView
+
+-- a definition (its name, formal gates, declared functionality, body and the definitions of its `where`), and a row of them
+mutual
+  pub data DefinitionView : Type 0 where
+    def : Placed → List Placed → Functionality → BehaviourView → DefinitionListView → DefinitionView
+
+  pub data DefinitionListView : Type 0 where
+    no_defs : DefinitionListView
+    more_defs : DefinitionView → DefinitionListView → DefinitionListView
+
+abbrev pub name_of : DefinitionView → Placed
+name_of (def name formals declared body inner) = name
+
+abbrev pub formals_of : DefinitionView → List Placed
+formals_of (def name formals declared body inner) = formals
+
+abbrev pub declared_of : DefinitionView → Functionality
+declared_of (def name formals declared body inner) = declared
+
+abbrev pub body_of : DefinitionView → BehaviourView
+body_of (def name formals declared body inner) = body
+
+abbrev pub inner_of : DefinitionView → DefinitionListView
+inner_of (def name formals declared body inner) = inner

@@ -1,0 +1,51 @@
+-- Offsets that lie inside a text, or at its end.
+use Rattle.std.specs.Prelude.{ℕ, ◌≤◌, List}
+use Rattle.std.specs.List.{AllByRecursion}
+use Rattle.lotos_text.specs.AstView.{BehaviourView, SyncView, gates, all, stop, exit, prefix, choice, par, hide, enable, disable, call, DefinitionView, def, DefinitionListView, no_defs, more_defs}
+use Rattle.lotos_text.specs.declared.ast.Placed.{Placed}
+use Rattle.lotos_text.specs.declared.fault.TextFault.{TextFault}
+use Rattle.lotos_text.specs.declared.fault.TextFault.TheVariants.{E01, E02, E03, E04, E05, E06, E07, E99}
+use Rattle.lotos_text.specs.declared.ast.Action.TheVariants.{Internal, Gate}
+
+-- the offset of the fault, if it has one
+abbrev pub IsFaultInside : ℕ → TextFault → Type 0
+IsFaultInside n (E01 at) = at ≤ n
+IsFaultInside n (E02 at) = at ≤ n
+IsFaultInside n E03 = Unit {0}
+IsFaultInside n (E04 at) = at ≤ n
+IsFaultInside n (E05 at) = at ≤ n
+IsFaultInside n (E06 at) = at ≤ n
+IsFaultInside n (E07 at) = at ≤ n
+IsFaultInside n (E99 e) = Unit {0}
+
+-- the offset of each name
+abbrev pub AreNamesInside : ℕ → List Placed → Type 0
+AreNamesInside n names = AllByRecursion (λ g. g.at ≤ n) names
+
+-- the offset of each gate in a list on which both sides synchronize
+abbrev pub IsSyncInside : ℕ → SyncView → Type 0
+IsSyncInside n (gates names) = AreNamesInside n names
+IsSyncInside n all = Unit {0}
+
+-- the offset of each name and of each `>>` in a behaviour
+abbrev pub IsTreeInside : ℕ → BehaviourView → Type 0
+IsTreeInside n stop = Unit {0}
+IsTreeInside n exit = Unit {0}
+IsTreeInside n (prefix Internal b) = IsTreeInside n b
+IsTreeInside n (prefix (Gate g) b) = (g.at ≤ n) × IsTreeInside n b
+IsTreeInside n (choice l r) = IsTreeInside n l × IsTreeInside n r
+IsTreeInside n (par l sync r) = IsTreeInside n l × IsSyncInside n sync × IsTreeInside n r
+IsTreeInside n (hide names b) = AreNamesInside n names × IsTreeInside n b
+IsTreeInside n (enable l at r) = IsTreeInside n l × (at ≤ n) × IsTreeInside n r
+IsTreeInside n (disable l r) = IsTreeInside n l × IsTreeInside n r
+IsTreeInside n (call name names) = (name.at ≤ n) × AreNamesInside n names
+
+-- the offset of each name in a definition, its inner ones among them
+abbrev mutual
+  pub IsInside : ℕ → DefinitionView → Type 0
+  IsInside n (def name formals declared body inner) =
+      (name.at ≤ n) × AreNamesInside n formals × IsTreeInside n body × AreInside n inner
+
+  pub AreInside : ℕ → DefinitionListView → Type 0
+  AreInside n no_defs = Unit {0}
+  AreInside n (more_defs d ds) = IsInside n d × AreInside n ds

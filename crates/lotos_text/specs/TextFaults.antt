@@ -1,0 +1,95 @@
+-- Why a text is refused.
+use Rattle.std.specs.Prelude.{◌≡◌, ℕ, ◌≤◌, ◌<◌, true, false, List, [], ◌∷◌, ◌++◌, length}
+use Rattle.lotos_text.specs.Limits.{max_text_length, max_nesting}
+use Rattle.lotos_text.specs.AstView.{DefinitionView}
+use Rattle.lotos_text.specs.Lexing.{Lexes, FailsAtByte, FailsAtComment}
+use Rattle.lotos_text.specs.Grammar.{SpellsSpecification, IsSpecificationPrefix, IsPrefixWithin}
+use Rattle.lotos_text.specs.ConstructOpenings.{opens_construct, count_openings, is_full_lotos}
+use Rattle.lotos_text.specs.Spelled.{Spelled}
+use Rattle.lotos_text.specs.declared.fault.TextFault.{TextFault}
+use Rattle.lotos_text.specs.declared.fault.TextFault.TheVariants.{E01, E02, E03, E04, E05, E06, E07, E99}
+use Rattle.lotos_text.specs.declared.token.Token.{Token}
+
+-- the text, short enough, sticks at a byte
+pub record IsE01 (text : List ℕ) (at : ℕ) : Type 0 where
+  pub short : length text ≤ max_text_length
+  pub sticks : FailsAtByte text at
+
+-- the text, short enough, sticks at a comment that is not closed
+pub record IsE02 (text : List ℕ) (at : ℕ) : Type 0 where
+  pub short : length text ≤ max_text_length
+  pub sticks : FailsAtComment text at
+
+-- the offset is that of a token of a text that is short enough
+pub record IsOffsetOfToken (text : List ℕ) (at : ℕ) (before : List Token) (token : Token) : Type 0 where
+  pub after : List Token
+  pub short : length text ≤ max_text_length
+  pub cut : Lexes text (before ++ token ∷ after)
+  pub place : token.at ≡ at
+
+-- the tokens up to and with the one at the offset begin no specification, and that token is no word of full LOTOS
+pub record IsE04 (text : List ℕ) (at : ℕ) : Type 0 where
+  pub before : List Token
+  pub token : Token
+  pub stands : IsOffsetOfToken text at before token
+  pub never : IsSpecificationPrefix text (before ++ token ∷ []) → ⊥
+  pub basic : is_full_lotos token.kind ≡ false
+
+-- The tokens up to and with the one at the offset begin no specification whose nesting is within the limit; that token opens
+-- a construct, as more of them than may be open at once do.
+pub record IsE05 (text : List ℕ) (at : ℕ) : Type 0 where
+  pub before : List Token
+  pub token : Token
+  pub stands : IsOffsetOfToken text at before token
+  pub never : IsPrefixWithin max_nesting text (before ++ token ∷ []) → ⊥
+  pub opening : opens_construct token.kind ≡ true
+  pub many : max_nesting < count_openings (before ++ token ∷ [])
+
+-- all tokens together spell no specification, and the offset is the text's length
+pub record IsE06 (text : List ℕ) (at : ℕ) : Type 0 where
+  pub tokens : List Token
+  pub short : length text ≤ max_text_length
+  pub cut : Lexes text tokens
+  pub place : at ≡ length text
+  pub never : (nesting : ℕ) (whole : DefinitionView) → SpellsSpecification text nesting tokens whole → ⊥
+
+-- the tokens up to and with the one at the offset begin no specification, and that token is a word of full LOTOS
+pub record IsE07 (text : List ℕ) (at : ℕ) : Type 0 where
+  pub before : List Token
+  pub token : Token
+  pub stands : IsOffsetOfToken text at before token
+  pub never : IsSpecificationPrefix text (before ++ token ∷ []) → ⊥
+  pub full : is_full_lotos token.kind ≡ true
+
+-- why a text is not cut into tokens
+abbrev pub IsLexingFault : List ℕ → TextFault → Type 0
+IsLexingFault text (E01 at) = IsE01 text at
+IsLexingFault text (E02 at) = IsE02 text at
+IsLexingFault text E03 = max_text_length < length text
+IsLexingFault text (E04 at) = ⊥
+IsLexingFault text (E05 at) = ⊥
+IsLexingFault text (E06 at) = ⊥
+IsLexingFault text (E07 at) = ⊥
+IsLexingFault text (E99 e) = length text ≤ max_text_length
+
+-- why a text spells no specification
+abbrev pub IsFaultOfText : List ℕ → TextFault → Type 0
+IsFaultOfText text (E01 at) = IsE01 text at
+IsFaultOfText text (E02 at) = IsE02 text at
+IsFaultOfText text E03 = max_text_length < length text
+IsFaultOfText text (E04 at) = IsE04 text at
+IsFaultOfText text (E05 at) = IsE05 text at
+IsFaultOfText text (E06 at) = IsE06 text at
+IsFaultOfText text (E07 at) = IsE07 text at
+IsFaultOfText text (E99 e) = length text ≤ max_text_length
+
+-- the fault is want of memory; or the text spells no specification
+abbrev pub SpellsNoSpecification : List ℕ → TextFault → Type 0
+SpellsNoSpecification text (E99 e) = Unit {0}
+SpellsNoSpecification text (E01 at) = (whole : DefinitionView) → Spelled text whole → ⊥
+SpellsNoSpecification text (E02 at) = (whole : DefinitionView) → Spelled text whole → ⊥
+SpellsNoSpecification text E03 = (whole : DefinitionView) → Spelled text whole → ⊥
+SpellsNoSpecification text (E04 at) = (whole : DefinitionView) → Spelled text whole → ⊥
+SpellsNoSpecification text (E05 at) = (whole : DefinitionView) → Spelled text whole → ⊥
+SpellsNoSpecification text (E06 at) = (whole : DefinitionView) → Spelled text whole → ⊥
+SpellsNoSpecification text (E07 at) = (whole : DefinitionView) → Spelled text whole → ⊥

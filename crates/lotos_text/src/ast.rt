@@ -1,0 +1,161 @@
+//! Trees of specifications.
+//!
+//! The forms are those of ISO 8807:1989, behaviour expressions and process definitions. Parentheses leave nothing in a tree.
+ghost use Rattle.std.specs.Prelude.{◌≡◌, IfOk};
+ghost use Rattle.lotos_text.specs.AstView as plain_tree;
+ghost use Rattle.lotos_text.specs.Grammar.{apply};
+ghost use Rattle.lotos_text.specs.AstOf.{behaviour_view, operator_view};
+
+use crate::name::Name;
+use std::alloc::{AllocError, Global};
+
+/// A name where it stands in the text.
+#[derive(Debug, Drop)]
+pub struct Placed {
+    pub name: Name,
+    /// The offset of its first byte.
+    pub at: usize,
+}
+
+/// What a prefix does first.
+#[derive(Debug, Drop)]
+pub enum Action {
+    /// The internal action `i`.
+    Internal,
+    Gate(Placed),
+}
+
+/// What a definition declares of its termination. `noexit` promises that the behaviour never terminates successfully. `exit`
+/// promises nothing: `P := x; P` is declared `exit` and never ends.
+#[derive(Clone, Copy, Debug, PartialEq, Eq)]
+pub enum Functionality {
+    Exit,
+    NoExit,
+}
+
+/// The gates on which both sides of a parallel expression synchronize. Termination always is one of them.
+#[derive(Debug, Drop)]
+pub enum SyncSet {
+    /// These gates, as they stand in the list of `|[..]|`; none for `|||` and `|[]|`.
+    Gates(Vec<Placed>),
+    /// All gates, `||`.
+    All,
+}
+
+/// A behaviour expression.
+#[derive(Debug, Drop)]
+pub enum Behaviour {
+    /// Inaction, `stop`.
+    Stop,
+    /// Successful termination, `exit`.
+    Exit,
+    /// Action prefix, `action; body`.
+    Prefix {
+        action: Action,
+        body: Box<Behaviour>,
+    },
+    /// Choice, `left [] right`.
+    Choice {
+        left: Box<Behaviour>,
+        right: Box<Behaviour>,
+    },
+    /// Parallel composition, `left |[..]| right`, `left ||| right` or `left || right`.
+    Par {
+        left: Box<Behaviour>,
+        sync: SyncSet,
+        right: Box<Behaviour>,
+    },
+    /// Hiding, `make_hide gates in body`.
+    Hide {
+        gates: Vec<Placed>,
+        body: Box<Behaviour>,
+    },
+    /// Enabling, `left >> right`.
+    Enable {
+        left: Box<Behaviour>,
+        /// The offset of `>>`.
+        at: usize,
+        right: Box<Behaviour>,
+    },
+    /// Disabling, `left [> right`.
+    Disable {
+        left: Box<Behaviour>,
+        right: Box<Behaviour>,
+    },
+    /// Process instantiation, `name [gates]`.
+    Call {
+        name: Placed,
+        gates: Vec<Placed>,
+    },
+}
+
+/// A specification or process with its formal gates, its declared functionality, its behaviour, and the definitions of its
+/// `where` in text order.
+#[derive(Debug, Drop)]
+pub struct Definition {
+    pub name: Placed,
+    pub formals: Vec<Placed>,
+    pub functionality: Functionality,
+    pub body: Behaviour,
+    pub inner: Vec<Definition>,
+}
+
+/// A whole specification.
+#[derive(Debug, Drop)]
+pub struct Specification {
+    pub whole: Definition,
+}
+
+/// A binary operator between two behaviour expressions.
+#[derive(Drop)]
+pub(crate) enum BinaryOperator {
+    /// `>>`, with its offset.
+    Enable(usize),
+    Disable,
+    Synchronize(SyncSet),
+    Choose,
+}
+
+pub(crate) fn apply_operator(
+    alloc: Global,
+    how: BinaryOperator,
+    left: Behaviour,
+    right: Behaviour,
+) -> Result<Behaviour, AllocError>
+    ensures { IfOk result (λ b. behaviour_view b ≡ apply (operator_view how) (behaviour_view left) (behaviour_view right)) }
+{
+    let left = Box::new(alloc, left)?;
+    let right = Box::new(alloc, right)?;
+    Ok(match how {
+        BinaryOperator::Enable(at) => Behaviour::Enable { left, at, right },
+        BinaryOperator::Disable => Behaviour::Disable { left, right },
+        BinaryOperator::Synchronize(sync) => Behaviour::Par { left, sync, right },
+        BinaryOperator::Choose => Behaviour::Choice { left, right },
+    })
+}
+
+pub(crate) fn make_prefix(
+    alloc: Global,
+    action: Action,
+    body: Behaviour,
+) -> Result<Behaviour, AllocError>
+    ensures { IfOk result (λ b. behaviour_view b ≡ plain_tree.prefix action (behaviour_view body)) }
+{
+    Ok(Behaviour::Prefix {
+        action,
+        body: Box::new(alloc, body)?,
+    })
+}
+
+pub(crate) fn make_hide(
+    alloc: Global,
+    gates: Vec<Placed>,
+    body: Behaviour,
+) -> Result<Behaviour, AllocError>
+    ensures { IfOk result (λ b. behaviour_view b ≡ plain_tree.hide gates.items (behaviour_view body)) }
+{
+    Ok(Behaviour::Hide {
+        gates,
+        body: Box::new(alloc, body)?,
+    })
+}

@@ -1,0 +1,145 @@
+//! The parts of the grammar without nesting: single tokens, names and lists of names.
+//!
+//! A part of the parser takes the tokens that are left and answers what it found and the tokens behind that, or where it
+//! stopped.
+ghost use Rattle.std.specs.Prelude.{◌≡◌, [], ◌∷◌, alloc_error, IfOk, IfErr, IfSome, IfNone, MatchOption};
+ghost use Rattle.lotos_text.specs.Grammar.{IsOfKind, located_name as placed_at};
+ghost use Rattle.lotos_text.specs.Lexing.{IsTokenIn, AreTokensIn};
+ghost use Rattle.lotos_text.specs.ParserContracts.{DoesNotStartWith, Parses, FailsAtAnyNesting, FailsUnlessMemory};
+ghost use Rattle.lotos_text.specs.Phrases.{OneToken, NameList, OptionalGates, FunctionalityPhrase};
+ghost use Rattle.lotos_text.specs.declared.token.TokenKind.TheVariants.{Identifier};
+ghost use Rattle.lotos_text.specs.declared.parse_primitives.ParseError.TheVariants.{Memory};
+
+use crate::ast::{Functionality, Placed};
+use crate::name::Name;
+use crate::token::{Sign, Token, TokenKind, Word};
+use std::alloc::{AllocError, AllocFailed, Global};
+
+/// Why a part of the parser stopped.
+#[derive(Drop)]
+pub(crate) enum ParseError<'a> {
+    /// At the first of these tokens, which is not expected; or, where there is none, at the end of the text.
+    Unexpected(&'a [Token]),
+    /// At this token, which opens a construct where no more may be open.
+    TooDeep(Token),
+    Memory(AllocError),
+}
+
+impl<'a> From<AllocError> for ParseError<'a> {
+    ghost from_gives = { λ x e. e ≡ Memory x };
+
+    fn from(error: AllocError) -> ParseError<'a> {
+        ParseError::Memory(error)
+    }
+}
+
+impl<'a, T: Drop> From<AllocFailed<T>> for ParseError<'a> {
+    ghost from_gives = { λ _ e. e ≡ Memory alloc_error };
+
+    fn from(_error: AllocFailed<T>) -> ParseError<'a> {
+        ParseError::Memory(AllocError)
+    }
+}
+
+/// Names in brackets, or none where no bracket stands.
+pub(crate) fn parse_gate_list<'a>(
+    alloc: Global,
+    text: &[u8],
+    tokens: &'a [Token],
+) -> Result<(Vec<Placed>, &'a [Token]), ParseError<'a>>
+    requires { AreTokensIn text.now tokens.now }
+    ensures parses { IfOk result (λ p. Parses (OptionalGates text.now) tokens.now p.0.items p.1.now) }
+    ensures rest { IfOk result (λ p. AreTokensIn text.now p.1.now) }
+    ensures fails { IfErr result (FailsAtAnyNesting (OptionalGates text.now) tokens.now) }
+{
+    let Some((_, inside)) = eat(tokens, TokenKind::Sign(Sign::LeftBracket)) else {
+        return Ok((Vec::new(alloc), tokens));
+    };
+    let (gates, rest) = parse_names(alloc, text, inside)?;
+    let (_, rest) = expect(rest, TokenKind::Sign(Sign::RightBracket))?;
+    Ok((gates, rest))
+}
+
+/// One or more names, separated by commas.
+pub(crate) fn parse_names<'a>(
+    alloc: Global,
+    text: &[u8],
+    tokens: &'a [Token],
+) -> Result<(Vec<Placed>, &'a [Token]), ParseError<'a>>
+    requires { AreTokensIn text.now tokens.now }
+    ensures parses { IfOk result (λ p. Parses (NameList text.now) tokens.now p.0.items p.1.now) }
+    ensures rest { IfOk result (λ p. AreTokensIn text.now p.1.now) }
+    ensures fails { IfErr result (FailsAtAnyNesting (NameList text.now) tokens.now) }
+{
+    let mut found = Vec::new(alloc);
+    let mut rest = tokens;
+    loop {
+        let (first, behind) = expect(rest, TokenKind::Identifier)?;
+        let name = place_name(alloc, text, first)?;
+        found.push(name)?;
+        let Some((_, after)) = eat(behind, TokenKind::Sign(Sign::Comma)) else {
+            return Ok((found, behind));
+        };
+        rest = after;
+    }
+}
+
+/// The colon and the functionality.
+pub(crate) fn parse_functionality<'a>(
+    tokens: &'a [Token],
+) -> Result<(Functionality, &'a [Token]), ParseError<'a>>
+    ensures parses { IfOk result (λ p. Parses FunctionalityPhrase tokens.now p.0 p.1.now) }
+    ensures fails { IfErr result (FailsUnlessMemory FunctionalityPhrase tokens.now) }
+{
+    let (_, rest) = expect(tokens, TokenKind::Sign(Sign::Colon))?;
+    if let Some((_, after)) = eat(rest, TokenKind::Reserved(Word::ExitWord)) {
+        return Ok((Functionality::Exit, after));
+    }
+    let (_, after) = expect(rest, TokenKind::Reserved(Word::NoexitWord))?;
+    Ok((Functionality::NoExit, after))
+}
+
+/// The name that an identifier spells.
+pub(crate) fn place_name(alloc: Global, text: &[u8], token: Token) -> Result<Placed, AllocError>
+    requires stands { IsTokenIn text.now token }
+    requires named { IsOfKind token Identifier }
+    ensures { IfOk result (λ p. p ≡ placed_at text.now token) }
+{
+    let name = Name::from_word(alloc, &text[token.at..token.end])?;
+    Ok(Placed { name, at: token.at })
+}
+
+/// The first token, which is of the kind, and the others.
+pub(crate) fn expect<'a>(
+    tokens: &'a [Token],
+    kind: TokenKind,
+) -> Result<(Token, &'a [Token]), ParseError<'a>>
+    ensures parses { IfOk result (λ p. (tokens.now ≡ p.0 ∷ p.1.now) × IsOfKind p.0 kind) }
+    ensures fails { IfErr result (FailsUnlessMemory (OneToken kind) tokens.now) }
+{
+    match eat(tokens, kind) {
+        Some(found) => Ok(found),
+        None => Err(ParseError::Unexpected(tokens)),
+    }
+}
+
+/// The first token, where it is of the kind, and the others.
+pub(crate) fn eat(tokens: &[Token], kind: TokenKind) -> Option<(Token, &[Token])>
+    ensures some { IfSome result (λ p. (tokens.now ≡ p.0 ∷ p.1.now) × IsOfKind p.0 kind) }
+    ensures none { IfNone result (DoesNotStartWith kind tokens.now) }
+{
+    match tokens {
+        [first, rest @ ..] if first.kind == kind => Some((*first, rest)),
+        _ => None,
+    }
+}
+
+/// The first token, and the others.
+pub(crate) fn split_first_token(tokens: &[Token]) -> Option<(Token, &[Token])>
+    ensures { MatchOption result (tokens.now ≡ []) (λ p. tokens.now ≡ p.0 ∷ p.1.now) }
+{
+    match tokens {
+        [first, rest @ ..] => Some((*first, rest)),
+        [] => None,
+    }
+}

@@ -1,0 +1,67 @@
+-- Labels as they are printed, and the text of a sequence of them.
+use Rattle.std.proofs.Common.{◌≡◌, ℕ, ◌≤◌, List, [], ◌∷◌, ◌++◌, length, refl, sym, subst, ap, ◌∙◌, drop, Some, append_assoc, append-nil}
+use Rattle.std.specs.List.{flat_map}
+use Rattle.std.proofs.Math.ListN.{drop_of_length-le}
+use Rattle.lotos_check.specs.NameLists.{Name}
+use Rattle.lotos_terms.specs.TableView.{IsPrintedAs}
+use Rattle.lotos_terms.specs.declared.label.Label.{Label as TermLabel}
+use Rattle.lotos_terms.specs.declared.label.Label.TheVariants as l
+use Rattle.lotos_search.specs.Order.{Label}
+use Rattle.lotos_search.specs.Question.{ArePrinted, none_printed, more_printed}
+use Rattle.lotos_tool.specs.OutputLines.{sequence_text}
+
+-- a label has one text
+pub shows_one : (names : List Name) (k : TermLabel) (t u : List ℕ) → IsPrintedAs names k t → IsPrintedAs names k u → t ≡ u
+shows_one names l.Exit t u h g = h ∙ sym g
+shows_one names l.Internal t u h g = h ∙ sym g
+shows_one names (l.Gate n) t u h g = let e : Some t ≡ Some u = sym h ∙ g in cc
+
+-- the first label and the others, with their texts
+pub record AreCut (names : List Name) (k : TermLabel) (ks : List TermLabel) (s : List Label) : Type 0 where
+  pub first : Label
+  pub others : List Label
+  pub shown : IsPrintedAs names k first
+  pub all : ArePrinted names ks others
+  pub joined : s ≡ first ∷ others
+
+pub cut_first : (names : List Name) (k : TermLabel) (ks : List TermLabel) (s : List Label) → ArePrinted names (k ∷ ks) s → AreCut names k ks s
+cut_first names k ks _ (more_printed h hs) = record { first = _; others = _; shown = h; all = hs; joined = refl }
+
+nothing_shown : (names : List Name) (s : List Label) → ArePrinted names [] s → s ≡ []
+nothing_shown names _ none_printed = refl
+
+-- the text so far and a blank and a label for each one that is left spell the sequence
+abbrev pub IsLeft : List Name → List TermLabel → List ℕ → List Label → Type 0
+IsLeft names rest text s = (left : List Label) × ArePrinted names rest left × (text ++ flat_map (λ m. 32 ∷ m) left ≡ sequence_text s)
+
+-- where the first label is written
+pub left_at_first : (names : List Name) (labels rest : List TermLabel) (first : TermLabel) (shown text : List ℕ) → labels ≡ first ∷ rest →
+    IsPrintedAs names first shown → text ≡ shown → (s : List Label) → ArePrinted names labels s → IsLeft names rest text s
+left_at_first names labels rest first shown text e h written s all =
+    let cut = cut_first names first rest s (subst (λ ls. ArePrinted names ls s) e all) in
+    let same = written ∙ shows_one names first shown cut.first h cut.shown in
+    (cut.others, cut.all, ap (λ x. x ++ flat_map (λ m. 32 ∷ m) cut.others) same ∙ sym (ap sequence_text cut.joined))
+
+-- one label more
+pub left_behind : (names : List Name) (rest later : List TermLabel) (label : TermLabel) (text shown text' : List ℕ) (s : List Label) →
+    rest ≡ label ∷ later → IsPrintedAs names label shown → text' ≡ (text ++ 32 ∷ []) ++ shown → IsLeft names rest text s → IsLeft names later text' s
+left_behind names rest later label text shown text' s e h written (left, all, whole) =
+    let cut = cut_first names label later left (subst (λ ls. ArePrinted names ls left) e all) in
+    let same = shows_one names label shown cut.first h cut.shown in
+    let whole' : text ++ flat_map (λ m. 32 ∷ m) (cut.first ∷ cut.others) ≡ sequence_text s = subst (λ x. text ++ flat_map (λ m. 32 ∷ m) x ≡ sequence_text s) cut.joined whole in
+    let grown : text' ≡ text ++ (32 ∷ cut.first) = written ∙ append_assoc text (32 ∷ []) shown ∙ ap (λ x. text ++ (32 ∷ x)) same in
+    let others = flat_map (λ m. 32 ∷ m) cut.others in
+    (cut.others, cut.all, ap (λ x. x ++ others) grown ∙ append_assoc text (32 ∷ cut.first) others ∙ whole')
+
+-- a label that is left has a text
+pub left_shown : (names : List Name) (rest later : List TermLabel) (label : TermLabel) (text : List ℕ) (s : List Label) → rest ≡ label ∷ later →
+    IsLeft names rest text s → (t : List ℕ) × IsPrintedAs names label t
+left_shown names rest later label text s e (left, all, whole) =
+    let cut = cut_first names label later left (subst (λ ls. ArePrinted names ls left) e all) in (cut.first, cut.shown)
+
+-- where none is left the sequence is spelled
+pub left_none : (names : List Name) (rest : List TermLabel) (i : ℕ) (text : List ℕ) (s : List Label) → length rest ≤ i →
+    IsLeft names (drop i rest) text s → text ≡ sequence_text s
+left_none names rest i text s passed (left, all, whole) =
+    let e = nothing_shown names left (subst (λ ls. ArePrinted names ls left) (drop_of_length-le rest {i = i} passed) all) in
+    sym (append-nil text) ∙ subst (λ x. text ++ flat_map (λ m. 32 ∷ m) x ≡ sequence_text s) e whole

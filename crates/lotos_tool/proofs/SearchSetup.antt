@@ -1,0 +1,104 @@
+-- What a listing says of what is asked.
+use Rattle.std.proofs.Common.{◌≡◌, ◌↔◌, ℕ, List, [], Option, false, None, Some, arith, inl, inr, refl, sym, subst, ◌∙◌}
+use Rattle.std.proofs.KnownBytes.{Consumes-nil, Keeps-refl}
+use Rattle.std.specs.declared.string.String.{String}
+use Rattle.std.specs.declared.alloc.Global.{Global}
+use Rattle.lotos_check.specs.Flat.{Pairwise, System}
+use Rattle.lotos_check.specs.NameLists.{In, Name}
+use Rattle.lotos_terms.specs.TableView.{AreGateNames, TableView, IsSoundView, IsTableOf}
+use Rattle.lotos_terms.specs.SystemGates.{system_gates}
+use Rattle.lotos_terms.specs.Numbered.{IsNumberedTerm, IsNumberedProcess}
+use Rattle.lotos_pattern.specs.Patterns.{Pattern}
+use Rattle.lotos_pattern.specs.Spelling.{PatternOf}
+use Rattle.lotos_search.specs.Order.{Label}
+use Rattle.lotos_search.specs.SearchSteps.{IsBegun, SearchState}
+use Rattle.lotos_search.specs.Question.{IsQuestionOf, Question}
+use Rattle.lotos_search.specs.declared.fault.MarkFault.{MarkFault}
+use Rattle.lotos_search.specs.declared.fault.MarkFault.TheVariants as mark_fault
+use Rattle.lotos_tool.specs.OutcomeContracts.{SearchOutcome, IsQuestionOfText, IsMarkOf, IsMarkRefused, is_input_fault, words_of}
+use Rattle.lotos_tool.specs.SearchSetup.{ListingOutcome, IsSearchFor, IsFaultOfMark, IsMarkOutcome, ReadsAccepted}
+use Rattle.lotos_tool.specs.declared.outcome.Ended.{Ended}
+use Rattle.lotos_tool.specs.declared.outcome.Ended.TheVariants.{Complete, Refused, Stopped}
+use Rattle.lotos_tool.specs.declared.outcome.Why.TheVariants as why
+use Rattle.lotos_command.specs.declared.command.SearchRequest.{SearchRequest}
+
+-- a search that was begun with a sound table of a system is a search of it
+search_of_a_table : (system : System) (held : TableView) (p : Pattern) (depth : ℕ) (mark : Option (List Label)) (terms : ℕ) (search : SearchState) →
+    IsTableOf system held → IsSoundView held → IsBegun held p depth mark terms search → IsQuestionOf system search.question
+search_of_a_table system held p depth mark terms search table sound begun =
+    let same : Some table.term ≡ Some search.question.start = sym table.stands ∙ begun.start in
+    let term : table.term ≡ search.question.start = cc in
+    record {
+      named = subst AreGateNames (sym begun.names) sound.names;
+      gates = subst (λ ns. (n : Name) → In n ns ↔ In n (system_gates system)) (sym begun.names) table.names;
+      processes = subst (λ ns. Pairwise (IsNumberedProcess ns) system.processes search.question.processes) (sym begun.names)
+          (subst (Pairwise (IsNumberedProcess held.names) system.processes) (sym begun.processes) table.processes);
+      start = subst (λ ns. IsNumberedTerm ns system.start search.question.start) (sym begun.names) (subst (IsNumberedTerm held.names system.start) term table.start);
+    }
+
+-- a search that was begun for the request with a table of the system is one of what it asks
+pub asked_of : (request : SearchRequest) (system : System) (held : TableView) (p : Pattern) (mark : Option (List Label)) (search : SearchState) →
+    IsTableOf system held → IsSoundView held → IsBegun held p request.depth mark request.terms search → IsSearchFor request system p mark search
+asked_of request system held p mark search table sound begun = record {
+  question = search_of_a_table system held p request.depth mark request.terms search table sound begun;
+  pattern = begun.pattern_is;
+  depth = begun.depth_is;
+  terms = begun.terms_is;
+  cursor = begun.cursor;
+  stage = begun.stage;
+}
+
+-- a search that was begun for the request is what it asks
+pub asks : (request : SearchRequest) (left left' : Option (List ℕ)) (system : System) (p : Pattern) (mark : Option (List Label)) (search : SearchState) →
+    ReadsAccepted left left' system → PatternOf request.strong (words_of request) p → IsMarkOf request.strong request.after mark →
+    IsSearchFor request system p mark search → IsQuestionOfText request left left' search.question search.cursor
+asks request left left' system p mark search read pattern marked begun = record {
+  text = read.text;
+  read = read.read;
+  system = system;
+  accepted = read.accepted;
+  question = begun.question;
+  pattern = subst (PatternOf request.strong (words_of request)) (sym begun.pattern) pattern;
+  depth = begun.depth;
+  terms = begun.terms;
+  marked = subst (IsMarkOf request.strong request.after) (sym begun.cursor) marked;
+}
+
+-- no listing ends in that the input cannot be read
+pub no_input_fault : (request : SearchRequest) (got got' : Option (List ℕ)) (q : Question) (mark : Option (List Label)) (ended : Ended) →
+    ListingOutcome request q mark got got' ended → is_input_fault ended ≡ false
+no_input_fault request got got' q mark (Complete lines) h = refl
+no_input_fault request got got' q mark (Refused cause) h = absurd h
+no_input_fault request got got' q mark (Stopped last why) h = refl
+
+-- how its listing ends is the answer
+pub answered : (request : SearchRequest) (left left' got got' : Option (List ℕ)) (q : Question) (mark : Option (List Label)) (ended : Ended) →
+    IsQuestionOfText request left left' q mark → ListingOutcome request q mark got got' ended → SearchOutcome request left left' got got' ended
+answered request left left' got got' q mark (Complete lines) asks h = (q, mark, asks, h)
+answered request left left' got got' q mark (Refused cause) asks h = absurd h
+answered request left left' got got' q mark (Stopped last why.Limit) asks h = (q, mark, asks, h)
+answered request left left' got got' q mark (Stopped last (why.OverTerms prefix)) asks h = (q, mark, asks, h)
+answered request left left' got got' q mark (Stopped last why.Memory) asks h = inr (q, mark, asks, h)
+answered request left left' got got' q mark (Stopped last why.Write) asks h = (q, mark, asks, h)
+
+-- a line that is none of a listing, or want of memory at it, is the answer
+pub mark_refused : (request : SearchRequest) (left got : Option (List ℕ)) (p : Pattern) (fault : MarkFault) (ended : Ended) →
+    PatternOf request.strong (words_of request) p → IsFaultOfMark request.strong request.after fault → IsMarkOutcome fault ended →
+    SearchOutcome request left left got got ended
+mark_refused request left got p mark_fault.E46 ended spelled h e =
+    subst (SearchOutcome request left left got got) (sym e) (refused request.after refl h, Keeps-refl got)
+  where
+    refused : (after : Option (String Global)) → request.after ≡ after → IsFaultOfMark request.strong after mark_fault.E46 →
+        IsMarkRefused request left left
+    refused None given h = absurd h
+    refused (Some line) given h = record {
+      kept = Keeps-refl left;
+      pattern = p;
+      spelled = spelled;
+      line = line;
+      given = given;
+      never = h;
+    }
+mark_refused request left got p (mark_fault.E99 x) ended spelled h e =
+    subst (SearchOutcome request left left got got) (sym e)
+    (inl (record { taken = ([], omega arith, Consumes-nil left); kept = Keeps-refl got; no_line = refl }))

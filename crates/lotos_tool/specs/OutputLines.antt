@@ -1,0 +1,47 @@
+-- The lines of a listing, and those of the processes of a system.
+use Rattle.std.specs.Prelude.{ℕ, Bool, true, false, List, [], ◌∷◌, ◌++◌, codes, decimal, length, map}
+use Rattle.std.specs.List.{flat_map}
+use Rattle.lotos_text.specs.declared.ast.Functionality.{Functionality}
+use Rattle.lotos_text.specs.declared.ast.Functionality.TheVariants.{Exit, NoExit}
+use Rattle.lotos_check.specs.Flat.{FlatProcess, System}
+use Rattle.lotos_search.specs.Order.{Label}
+
+-- an item of a listing: a sequence, and its least word
+pub record Item : Type 0 where
+  pub sequence : List Label
+  pub word : List Label
+
+-- the sequences of items
+abbrev pub sequences : List Item → List (List Label)
+sequences items = map (λ item. item.sequence) items
+
+-- a sequence as text: its labels, separated by one blank
+abbrev pub sequence_text : List Label → List ℕ
+sequence_text [] = codes "<empty>"
+sequence_text (l ∷ rest) = l ++ flat_map (λ m. 32 ∷ m) rest
+
+-- what a line says behind its sequence: nothing, or where words are asked for ` : ` and the word
+abbrev pub run_text : (explain : Bool) → List Label → List ℕ
+run_text false word = []
+run_text true word = codes " : " ++ sequence_text word
+
+-- the line of an item, which a line feed ends
+abbrev pub line_of : (explain : Bool) → Item → List ℕ
+line_of explain item = sequence_text item.sequence ++ run_text explain item.word ++ 10 ∷ []
+
+-- the lines of a list of items
+abbrev pub lines_of : (explain : Bool) → List Item → List ℕ
+lines_of explain items = flat_map (λ item. line_of explain item) items
+
+-- a functionality as text
+abbrev pub functionality_text : Functionality → List ℕ
+functionality_text Exit = codes "exit"
+functionality_text NoExit = codes "noexit"
+
+-- the line of a process: its name, how many formal gates it has, and its functionality
+abbrev pub process_line : FlatProcess → List ℕ
+process_line p = p.name ++ codes " " ++ decimal (length p.formals) ++ codes " " ++ functionality_text p.functionality ++ codes "\n"
+
+-- the lines of the processes of a system
+abbrev pub check_lines : System → List ℕ
+check_lines system = flat_map process_line system.processes

@@ -1,0 +1,48 @@
+//! The check from end to end.
+ghost use Rattle.std.specs.Prelude.{◌≡◌, ◌+◌, ◌≤◌, false};
+ghost use Rattle.lotos_text.specs.Limits.{max_text_length};
+ghost use Rattle.lotos_tool.specs.OutcomeContracts.{CheckOutcome, is_input_fault, is_output_fault};
+
+use crate::outcome::{Ended, Why};
+use crate::output_flush::flush_complete;
+use crate::output_lines::format_processes;
+use crate::specification_input::{Rejection, read_specification};
+use lotos_device::{DeviceFailed, Sink, Source, write_bytes};
+use std::alloc::Global;
+
+/// Reads a specification, checks it, and writes a line for each of its processes, in the order of their definitions, each
+/// followed at once by its inner ones: its name, how many formal gates it has, and `exit` or `noexit`.
+///
+/// What is refused is answered with nothing written. All lines are composed before the first byte is written, and where no
+/// fault came the writing ends with one flush. At most one byte more than a text may have is taken from the reader, whatever
+/// it gives. The reader and the writer have not failed yet.
+pub fn check_text<R: Source, W: Sink>(alloc: Global, reader: &mut R, writer: &mut W) -> Ended
+    requires reader { R.has_failed reader.old ≡ false }
+    requires writer { W.has_failed writer.old ≡ false }
+    ensures answers { CheckOutcome (R.left reader.old) (R.left reader.new) (W.got writer.old) (W.got writer.new) result }
+    ensures given { R.given reader.new ≤ R.given reader.old + (max_text_length + 1) }
+    ensures input { R.has_failed reader.new ≡ is_input_fault result }
+    ensures output { W.has_failed writer.new ≡ is_output_fault result }
+{
+    let found = match read_specification(alloc, reader) {
+        Ok(found) => found,
+        Err(Rejection::Refused(refusal)) => return Ended::Refused(refusal),
+        Err(Rejection::Memory) => return Ended::Stopped {
+            last: None,
+            why: Why::Memory,
+        },
+    };
+    let Ok(lines) = format_processes(alloc, found.processes()) else {
+        return Ended::Stopped {
+            last: None,
+            why: Why::Memory,
+        };
+    };
+    match write_bytes(writer, lines.as_slice()) {
+        Ok(()) => flush_complete(writer, None, found.processes().len() as u64),
+        Err(DeviceFailed) => Ended::Stopped {
+            last: None,
+            why: Why::Write,
+        },
+    }
+}

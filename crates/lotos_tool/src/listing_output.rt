@@ -1,0 +1,131 @@
+//! Writes a listing, item by item as the search finds them.
+ghost use Rattle.std.specs.Prelude.{◌≡◌, ◌⊎◌, ◌≤◌, ℕ, List, IfErr, IfOk, IfSome, IsErrOf, OnOk, Option, false, string_bytes};
+ghost use Rattle.std.specs.Io.KnownBytes.{Appends, Keeps};
+ghost use Rattle.lotos_search.specs.Order.{Label as Text};
+ghost use Rattle.lotos_search.specs.Question.{ArePrinted};
+ghost use Rattle.lotos_search.specs.SearchSteps.{running};
+ghost use Rattle.lotos_tool.specs.OutcomeContracts.{is_output_fault};
+ghost use Rattle.lotos_tool.specs.OutputLines.{Item, line_of, sequence_text};
+ghost use Rattle.lotos_tool.specs.SearchSetup.{ListingOutcome, IsHalt, IsHaltCause, IsItemOf, IsOverCause, IsSmall, is_at_limit};
+ghost use Rattle.lotos_device.specs.ByteOutput.{AppendsPart};
+ghost use Rattle.lotos_tool.specs.WriteFaults.{is_write_fault};
+
+use crate::outcome::{Ended, Why};
+use crate::output_flush::{flush_complete, flush_stopped};
+use crate::output_lines::{format_line, format_sequence};
+use lotos_command::SearchRequest;
+use lotos_device::{DeviceFailed, Sink, write_bytes};
+use lotos_search::laws::items_decrease_remaining;
+use lotos_search::{Found, Halt, Search};
+use lotos_terms::Label;
+use std::alloc::{AllocError, Global};
+
+/// Writes the lines of what the search finds, as it finds them.
+pub fn write_listing<W: Sink>(
+    alloc: Global,
+    request: &SearchRequest,
+    search: &mut Search,
+    writer: &mut W,
+) -> Ended
+    requires begun { search.old.stage ≡ running }
+    requires limit { IfSome request.now.limit (λ n. 1 ≤ n) }
+    requires unfailed { W.has_failed writer.old ≡ false }
+    ensures ends { ListingOutcome request.now search.old.question search.old.cursor (W.got writer.old) (W.got writer.new) result }
+    ensures failed { W.has_failed writer.new ≡ is_output_fault result }
+{
+    items_decrease_remaining();
+    let mut last = None;
+    let mut lines: u64 = 0;
+    loop {
+        let found = match search.next() {
+            Ok(Some(found)) => found,
+            Ok(None) => return flush_complete(writer, last, lines),
+            Err(halt) => {
+                let why = cause_of_halt(alloc, search, &halt, writer);
+                return Ended::Stopped { last, why };
+            }
+        };
+        match write_item(alloc, search, &found, request.explain, writer) {
+            Ok(text) => last = Some(text),
+            Err(why) => return Ended::Stopped { last, why },
+        }
+        lines = lines.saturating_add(1);
+        if is_at_limit(lines, request.limit) {
+            let why = flush_stopped(writer, Why::Limit);
+            return Ended::Stopped { last, why };
+        }
+    }
+}
+
+/// Writes an item's line, and answers the text of its sequence. The line is whole, and the text is made, before the first byte
+/// is written.
+fn write_item<W: Sink>(
+    alloc: Global,
+    search: &Search,
+    found: &Found,
+    explain: bool,
+    writer: &mut W,
+) -> Result<String, Why>
+    requires shown { (item : Item) × IsItemOf search.now.question.names found.now item }
+    requires unfailed { W.has_failed writer.old ≡ false }
+    ensures whole { OnOk result ((item : Item) → IsItemOf search.now.question.names found.now item →
+        Appends (W.got writer.old) (W.got writer.new) (line_of explain item)) }
+    ensures text { IfOk result (λ text. (item : Item) → IsItemOf search.now.question.names found.now item →
+        string_bytes text ≡ sequence_text item.sequence) }
+    ensures memory { IsErrOf result Why.Memory → Keeps (W.got writer.old) (W.got writer.new) }
+    ensures part { IsErrOf result Why.Write → (item : Item) → IsItemOf search.now.question.names found.now item →
+        AppendsPart (W.got writer.old) (W.got writer.new) (line_of explain item) }
+    ensures causes { IfErr result (λ why. (why ≡ Why.Memory) ⊎ (why ≡ Why.Write)) }
+    ensures failed { W.has_failed writer.new ≡ is_write_fault result }
+{
+    let Ok(text) = format_sequence(alloc, search, found.sequence.as_slice()) else {
+        return Err(Why::Memory);
+    };
+    let Ok(line) = format_line(alloc, search, text.as_str(), found.word.as_slice(), explain) else {
+        return Err(Why::Memory);
+    };
+    match write_bytes(writer, line.as_slice()) {
+        Ok(()) => Ok(text),
+        Err(DeviceFailed) => Err(Why::Write),
+    }
+}
+
+/// Whether so many lines are the limit.
+fn is_at_limit(lines: u64, limit: Option<u32>) -> bool
+    ensures at { result ≡ is_at_limit lines limit }
+    ensures small { IsSmall limit }
+{
+    match limit {
+        Some(limit) => u64::from(limit) == lines,
+        None => false,
+    }
+}
+
+/// Why a listing stops where the search, which went on before, was halted.
+fn cause_of_halt<W: Sink>(alloc: Global, search: &Search, halt: &Halt, writer: &mut W) -> Why
+    requires halt { (cursor : Option (List Text)) × IsHalt search.now.question cursor halt.now }
+    requires unfailed { W.has_failed writer.old ≡ false }
+    ensures kept { Keeps (W.got writer.old) (W.got writer.new) }
+    ensures cause { (cursor : Option (List Text)) → IsHalt search.now.question cursor halt.now →
+        IsHaltCause search.now.question cursor (W.has_failed writer.new) result }
+{
+    match halt {
+        Halt::OverTerms(prefix) => oversized_cause(alloc, search, prefix.as_slice(), writer),
+        Halt::Memory => Why::Memory,
+        Halt::Failed => unreachable!(),
+    }
+}
+
+/// Why a listing stops at this prefix, which reaches too many terms; that is passed on by one flush.
+fn oversized_cause<W: Sink>(alloc: Global, search: &Search, prefix: &[Label], writer: &mut W) -> Why
+    requires shown { (r : List Text) × ArePrinted search.now.question.names prefix.now r }
+    requires unfailed { W.has_failed writer.old ≡ false }
+    ensures kept { Keeps (W.got writer.old) (W.got writer.new) }
+    ensures cause { (r : List Text) → ArePrinted search.now.question.names prefix.now r →
+        IsOverCause r (W.has_failed writer.new) result }
+{
+    match format_sequence(alloc, search, prefix) {
+        Ok(text) => flush_stopped(writer, Why::OverTerms(text)),
+        Err(AllocError) => Why::Memory,
+    }
+}

@@ -1,0 +1,75 @@
+//! Messages for standard error. They take no memory, and a writer that fails is let be.
+
+use crate::outcome::Why;
+use crate::refusal::Refusal;
+use itoa::Buffer;
+use std::fmt;
+use std::io::Write;
+
+/// Says why a search or a check is refused.
+pub(crate) fn report_refusal<E: Write>(err: &mut E, refusal: &Refusal) {
+    let _ = writeln!(err, "lotosseq: {refusal}");
+}
+
+/// Says after which sequence a search stopped, and why. A prefix could reach so many terms.
+pub(crate) fn report_stop<E: Write>(err: &mut E, last: &Option<String>, why: &Why, terms: usize) {
+    let cause = CauseText { why, terms };
+    let _ = match last {
+        Some(sequence) => writeln!(err, "lotosseq: stopped after {sequence}: {cause}"),
+        None => writeln!(err, "lotosseq: stopped before the first line: {cause}"),
+    };
+}
+
+/// Says why a command that lists no sequences failed.
+pub(crate) fn report_failure<E: Write>(err: &mut E, why: &Why) {
+    let _ = writeln!(err, "lotosseq: {}", CauseText { why, terms: 0 });
+}
+
+/// Passes on a text that has its own line feeds.
+pub(crate) fn report_text<E: Write>(err: &mut E, text: &str) {
+    let _ = write!(err, "{text}");
+}
+
+/// Why a search or a check stopped, and how many terms a prefix could reach.
+#[derive(Drop)]
+struct CauseText<'a> {
+    why: &'a Why,
+    terms: usize,
+}
+
+impl fmt::Display for CauseText<'_> {
+    fn fmt<W: fmt::Write>(&self, f: &mut fmt::Formatter<W>) -> fmt::Result {
+        match self.why {
+            Why::Limit => f.write_str("limit reached"),
+            Why::OverTerms(prefix) => {
+                write!(f, "more than {} terms at {prefix}", NumberText(self.terms))
+            }
+            Why::Memory => f.write_str("E99 out of memory"),
+            Why::Write => f.write_str("output cannot be written"),
+        }
+    }
+}
+
+/// A number in decimal digits.
+#[derive(Clone, Copy, Debug)]
+pub(crate) struct NumberText(pub usize);
+
+impl fmt::Display for NumberText {
+    fn fmt<W: fmt::Write>(&self, f: &mut fmt::Formatter<W>) -> fmt::Result {
+        let mut digits = Buffer::new();
+        f.write_str(digits.format(self.0))
+    }
+}
+
+/// A line and a column before what is said of them, or nothing.
+#[derive(Clone, Copy, Debug)]
+pub(crate) struct PositionText(pub Option<(usize, usize)>);
+
+impl fmt::Display for PositionText {
+    fn fmt<W: fmt::Write>(&self, f: &mut fmt::Formatter<W>) -> fmt::Result {
+        match self.0 {
+            Some((line, column)) => write!(f, "{}:{}: ", NumberText(line), NumberText(column)),
+            None => Ok(()),
+        }
+    }
+}

@@ -1,0 +1,105 @@
+//! Sequences and processes as text.
+ghost use Rattle.std.specs.Prelude.{◌≡◌, ◌∷◌, [], ◌++◌, IfOk, List, OnOk, flat_map, map, string_bytes, true};
+ghost use Rattle.lotos_check.specs.CheckedView.{process_of};
+ghost use Rattle.lotos_search.specs.Order.{Label as Text};
+ghost use Rattle.lotos_search.specs.Question.{ArePrinted};
+ghost use Rattle.lotos_tool.specs.OutputLines.{run_text, functionality_text, process_line, sequence_text};
+
+use itoa::Buffer;
+use lotos_check::Process;
+use lotos_search::Search;
+use lotos_terms::Label;
+use lotos_text::Functionality;
+use std::alloc::{AllocError, Global};
+
+/// A sequence as text: its printed labels, separated by one blank, or `<empty>`. The labels are those of the search.
+pub fn format_sequence(
+    alloc: Global,
+    search: &Search,
+    labels: &[Label],
+) -> Result<String, AllocError>
+    requires { (s : List Text) × ArePrinted search.now.question.names labels.now s }
+    ensures { IfOk result (λ text. (s : List Text) → ArePrinted search.now.question.names labels.now s →
+        string_bytes text ≡ sequence_text s) }
+{
+    let Some((first, rest)) = labels.split_first() else {
+        return String::from_str(alloc, "<empty>");
+    };
+    let mut text = String::from_str(alloc, search.label_text(*first))?;
+    // Room for labels of one letter.
+    text.reserve(rest.len().saturating_mul(2))?;
+    for label in rest {
+        text.push_str(" ")?;
+        text.push_str(search.label_text(*label))?;
+    }
+    Ok(text)
+}
+
+/// The line of a sequence with this text, and with this word where words are asked for.
+pub fn format_line(
+    alloc: Global,
+    search: &Search,
+    text: &str,
+    word: &[Label],
+    explain: bool,
+) -> Result<Vec<u8>, AllocError>
+    requires { (w : List Text) × ArePrinted search.now.question.names word.now w }
+    ensures { IfOk result (λ line. (w : List Text) → ArePrinted search.now.question.names word.now w →
+        line.items ≡ text.now ++ run_text explain w ++ 10 ∷ []) }
+{
+    let mut line = Vec::with_capacity(alloc, text.len() + 1)?;
+    line.extend_from_slice(text.as_bytes())?;
+    if explain {
+        append_run(alloc, search, word, &mut line)?;
+    }
+    line.push(b'\n')?;
+    Ok(line)
+}
+
+/// Adds what a line says of a word.
+fn append_run(
+    alloc: Global,
+    search: &Search,
+    word: &[Label],
+    line: &mut Vec<u8>,
+) -> Result<(), AllocError>
+    requires { (w : List Text) × ArePrinted search.now.question.names word.now w }
+    ensures { OnOk result ((w : List Text) → ArePrinted search.now.question.names word.now w →
+        line.new.items ≡ line.old.items ++ run_text true w) }
+{
+    let text = format_sequence(alloc, search, word)?;
+    line.extend_from_slice(b" : ")?;
+    line.extend_from_slice(text.as_bytes())
+}
+
+/// The lines of the processes, in their order.
+pub fn format_processes(alloc: Global, processes: &[Process]) -> Result<Vec<u8>, AllocError>
+    ensures { IfOk result (λ lines. lines.items ≡ flat_map process_line (map process_of processes.now)) }
+{
+    let mut lines = Vec::new(alloc);
+    for process in processes {
+        append_process(process, &mut lines)?;
+    }
+    Ok(lines)
+}
+
+fn append_process(process: &Process, lines: &mut Vec<u8>) -> Result<(), AllocError>
+    ensures { OnOk result (lines.new.items ≡ lines.old.items ++ process_line (process_of process.now)) }
+{
+    let mut digits = Buffer::new();
+    lines.extend_from_slice(process.name.text().as_bytes())?;
+    lines.extend_from_slice(b" ")?;
+    lines.extend_from_slice(digits.format(process.formals.len()).as_bytes())?;
+    lines.extend_from_slice(b" ")?;
+    lines.extend_from_slice(functionality_text(process.functionality).as_bytes())?;
+    lines.extend_from_slice(b"\n")
+}
+
+fn functionality_text(functionality: Functionality) -> &'static str
+    ensures { result.now ≡ functionality_text functionality }
+{
+    match functionality {
+        Functionality::Exit => "exit",
+        Functionality::NoExit => "noexit",
+    }
+}

@@ -1,0 +1,131 @@
+//! The command from its words to its status.
+ghost use Rattle.std.specs.Prelude.{◌≡◌, ◌+◌, ◌≤◌, ◌==◌, false, OnOk, OnErr, is_err};
+ghost use Rattle.std.specs.Io.KnownBytes.{Appends};
+ghost use Rattle.lotos_text.specs.Limits.{max_text_length};
+ghost use Rattle.lotos_tool.specs.OutcomeContracts.{is_output_cause, is_output_fault};
+ghost use Rattle.lotos_command.specs.Request.{texts_of};
+ghost use Rattle.lotos_tool.specs.ProgramRuns.{HelpWritten, Ran, check_status_of, status_of, stop_status_of};
+ghost use Rattle.lotos_device.specs.ByteOutput.{AppendsBeginning};
+
+use crate::check_command::check_text;
+use crate::messages::{report_failure, report_refusal, report_stop, report_text};
+use crate::outcome::{Ended, Why};
+use crate::search_command::list;
+use lotos_command::{CommandFault, Request, request};
+use lotos_device::{DeviceFailed, Sink, Source, write_bytes};
+use std::alloc::Global;
+use std::io::Write;
+
+/// Runs the command and answers its status.
+///
+/// The first of the words is the program's own name. The listing, or the help where the words ask for it, goes to `out`, and
+/// every message to `err`, whose faults change no status. At most one byte more than a text may have is taken from the reader,
+/// whatever it gives. The reader and the output have not failed yet.
+pub fn run<R: Source, W: Sink, E: Write>(
+    alloc: Global,
+    words: &[&str],
+    reader: &mut R,
+    out: &mut W,
+    err: &mut E,
+) -> u8
+    requires reader { R.has_failed reader.old ≡ false }
+    requires out { W.has_failed out.old ≡ false }
+    ensures ran { Ran (texts_of words.now) (R.left reader.old) (R.left reader.new) (W.got out.old) (W.got out.new)
+        (R.has_failed reader.new) result }
+    ensures given { R.given reader.new ≤ R.given reader.old + (max_text_length + 1) }
+    ensures output { W.has_failed out.new ≡ (result == 6) }
+{
+    match request(alloc, words) {
+        Ok(Request::Check) => report_check(&check_text(alloc, reader, out), err),
+        Ok(Request::Search(search)) => report_search(
+            &list(alloc, &search, reader, out),
+            search.terms,
+            err,
+        ),
+        Err(CommandFault::Help(text)) => write_help(text.as_str(), out, err),
+        Err(CommandFault::Wrong(text)) => {
+            report_text(err, text.as_str());
+            2
+        }
+        Err(CommandFault::Memory) => {
+            report_failure(err, &Why::Memory);
+            5
+        }
+    }
+}
+
+/// Tells of a search that is not complete, and answers its status. A prefix could reach so many terms.
+fn report_search<E: Write>(ended: &Ended, terms: usize, err: &mut E) -> u8
+    ensures status { result ≡ status_of ended.now }
+    ensures output { is_output_fault ended.now ≡ (result == 6) }
+{
+    match ended {
+        Ended::Complete { lines: 0 } => 1,
+        Ended::Complete { lines: _ } => 0,
+        Ended::Refused(refusal) => {
+            report_refusal(err, refusal);
+            2
+        }
+        Ended::Stopped { last, why } => {
+            report_stop(err, last, why, terms);
+            stop_status(why)
+        }
+    }
+}
+
+/// Tells of a check that is not complete, and answers its status.
+fn report_check<E: Write>(ended: &Ended, err: &mut E) -> u8
+    ensures status { result ≡ check_status_of ended.now }
+    ensures output { is_output_fault ended.now ≡ (result == 6) }
+{
+    match ended {
+        Ended::Complete { .. } => 0,
+        Ended::Refused(refusal) => {
+            report_refusal(err, refusal);
+            2
+        }
+        Ended::Stopped { last: _, why } => {
+            report_failure(err, why);
+            stop_status(why)
+        }
+    }
+}
+
+/// The status of what stopped for this cause.
+fn stop_status(why: &Why) -> u8
+    ensures status { result ≡ stop_status_of why.now }
+    ensures output { is_output_cause why.now ≡ (result == 6) }
+{
+    match why {
+        Why::Limit => 3,
+        Why::OverTerms(_) => 4,
+        Why::Memory => 5,
+        Why::Write => 6,
+    }
+}
+
+/// Writes the help, and answers the status.
+fn write_help<W: Sink, E: Write>(text: &str, out: &mut W, err: &mut E) -> u8
+    requires { W.has_failed out.old ≡ false }
+    ensures shown { HelpWritten (W.got out.old) (W.got out.new) text.now result }
+    ensures output { W.has_failed out.new ≡ (result == 6) }
+{
+    match write_text(text, out) {
+        Ok(()) => 0,
+        Err(DeviceFailed) => {
+            report_failure(err, &Why::Write);
+            6
+        }
+    }
+}
+
+/// Writes a text and flushes.
+fn write_text<W: Sink>(text: &str, out: &mut W) -> Result<(), DeviceFailed>
+    requires { W.has_failed out.old ≡ false }
+    ensures whole { OnOk result (Appends (W.got out.old) (W.got out.new) text.now) }
+    ensures beginning { OnErr result (AppendsBeginning (W.got out.old) (W.got out.new) text.now) }
+    ensures failed { W.has_failed out.new ≡ is_err result }
+{
+    write_bytes(out, text.as_bytes())?;
+    out.flush()
+}

@@ -1,0 +1,150 @@
+//! The search from end to end.
+ghost use Rattle.std.specs.Prelude.{◌≡◌, ◌+◌, ◌≤◌, IfErr, IfOk, None, Some, false, map, string_bytes};
+ghost use Rattle.lotos_text.specs.Limits.{max_text_length};
+ghost use Rattle.lotos_check.specs.CheckedView.{system_of};
+ghost use Rattle.lotos_pattern.specs.Faults.{IsCause, SpellsNone};
+ghost use Rattle.lotos_pattern.specs.Spelling.{PatternOf, texts_of};
+ghost use Rattle.lotos_tool.specs.OutcomeContracts.{SearchOutcome, IsMarkOf, is_input_fault, is_output_fault};
+ghost use Rattle.lotos_command.specs.Request.{HasSearchBounds};
+ghost use Rattle.lotos_tool.specs.SearchSetup.{IsSearchFor, IsFaultOfMark, IsMarkOutcome, IsPatternOutcome};
+ghost use Rattle.lotos_tool.specs.declared.outcome.Ended.TheVariants.{Stopped};
+ghost use Rattle.lotos_tool.specs.declared.outcome.Why.TheVariants.{Memory};
+
+use crate::listing_output::write_listing;
+use crate::outcome::{Ended, Why};
+use crate::refusal::Refusal;
+use crate::specification_input::{Rejection, read_specification};
+use lotos_check::Checked;
+use lotos_command::SearchRequest;
+use lotos_device::{Sink, Source};
+use lotos_pattern::{Pattern, PatternFault};
+use lotos_search::{Mark, MarkFault, Search};
+use lotos_terms::Table;
+use std::alloc::{AllocError, Global};
+
+/// Reads a specification and writes the listing of its sequences that match the request's pattern: those that some
+/// derivation of at most the request's depth of steps yields, each once, shorter first, then in the order of their labels.
+/// With a mark only those behind it are written.
+///
+/// The words of the pattern are read first, then the mark, then the text, whose specification is checked. What is refused
+/// first is answered, with nothing written, and for the words and the mark with nothing read. A line is composed whole before
+/// its first byte is written. The listing stops when the limit's lines are written, at the first prefix that reaches more
+/// terms than the request allows, for want of memory, and where the output cannot be written. A complete listing, and one that
+/// stops at the limit or at such a prefix, ends with one flush. At most one byte more than a text may have is taken from the
+/// reader, whatever it gives. The reader and the writer have not failed yet.
+pub fn list<R: Source, W: Sink>(
+    alloc: Global,
+    request: &SearchRequest,
+    reader: &mut R,
+    writer: &mut W,
+) -> Ended
+    requires bounds { HasSearchBounds request.now }
+    requires reader { R.has_failed reader.old ≡ false }
+    requires writer { W.has_failed writer.old ≡ false }
+    ensures answers { SearchOutcome request.now (R.left reader.old) (R.left reader.new) (W.got writer.old) (W.got writer.new) result }
+    ensures given { R.given reader.new ≤ R.given reader.old + (max_text_length + 1) }
+    ensures input { R.has_failed reader.new ≡ is_input_fault result }
+    ensures output { W.has_failed writer.new ≡ is_output_fault result }
+{
+    let pattern = match read_pattern(alloc, request) {
+        Ok(pattern) => pattern,
+        Err(fault) => return pattern_refusal(fault),
+    };
+    let mark = match read_mark(alloc, request) {
+        Ok(mark) => mark,
+        Err(fault) => return mark_refusal(fault),
+    };
+    let found = match read_specification(alloc, reader) {
+        Ok(found) => found,
+        Err(Rejection::Refused(refusal)) => return Ended::Refused(refusal),
+        Err(Rejection::Memory) => return out_of_memory(),
+    };
+    match begin_search(alloc, request, found, pattern, mark) {
+        Ok(mut search) => write_listing(alloc, request, &mut search, writer),
+        Err(AllocError) => out_of_memory(),
+    }
+}
+
+/// The pattern that the words spell.
+fn read_pattern(alloc: Global, request: &SearchRequest) -> Result<Pattern, PatternFault>
+    ensures pattern { IfOk result (PatternOf request.now.strong (map string_bytes request.now.words.items)) }
+    ensures cause { IfErr result (IsCause request.now.strong (map string_bytes request.now.words.items)) }
+    ensures nothing { IfErr result (SpellsNone request.now.strong (map string_bytes request.now.words.items)) }
+{
+    let texts = borrow_texts(alloc, request.words.as_slice())?;
+    Pattern::read(alloc, texts.as_slice(), request.strong)
+}
+
+/// The words, lent.
+fn borrow_texts<'a>(alloc: Global, words: &'a [String]) -> Result<Vec<&'a str>, AllocError>
+    ensures { IfOk result (λ v. texts_of v.items ≡ map string_bytes words.now) }
+{
+    let mut texts = Vec::new(alloc);
+    for word in words {
+        texts.push(word.as_str())?;
+    }
+    Ok(texts)
+}
+
+/// The mark of the line, if one is given.
+fn read_mark(alloc: Global, request: &SearchRequest) -> Result<Option<Mark>, MarkFault>
+    ensures mark { IfOk result (IsMarkOf request.now.strong request.now.after) }
+    ensures fault { IfErr result (IsFaultOfMark request.now.strong request.now.after) }
+{
+    match &request.after {
+        Some(line) => Ok(Some(Mark::read(alloc, line.as_str(), request.strong)?)),
+        None => Ok(None),
+    }
+}
+
+/// The search for what the request asks of a specification.
+fn begin_search(
+    alloc: Global,
+    request: &SearchRequest,
+    found: Checked,
+    pattern: Pattern,
+    mark: Option<Mark>,
+) -> Result<Search, AllocError>
+    requires { 1 ≤ request.now.terms }
+    ensures { IfOk result (IsSearchFor request.now (system_of found) pattern mark) }
+{
+    let table = Table::new(alloc, found)?;
+    // Its start tells that the table is sound.
+    let _ = table.start();
+    Search::begin(alloc, table, pattern, request.depth, mark, request.terms)
+}
+
+/// How a search ends whose words spell no pattern, for this fault.
+fn pattern_refusal(fault: PatternFault) -> Ended
+    ensures { IsPatternOutcome fault result }
+{
+    match fault {
+        PatternFault::E41(_)
+        | PatternFault::E42(_)
+        | PatternFault::E43(_)
+        | PatternFault::E44(_)
+        | PatternFault::E45(_)
+        | PatternFault::E48(_) => Ended::Refused(Refusal::Pattern(fault)),
+        PatternFault::E99(_) => out_of_memory(),
+    }
+}
+
+/// How a search ends whose mark is none, for this fault.
+fn mark_refusal(fault: MarkFault) -> Ended
+    ensures { IsMarkOutcome fault result }
+{
+    match fault {
+        MarkFault::E46 => Ended::Refused(Refusal::Mark(fault)),
+        MarkFault::E99(_) => out_of_memory(),
+    }
+}
+
+/// How a search ends for which memory was wanting before any line.
+fn out_of_memory() -> Ended
+    ensures { result ≡ Stopped None Memory }
+{
+    Ended::Stopped {
+        last: None,
+        why: Why::Memory,
+    }
+}

@@ -1,0 +1,181 @@
+//! What is asked of a search, and what it gives.
+ghost use Rattle.lotos_check.specs.NameLists.{In};
+ghost use Rattle.lotos_terms.specs.TableView.{IsPrintedAs};
+ghost use Rattle.lotos_terms.specs.declared.label.Label.{Label as TermLabel};
+ghost use Rattle.lotos_search.specs.Order.{Label as Text};
+
+use lotos_check::check;
+use lotos_pattern::Pattern;
+use lotos_search::{Halt, Mark, Search};
+use lotos_terms::{Label, Table};
+use lotos_text::parse;
+use std::alloc::{AllocError, Global};
+use std::test::Fail;
+
+/// All labels that the specifications here show, in order.
+pub const LABELS: [&str; 6] = ["A", "A1", "B", "C", "exit", "i"];
+
+/// More items than any listing here has.
+const MOST_ITEMS: usize = 10_000;
+
+/// What is searched for.
+#[derive(Clone, Copy)]
+pub struct Asked<'a> {
+    /// The functionality and the behaviour of a specification with the gates `a`, `a1`, `b` and `c`, and what stands behind it.
+    pub behaviour: &'a str,
+    pub words: &'a [&'a str],
+    pub strong: bool,
+    pub depth: u8,
+    pub mark: Option<&'a str>,
+    pub terms: usize,
+}
+
+/// An item, by the texts of its labels.
+#[derive(Drop)]
+pub struct Item {
+    pub sequence: Vec<&'static str>,
+    pub word: Vec<&'static str>,
+}
+
+/// How a listing ends.
+#[derive(Drop)]
+pub enum Ending {
+    Complete,
+    /// This prefix is over.
+    Over(Vec<&'static str>),
+}
+
+#[derive(Drop)]
+pub struct Listing {
+    pub items: Vec<Item>,
+    pub ending: Ending,
+}
+
+/// The table of a specification, given by its functionality and its behaviour.
+pub fn table_of(alloc: Global, behaviour: &str) -> Result<Table, Fail> {
+    let text = format!(in alloc; "specification S [a,a1,b,c] : {behaviour} endspec")?;
+    let tree = parse(alloc, text.as_bytes())?;
+    let system = check(alloc, tree)?;
+    let table = Table::new(alloc, system)?;
+    Ok(table)
+}
+
+pub fn begin(alloc: Global, asked: Asked) -> Result<Search, Fail> {
+    if asked.terms == 0 {
+        return Err("a bound of no terms")?;
+    }
+    let table = table_of(alloc, asked.behaviour)?;
+    let pattern = Pattern::read(alloc, asked.words, asked.strong)?;
+    let mark = match asked.mark {
+        Some(line) => Some(Mark::read(alloc, line, asked.strong)?),
+        None => None,
+    };
+    let search = Search::begin(alloc, table, pattern, asked.depth, mark, asked.terms)?;
+    Ok(search)
+}
+
+/// What the search gives, from its first item to its last.
+pub fn run(alloc: Global, asked: Asked) -> Result<Listing, Fail> {
+    let mut search = begin(alloc, asked)?;
+    let mut items = Vec::new(alloc);
+    for _ in 0..MOST_ITEMS {
+        match advance(alloc, &mut search)? {
+            Step::Item(item) => items.push(item)?,
+            Step::End(ending) => return Ok(Listing { items, ending }),
+        }
+    }
+    Err("a listing without end")?
+}
+
+/// What one call gives.
+enum Step {
+    Item(Item),
+    End(Ending),
+}
+
+fn advance(alloc: Global, search: &mut Search) -> Result<Step, Fail> {
+    match search.next() {
+        Ok(Some(found)) => Ok(Step::Item(Item {
+            sequence: texts(alloc, search, found.sequence.as_slice())?,
+            word: texts(alloc, search, found.word.as_slice())?,
+        })),
+        Ok(None) => Ok(Step::End(Ending::Complete)),
+        Err(Halt::OverTerms(labels)) => {
+            let prefix = texts(alloc, search, labels.as_slice())?;
+            Ok(Step::End(Ending::Over(prefix)))
+        }
+        Err(Halt::Memory) => Err("memory is wanting")?,
+        Err(Halt::Failed) => Err("a halt before")?,
+    }
+}
+
+/// The texts of labels of a search.
+fn texts(alloc: Global, search: &Search, labels: &[Label]) -> Result<Vec<&'static str>, Fail>
+    requires known { (k : TermLabel) → In k labels.now → (text : Text) × IsPrintedAs search.now.question.names k text }
+{
+    let mut texts = Vec::new(alloc);
+    for label in labels {
+        texts.push(known(search.label_text(*label)).ok_or("an unknown label")?)?;
+    }
+    Ok(texts)
+}
+
+/// The one of the labels with this text.
+pub fn known(text: &str) -> Option<&'static str> {
+    for label in LABELS {
+        if label == text {
+            return Some(label);
+        }
+    }
+    None
+}
+
+/// A listing as text: its items, each with its word where that is not the sequence, and how it ends.
+pub fn text_of(alloc: Global, listing: &Listing) -> Result<String, AllocError> {
+    text_from(alloc, listing, 0)
+}
+
+/// The same without the items before this one.
+pub fn text_from(alloc: Global, listing: &Listing, first: usize) -> Result<String, AllocError> {
+    let mut out = String::new(alloc);
+    for (place, item) in listing.items.iter().enumerate() {
+        if place >= first {
+            add_item(&mut out, item.sequence.as_slice(), item.word.as_slice())?;
+        }
+    }
+    add_ending(&mut out, &listing.ending)?;
+    Ok(out)
+}
+
+/// Adds an item, with its word where that is not the sequence.
+pub fn add_item(out: &mut String, sequence: &[&str], word: &[&str]) -> Result<(), AllocError> {
+    spell(out, sequence)?;
+    if sequence != word {
+        out.push_str(" : ")?;
+        spell(out, word)?;
+    }
+    out.push_str("; ")
+}
+
+pub fn add_ending(out: &mut String, ending: &Ending) -> Result<(), AllocError> {
+    match ending {
+        Ending::Complete => out.push_str("end"),
+        Ending::Over(prefix) => {
+            out.push_str("over ")?;
+            spell(out, prefix.as_slice())
+        }
+    }
+}
+
+/// Adds the labels with blanks between them.
+pub fn spell(out: &mut String, labels: &[&str]) -> Result<(), AllocError> {
+    let Some((first, others)) = labels.split_first() else {
+        return out.push_str("<empty>");
+    };
+    out.push_str(first)?;
+    for label in others {
+        out.push_str(" ")?;
+        out.push_str(label)?;
+    }
+    Ok(())
+}

@@ -1,0 +1,309 @@
+//! Worked rows: what searches give, worked out by hand.
+use super::listing_run::{Asked, run, text_of};
+use std::alloc::Global;
+use std::process::Abort;
+use std::test::Fail;
+
+/// More terms than any prefix here reaches.
+const ALL: usize = 1000;
+
+/// A row: depth, words, and what is given: the items, each with its word where that is not the sequence, and how it ends.
+type Plain = (u8, &'static [&'static str], &'static str);
+
+const ACTIONS: &[(&str, &[Plain])] = &[
+    (
+        "exit behaviour a; b; exit",
+        &[
+            (3, &["A", "B", "exit"], "A B exit; end"),
+            (2, &["A", "B", "exit"], "end"),
+        ],
+    ),
+    ("NoExit BEHAVIOR a (* ; *) ; Stop", &[(1, &["a"], "A; end")]),
+    (
+        "noexit behaviour stop",
+        &[(0, &["<deadlock>"], "<empty>; end")],
+    ),
+    (
+        "noexit behaviour a; stop [] a; b; stop",
+        &[(2, &["<any>"], "A; end")],
+    ),
+    ("noexit behaviour a; stop", &[(5, &[], "<empty>; end")]),
+    (
+        "noexit behaviour a; b; b; stop",
+        &[(3, &["<until>", "B"], "A B; end")],
+    ),
+];
+
+const INTERNAL: &[(&str, &[Plain])] = &[
+    (
+        "noexit behaviour i; i; a; stop",
+        &[(2, &["A"], "end"), (3, &["A"], "A : i i A; end")],
+    ),
+    (
+        "noexit behaviour i; a; stop [] a; b; stop",
+        &[
+            (2, &["A"], "A; end"),
+            (2, &["A", "<deadlock>"], "A : i A; end"),
+        ],
+    ),
+    (
+        "noexit behaviour i; stop",
+        &[
+            (0, &["<deadlock>"], "end"),
+            (1, &["<deadlock>"], "<empty> : i; end"),
+        ],
+    ),
+    (
+        "noexit behaviour i; i; a; b; stop [] i; a; b; stop",
+        &[
+            (2, &["A", "B"], "end"),
+            (3, &["A", "B"], "A B : i A B; end"),
+            (4, &["A", "B"], "A B : i A B; end"),
+        ],
+    ),
+    (
+        "noexit behaviour i; a; stop [] a; i; stop",
+        &[
+            (2, &["A", "<deadlock>"], "A : A i; end"),
+            (2, &["A"], "A; end"),
+        ],
+    ),
+];
+
+const COMPOSITIONS: &[(&str, &[Plain])] = &[
+    (
+        "noexit behaviour a; stop ||| b; stop",
+        &[(2, &["<until>", "<deadlock>"], "A B; B A; end")],
+    ),
+    (
+        "exit behaviour a; exit [> b; stop",
+        &[(2, &["<until>", "<deadlock>"], "B; A B; A exit; end")],
+    ),
+    (
+        "exit behaviour exit ||| a; exit",
+        &[(2, &["exit"], "end"), (2, &["A", "exit"], "A exit; end")],
+    ),
+    (
+        "noexit behaviour hide a in a; b; stop [] b; stop",
+        &[(2, &["B"], "B; end")],
+    ),
+    (
+        "noexit behaviour hide a in b; stop [] a; stop",
+        &[(1, &["<any>"], "B; end")],
+    ),
+    (
+        "noexit behaviour a; stop ||| b; stop |[a]| a; b; stop",
+        &[(3, &["<until>", "<deadlock>"], "A B; B A; end")],
+    ),
+];
+
+const CALLS: &[(&str, &[Plain])] = &[
+    (
+        "noexit behaviour P[a,a] where process P [x,y] : noexit := x; stop |[x]| y; x; stop endproc",
+        &[(2, &["<until>", "<deadlock>"], "A A; end")],
+    ),
+    (
+        "noexit behaviour P[a] where process P [x] : noexit := x; exit >> P[x] endproc",
+        &[
+            (4, &["A", "A", "A"], "end"),
+            (5, &["A", "A", "A"], "A A A : A i A i A; end"),
+        ],
+    ),
+    (
+        "noexit behaviour P[a]||Q[a] where process P [x] : noexit := x; stop endproc process Q [x] : noexit := x; stop endproc",
+        &[(1, &["A"], "A; end")],
+    ),
+];
+
+const REPETITION: &[(&str, &[Plain])] = &[(
+    "noexit behaviour a; b; b; stop",
+    &[
+        (3, &["A", "<while>", "B"], "A; A B; A B B; end"),
+        (3, &["<while>", "<any>"], "<empty>; A; A B; A B B; end"),
+        (3, &["<while>", "<any>", "B"], "A B; A B B; end"),
+        (2, &["<while>", "A", "<while>", "A", "<any>"], "A; A B; end"),
+        (3, &["<while>", "<any>", "<deadlock>"], "A B B; end"),
+    ],
+)];
+
+const SHOWN: &[(&str, &[Plain])] = &[
+    (
+        "noexit behaviour i; i; a; stop",
+        &[
+            (3, &["i", "I", "A"], "i i A; end"),
+            (3, &["A"], "end"),
+            (3, &["<until>", "i"], "i; end"),
+        ],
+    ),
+    (
+        "noexit behaviour i; a; stop [] a; b; stop",
+        &[(2, &["<until>", "<deadlock>"], "A B; i A; end")],
+    ),
+    (
+        "noexit behaviour hide a in a; b; stop [] b; stop",
+        &[(2, &["<until>", "<deadlock>"], "B; i B; end")],
+    ),
+];
+
+/// Compares what is given without a mark and a bound.
+fn expect(
+    rt: &impl Abort,
+    alloc: Global,
+    rows: &[(&str, &[Plain])],
+    strong: bool,
+) -> Result<(), Fail> {
+    for (behaviour, searches) in rows {
+        for (depth, words, wanted) in *searches {
+            let asked = Asked {
+                behaviour,
+                words,
+                strong,
+                depth: *depth,
+                mark: None,
+                terms: ALL,
+            };
+            let found = text_of(alloc, &run(alloc, asked)?)?;
+            assert_eq!(rt;
+                found.as_str(),
+                *wanted,
+                "{}: {:?} in {} steps",
+                behaviour,
+                words,
+                depth
+            );
+        }
+    }
+    Ok(())
+}
+
+#[test]
+fn lists_sequences(rt: HostRuntime) -> Result<(), Fail> {
+    expect(&rt, rt.alloc(), ACTIONS, false)?;
+    expect(&rt, rt.alloc(), INTERNAL, false)?;
+    expect(&rt, rt.alloc(), COMPOSITIONS, false)?;
+    expect(&rt, rt.alloc(), CALLS, false)?;
+    expect(&rt, rt.alloc(), REPETITION, false)
+}
+
+#[test]
+fn lists_internal_steps(rt: HostRuntime) -> Result<(), Fail> {
+    expect(&rt, rt.alloc(), SHOWN, true)
+}
+
+/// Marks before, between, at and behind the items `B`, `A B` and `A exit`, and what stands behind them.
+const MARKS: &[(&str, &str)] = &[
+    ("<empty>", "B; A B; A exit; end"),
+    ("A", "B; A B; A exit; end"),
+    ("B", "A B; A exit; end"),
+    ("exit", "A B; A exit; end"),
+    ("A A", "A B; A exit; end"),
+    ("A B", "A exit; end"),
+    ("A C", "A exit; end"),
+    ("A exit : A exit", "end"),
+    ("B A", "end"),
+    ("A A A", "end"),
+];
+
+#[test]
+fn goes_on_behind_marks(rt: HostRuntime) -> Result<(), Fail> {
+    for (mark, wanted) in MARKS {
+        let asked = Asked {
+            behaviour: "exit behaviour a; exit [> b; stop",
+            words: &["<until>", "<deadlock>"],
+            strong: false,
+            depth: 2,
+            mark: Some(*mark),
+            terms: ALL,
+        };
+        let found = text_of(rt.alloc(), &run(rt.alloc(), asked)?)?;
+        assert_eq!(rt; found.as_str(), *wanted, "behind {}", mark);
+    }
+    Ok(())
+}
+
+/// Whether internal steps are shown, a mark, and what stands behind it.
+const WORD_MARKS: &[(bool, &str, &str)] = &[
+    (false, "A : i A", "A B; end"),
+    (false, "A", "A B; end"),
+    (true, "A B", "i A; end"),
+    (true, "exit i", "i A; end"),
+    (true, "i A", "end"),
+];
+
+#[test]
+fn goes_on_behind_words(rt: HostRuntime) -> Result<(), Fail> {
+    for (strong, mark, wanted) in WORD_MARKS {
+        let asked = Asked {
+            behaviour: "noexit behaviour i; a; stop [] a; b; stop",
+            words: &["<until>", "<deadlock>"],
+            strong: *strong,
+            depth: 2,
+            mark: Some(*mark),
+            terms: ALL,
+        };
+        let found = text_of(rt.alloc(), &run(rt.alloc(), asked)?)?;
+        assert_eq!(rt; found.as_str(), *wanted, "behind {}", mark);
+    }
+    Ok(())
+}
+
+const ONE: &str = "noexit behaviour a; stop [] a; b; stop";
+
+const TWO: &str = "noexit behaviour a; stop [] b; stop [] b; a; stop";
+
+const THREE: &str = "noexit behaviour a; stop [] b; stop";
+
+const HIDDEN: &str = "noexit behaviour i; a; stop";
+
+/// A behaviour, a depth, the words, a mark, the most terms of a prefix, and what is given.
+const BOUNDS: &[(&str, u8, &[&str], Option<&str>, usize, &str)] = &[
+    (ONE, 2, &["<any>"], None, 1, "over A"),
+    (TWO, 1, &["<any>"], None, 1, "A; over B"),
+    (TWO, 1, &["<any>"], Some("A"), 1, "over B"),
+    (TWO, 1, &["<any>"], Some("<empty>"), 1, "A; over B"),
+    (TWO, 1, &["<any>"], Some("B"), 1, "over B"),
+    (TWO, 1, &["<any>"], Some("A A"), 1, "over B"),
+    (TWO, 1, &["<any>"], None, 2, "A; B; end"),
+    (THREE, 1, &["<any>"], None, 1, "A; B; end"),
+    (HIDDEN, 2, &["A"], None, 1, "over <empty>"),
+    (HIDDEN, 2, &["A"], None, 2, "A : i A; end"),
+];
+
+#[test]
+fn stops_at_prefixes_that_are_over(rt: HostRuntime) -> Result<(), Fail> {
+    for (behaviour, depth, words, mark, terms, wanted) in BOUNDS {
+        let asked = Asked {
+            behaviour,
+            words,
+            strong: false,
+            depth: *depth,
+            mark: *mark,
+            terms: *terms,
+        };
+        let found = text_of(rt.alloc(), &run(rt.alloc(), asked)?)?;
+        assert_eq!(rt;
+            found.as_str(),
+            *wanted,
+            "{}: at most {} terms",
+            behaviour,
+            terms
+        );
+    }
+    Ok(())
+}
+
+/// A set that is not closed under internal steps has one term.
+#[test]
+fn counts_terms_with_internal_steps_shown(rt: HostRuntime) -> Result<(), Fail> {
+    let asked = Asked {
+        behaviour: HIDDEN,
+        words: &["i", "A"],
+        strong: true,
+        depth: 2,
+        mark: None,
+        terms: 1,
+    };
+    let found = text_of(rt.alloc(), &run(rt.alloc(), asked)?)?;
+    assert_eq!(rt; found.as_str(), "i A; end");
+    Ok(())
+}

@@ -1,0 +1,111 @@
+//! Runs over texts of the whole grammar, and the faults of texts.
+
+use super::memory_devices::{ArrayWriter, SliceReader, run_on};
+use std::alloc::{AllocError, Global};
+use std::process::Abort;
+
+const WORDS: &[&str] = &["lotosseq", "search", "--depth", "1", "A"];
+
+#[test]
+fn processes_that_are_not_called_show_nothing(rt: HostRuntime) {
+    let text =
+        b"specification S [a] : noexit behaviour a; stop where process P : noexit := stop ||| P1 endproc process P1 : noexit := stop endproc endspec";
+    expect(&rt, rt.alloc(), "processes", text, b"A\n", b"");
+}
+
+const FAULTS: &[(&str, &[u8], &[u8])] = &[
+    (
+        "a gate that is not declared beside a parallel expression",
+        b"specification S [a] : noexit behaviour b; stop ||| stop endspec",
+        b"lotosseq: 1:40: E21 gate B is not declared\n",
+    ),
+    (
+        "another functionality of a parallel expression",
+        b"specification S [a] : exit behaviour a; stop ||| stop endspec",
+        b"lotosseq: 1:15: E25 S is declared exit and is noexit\n",
+    ),
+    (
+        "a token too many behind a parallel expression",
+        b"specification S [a] : noexit behaviour stop ||| stop stop endspec",
+        b"lotosseq: 1:54: E04 token is not expected\n",
+    ),
+    (
+        "an empty list of gates in a call, which is the mark of a choice",
+        b"specification S [a] : noexit behaviour P[] endspec",
+        b"lotosseq: 1:44: E04 token is not expected\n",
+    ),
+    (
+        "the opening of a comment, whose asterisk closes nothing",
+        b"(*)",
+        b"lotosseq: 1:1: E02 comment is not closed\n",
+    ),
+    (
+        "a comment that is not closed, on the second line",
+        b"specification S [a] :\n noexit (* behaviour stop endspec",
+        b"lotosseq: 2:9: E02 comment is not closed\n",
+    ),
+    (
+        "a comment alone",
+        b"(**)",
+        b"lotosseq: 1:5: E06 text ends too early\n",
+    ),
+    (
+        "a data type",
+        b"type T is endtype",
+        b"lotosseq: 1:1: E07 word of full LOTOS\n",
+    ),
+    (
+        "a data type behind a parallel expression",
+        b"specification S [a] : noexit behaviour stop ||| stop where\ntype T is endtype endspec",
+        b"lotosseq: 2:1: E07 word of full LOTOS\n",
+    ),
+];
+
+#[test]
+fn faults_of_texts(rt: HostRuntime) {
+    for (name, text, message) in FAULTS {
+        expect(&rt, rt.alloc(), name, *text, b"", *message);
+    }
+}
+
+#[test]
+fn comments_separate_tokens(rt: HostRuntime) {
+    let text = b"specification(**)S [a] : noexit behaviour a; (* b; *) stop endspec";
+    expect(&rt, rt.alloc(), "comments", text, b"A\n", b"");
+}
+
+#[test]
+fn prefixes_nest_so_deep_and_no_deeper(rt: HostRuntime) -> Result<(), AllocError> {
+    let cases: [(usize, &[u8], &[u8]); 2] = [
+        (200, b"A\n", b""),
+        (201, b"", b"lotosseq: 1:641: E05 nesting is over 200\n"),
+    ];
+    for (count, output, message) in cases {
+        let mut text = Vec::from_slice(rt.alloc(), b"specification S [a] : noexit behaviour ")?;
+        for _prefix in 0..count {
+            text.extend_from_slice(b"a; ")?;
+        }
+        text.extend_from_slice(b"stop endspec")?;
+        expect(
+            &rt,
+            rt.alloc(),
+            "prefixes",
+            text.as_slice(),
+            output,
+            message,
+        );
+    }
+    Ok(())
+}
+
+/// Searches the text, and expects what is written and what is said; the status is 0 exactly where nothing is said.
+fn expect(rt: &impl Abort, alloc: Global, name: &str, text: &[u8], output: &[u8], message: &[u8]) {
+    let reader = SliceReader::new(text, 4096);
+    let out = ArrayWriter::new(4096);
+    let err = ArrayWriter::new(4096);
+    let (status, _reader, out, err) = run_on(alloc, WORDS, reader, out, err);
+    assert_eq!(rt; out.got(), output, "{name}");
+    assert_eq!(rt; err.got(), message, "{name}");
+    assert_eq!(rt; status, if message.is_empty() { 0 } else { 2 }, "{name}");
+    assert_eq!(rt; out.flushes, usize::from(message.is_empty()), "{name}");
+}

@@ -1,0 +1,140 @@
+//! Bytes that are no ASCII or begin no token, in texts, in comments, in patterns and in marks.
+
+use super::super::memory_devices::{ArrayWriter, SliceReader, run_on};
+use super::{Answer, NOTHING, SEARCH, expect, expect_refused};
+use std::alloc::{AllocError, Global};
+use std::process::Abort;
+
+/// What is said of a text of one byte.
+fn refusal(byte: u8) -> &'static [u8] {
+    match byte {
+        b'\n' => b"lotosseq: 2:1: E06 text ends too early\n",
+        9..=13 | b' ' => b"lotosseq: 1:2: E06 text ends too early\n",
+        b'A'..=b'Z' | b'a'..=b'z' => b"lotosseq: 1:1: E04 token is not expected\n",
+        b';' | b':' | b',' | b'(' | b')' | b'[' | b']' | b'|' => {
+            b"lotosseq: 1:1: E04 token is not expected\n"
+        }
+        _ => b"lotosseq: 1:1: E01 byte begins no token\n",
+    }
+}
+
+#[test]
+fn each_byte_alone_is_refused(rt: HostRuntime) {
+    for byte in 0u8..=255 {
+        let text = [byte];
+        expect_refused(&rt, rt.alloc(), "a byte", text.as_slice(), refusal(byte));
+    }
+}
+
+#[test]
+fn each_byte_may_stand_in_a_comment(rt: HostRuntime) -> Result<(), AllocError> {
+    let answer = Answer {
+        output: b"A\n",
+        message: NOTHING,
+        status: 0,
+    };
+    for byte in 0u8..=255 {
+        let mut text = Vec::from_slice(rt.alloc(), b"specification S [a] : noexit behaviour a(*")?;
+        text.push(byte)?;
+        text.extend_from_slice(b"*); stop endspec")?;
+        expect(
+            &rt,
+            rt.alloc(),
+            "a byte in a comment",
+            SEARCH,
+            text.as_slice(),
+            &answer,
+        );
+    }
+    Ok(())
+}
+
+#[test]
+fn bytes_that_are_no_ascii_begin_no_token(rt: HostRuntime) -> Result<(), AllocError> {
+    for byte in 128u8..=255 {
+        let mut text = Vec::from_slice(rt.alloc(), b"specification S [a] : noexit behaviour a;")?;
+        text.push(byte)?;
+        text.extend_from_slice(b" stop endspec")?;
+        expect_refused(
+            &rt,
+            rt.alloc(),
+            "a byte between tokens",
+            text.as_slice(),
+            b"lotosseq: 1:42: E01 byte begins no token\n",
+        );
+    }
+    Ok(())
+}
+
+/// Names with letters that are no ASCII, some of which have a case in ASCII.
+const STRANGERS: &[&str] = &[
+    "\u{e4}",
+    "A\u{e9}",
+    "\u{131}",
+    "\u{130}",
+    "\u{212a}it",
+    "\u{17f}top",
+    "\u{ff21}",
+    "A\u{a0}",
+    "\u{feff}A",
+    "<any\u{301}>",
+    "\u{ff1c}any\u{ff1e}",
+    "A\0",
+];
+
+#[test]
+fn letters_that_are_no_ascii_are_no_words_of_a_pattern(rt: HostRuntime) {
+    for stranger in STRANGERS {
+        for words in [
+            ["lotosseq", "search", "--depth", "1", *stranger].as_slice(),
+            ["lotosseq", "search", "--depth", "1", "--strong", *stranger].as_slice(),
+        ] {
+            expect_unread(
+                &rt,
+                rt.alloc(),
+                stranger,
+                words,
+                b"lotosseq: E41 word 1 is neither a label nor an element\n",
+            );
+        }
+        for element in ["<until>", "<UNTIL>"] {
+            let words = ["lotosseq", "search", "--depth", "1", element, *stranger];
+            expect_unread(
+                &rt,
+                rt.alloc(),
+                stranger,
+                words.as_slice(),
+                b"lotosseq: E42 word 1 needs a label or <deadlock> after it\n",
+            );
+        }
+    }
+}
+
+#[test]
+fn letters_that_are_no_ascii_are_no_lines_of_a_listing(rt: HostRuntime) {
+    for stranger in STRANGERS {
+        let words = [
+            "lotosseq", "search", "--depth", "1", "--after", *stranger, "A",
+        ];
+        expect_unread(
+            &rt,
+            rt.alloc(),
+            stranger,
+            words.as_slice(),
+            b"lotosseq: E46 mark is no line of a listing\n",
+        );
+    }
+}
+
+/// Runs the words, and expects that they are refused before anything is read.
+fn expect_unread(rt: &impl Abort, alloc: Global, name: &str, words: &[&str], message: &[u8]) {
+    let reader = SliceReader::new(b"specification", 1);
+    let out = ArrayWriter::new(4096);
+    let err = ArrayWriter::new(4096);
+    let (status, reader, out, err) = run_on(alloc, words, reader, out, err);
+    assert_eq!(rt; err.got(), message, "{name}");
+    assert_eq!(rt; status, 2, "{name}");
+    assert_eq!(rt; reader.reads, 0, "{name}");
+    assert!(rt; out.got().is_empty(), "{name}");
+    assert_eq!(rt; out.flushes, 0, "{name}");
+}

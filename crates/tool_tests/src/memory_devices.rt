@@ -1,0 +1,206 @@
+//! Readers and writers in memory, which move a few bytes a call, count their calls, and fail where they are told to.
+ghost use Rattle.std.specs.Prelude.{◌≡◌, ◌≤◌, Some, take};
+
+use super::large_runs::Awaited;
+use lotos_device::{FromRead, FromWrite};
+use lotos_tool::run;
+use std::alloc::Global;
+use std::io;
+use std::io::{Error, ErrorKind, Read, Write};
+
+/// Gives the bytes of a slice.
+#[derive(Drop)]
+pub struct SliceReader<'a> {
+    /// The bytes that are left.
+    pub rest: &'a [u8],
+    /// The most bytes that a read gives; at least one.
+    pub piece: usize,
+    /// The number of the read that fails, counted from 1.
+    pub fails_at: Option<usize>,
+    /// The calls so far.
+    pub reads: usize,
+}
+
+impl<'a> SliceReader<'a> {
+    /// A reader that has not been called, and does not fail.
+    pub fn new(bytes: &'a [u8], piece: usize) -> SliceReader<'a> {
+        SliceReader {
+            rest: bytes,
+            piece,
+            fails_at: None,
+            reads: 0,
+        }
+    }
+}
+
+impl Read for SliceReader<'_> {
+    ghost remaining = { λ s. Some s.rest.now };
+
+    fn read(&mut self, buf: &mut [u8]) -> io::Result<usize> {
+        self.reads = self.reads.saturating_add(1);
+        if self.fails_at == Some(self.reads) {
+            return Err(Error::from(ErrorKind::Other));
+        }
+        let rest = self.rest;
+        let count = self.piece.max(1).min(buf.len()).min(rest.len());
+        buf[..count].copy_from_slice(&rest[..count]);
+        self.rest = &rest[count..];
+        Ok(count)
+    }
+}
+
+/// Gives one blank a read, and never ends.
+#[derive(Drop)]
+pub struct Blanks {
+    /// The calls so far.
+    pub reads: usize,
+}
+
+impl Read for Blanks {
+    fn read(&mut self, buf: &mut [u8]) -> io::Result<usize> {
+        self.reads = self.reads.saturating_add(1);
+        match buf.first_mut() {
+            Some(place) => {
+                *place = b' ';
+                Ok(1)
+            }
+            None => Ok(0),
+        }
+    }
+}
+
+const ROOM: usize = 8192;
+
+/// What a full writer does with more bytes.
+#[derive(Clone, Copy)]
+pub enum WhenFull {
+    Fails,
+    TakesNothing,
+}
+
+/// Keeps the bytes that it takes.
+#[derive(Drop)]
+pub struct ArrayWriter {
+    bytes: [u8; ROOM],
+    len: usize,
+    /// The most bytes that a write takes.
+    pub piece: usize,
+    /// The bytes after which it is full; it never keeps more than 8192.
+    pub most: usize,
+    pub when_full: WhenFull,
+    pub flush_fails: bool,
+    /// The calls of `flush` so far.
+    pub flushes: usize,
+    ghost within: { len ≤ 8192 },
+}
+
+impl ArrayWriter {
+    /// An empty writer that does not fail before 8192 bytes.
+    pub fn new(piece: usize) -> ArrayWriter {
+        ArrayWriter {
+            bytes: [0; ROOM],
+            len: 0,
+            piece,
+            most: ROOM,
+            when_full: WhenFull::Fails,
+            flush_fails: false,
+            flushes: 0,
+        }
+    }
+
+    /// The bytes so far.
+    pub fn got(&self) -> &[u8]
+        ensures { result.now ≡ take self.now.len self.now.bytes }
+    {
+        &self.bytes[..self.len]
+    }
+}
+
+impl Write for ArrayWriter {
+    ghost contents = { λ s. Some (take s.len s.bytes) };
+
+    fn write(&mut self, buf: &[u8]) -> io::Result<usize> {
+        let len = self.len;
+        let room = self.most.min(ROOM).saturating_sub(len);
+        if room == 0 && !buf.is_empty() {
+            return match self.when_full {
+                WhenFull::Fails => Err(Error::from(ErrorKind::Other)),
+                WhenFull::TakesNothing => Ok(0),
+            };
+        }
+        let count = buf.len().min(self.piece).min(room);
+        self.bytes[len..len + count].copy_from_slice(&buf[..count]);
+        self.len = len + count;
+        Ok(count)
+    }
+
+    fn flush(&mut self) -> io::Result<()> {
+        self.flushes = self.flushes.saturating_add(1);
+        if self.flush_fails {
+            return Err(Error::from(ErrorKind::Other));
+        }
+        Ok(())
+    }
+}
+
+/// Takes all that it is given and compares it with lines of one length that are awaited.
+#[derive(Drop)]
+pub struct Comparer {
+    /// The lines that are awaited.
+    pub awaited: Awaited,
+    /// The bytes of a line, its line feed included; at least one.
+    pub length: usize,
+    /// The bytes so far.
+    pub got: usize,
+    /// The bytes so far that are other than those awaited.
+    pub others: usize,
+    /// The most bytes of one write.
+    pub largest: usize,
+}
+
+impl Comparer {
+    /// A writer that has got nothing.
+    pub fn new(awaited: Awaited, length: usize) -> Comparer {
+        Comparer {
+            awaited,
+            length,
+            got: 0,
+            others: 0,
+            largest: 0,
+        }
+    }
+}
+
+impl Write for Comparer {
+    fn write(&mut self, buf: &[u8]) -> io::Result<usize> {
+        let length = self.length.max(1);
+        for byte in buf {
+            let expected = self.awaited.byte(self.got / length, self.got % length);
+            if *byte != expected {
+                self.others = self.others.saturating_add(1);
+            }
+            self.got = self.got.saturating_add(1);
+        }
+        self.largest = self.largest.max(buf.len());
+        Ok(buf.len())
+    }
+
+    fn flush(&mut self) -> io::Result<()> {
+        Ok(())
+    }
+}
+
+/// Runs the command on the devices, and hands them back beside the status.
+pub fn run_on<R: Read, W: Write>(
+    alloc: Global,
+    words: &[&str],
+    reader: R,
+    out: W,
+    err: ArrayWriter,
+) -> (u8, R, W, ArrayWriter) {
+    let mut source = FromRead::new(reader);
+    let mut sink = FromWrite::new(out);
+    let mut err = err;
+    let status = run(alloc, words, &mut source, &mut sink, &mut err);
+    (status, source.into_inner(), sink.into_inner(), err)
+}

@@ -1,0 +1,37 @@
+//! Whole runs of searches over all forms, with every option: what is written, what is said, and the status.
+
+mod bounds;
+mod deadlocks_and_elements;
+mod enabling_and_parallel;
+mod limits;
+mod marks;
+mod operator_rows;
+mod repetition;
+mod strong;
+
+use super::memory_devices::{ArrayWriter, SliceReader, run_on};
+use std::alloc::Global;
+use std::process::Abort;
+
+/// A search of a text.
+struct Row {
+    name: &'static str,
+    text: &'static [u8],
+    words: &'static [&'static str],
+    output: &'static [u8],
+    message: &'static [u8],
+    status: u8,
+}
+
+/// Makes the search, and expects what is written, what is said, the status, and one flush.
+fn expect(rt: &impl Abort, alloc: Global, row: &Row) {
+    let name = row.name;
+    let reader = SliceReader::new(row.text, 4096);
+    let out = ArrayWriter::new(4096);
+    let err = ArrayWriter::new(4096);
+    let (status, _reader, out, err) = run_on(alloc, row.words, reader, out, err);
+    assert_eq!(rt; out.got(), row.output, "{name}");
+    assert_eq!(rt; err.got(), row.message, "{name}");
+    assert_eq!(rt; status, row.status, "{name}");
+    assert_eq!(rt; out.flushes, 1, "{name}");
+}

@@ -1,0 +1,34 @@
+use Rattle.std.proofs.Common.{subst}
+use Rattle.std.specs.Prelude.{None}
+use Rattle.std.proofs.lemmas.Result.{err_from_is_err_and}
+use Rattle.uses.specs.ResumedListings.{IsFirstItem}
+use Rattle.uses.proofs.Searches.{none_found, second_found, second_stops, within_first}
+use Rattle.uses.proofs.resumed_listing.second_item.Goals as goal
+use Rattle.uses.proofs.resumed_listing.second_item.Goals.{in-Some+in_ok-second-in-Some, in-None}
+
+pub returns-in_err-search-clause-stopped : goal.returns-in_err-search-clause-stopped
+returns-in_err-search-clause-stopped c =
+    let a = c.args in
+    let p = err_from_is_err_and c.from_residual.result c.from_residual.ensures.1 in
+    rw (p.1, p.2) (within_first a.table a.pattern a.depth a.terms c.in_err-search.field-0.0 c.in_err-search.ensures.stopped)
+
+pub returns-in_err-second-in-Some-clause-stopped : goal.returns-in_err-second-in-Some-clause-stopped
+returns-in_err-second-in-Some-clause-stopped c =
+    let a = c.args in
+    let p = err_from_is_err_and c.from_residual-in_err-second-in-Some.result c.from_residual-in_err-second-in-Some.ensures.1 in
+    let first = subst (λ f. IsFirstItem a.table a.pattern a.depth a.terms None (c.in_ok-search.search, f)) c.in-Some.is c.in_ok-search.ensures.found in
+    rw (p.1, p.2) (second_stops a.table a.pattern a.depth a.terms c.in_ok-search.search c.next.new.self c.in-Some.field-0 c.in_err-second-in-Some.field-0.0 first c.next.ensures.same
+    c.in_err-second-in-Some.ensures.says)
+
+pub returns-clause-found : goal.returns-clause-found
+returns-clause-found c =
+    let a = c.args in
+    elim c.match-first.branch [
+      | in-Some+in_ok-second-in-Some w ↦
+          let first = subst (λ f. IsFirstItem a.table a.pattern a.depth a.terms None (c.in_ok-search.search, f)) w.in-Some.is c.in_ok-search.ensures.found in
+          rw w.result-is (second_found a.table a.pattern a.depth a.terms c.in_ok-search.search w.next.new.self w.in-Some.field-0 w.in_ok-second-in-Some.second first w.next.ensures.same
+          w.in_ok-second-in-Some.ensures.says)
+      | in-None w ↦
+          let first = subst (λ f. IsFirstItem a.table a.pattern a.depth a.terms None (c.in_ok-search.search, f)) w.in-None.is c.in_ok-search.ensures.found in
+          rw w.result-is (none_found a.table a.pattern a.depth a.terms c.in_ok-search.search first)
+    ]

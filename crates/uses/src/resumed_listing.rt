@@ -1,0 +1,101 @@
+//! Items of a listing, by `lotos_search`.
+ghost use Rattle.std.specs.Prelude.{◌≤◌, IfErr, IfOk};
+ghost use Rattle.uses.specs.ResumedListings.{IsItemAfter, IsFirstItem, IsSecondItem, IsHaltOf, IsItemFault, IsSecondHalt};
+
+use lotos_pattern::Pattern;
+use lotos_search::{Found, Halt, Mark, MarkFault, Search};
+use lotos_terms::Table;
+use std::alloc::{AllocError, Global};
+
+/// Why no item was answered.
+#[derive(Debug, Drop)]
+pub enum ItemFault {
+    /// The line is none that a listing has.
+    Line,
+    /// The search was stopped.
+    Halt(Halt),
+}
+
+impl From<Halt> for ItemFault {
+    ghost use Rattle.std.specs.Prelude.{◌≡◌};
+    ghost use Rattle.uses.specs.declared.resumed_listing.ItemFault.TheVariants as fault;
+
+    ghost from_gives = { λ halt given. given ≡ fault.Halt halt };
+
+    fn from(halt: Halt) -> ItemFault {
+        ItemFault::Halt(halt)
+    }
+}
+
+/// The first item of the listing behind the one of a line, with the search that gave it, which goes on behind the item; none where
+/// nothing stands behind the line. The line need not be in the listing.
+///
+/// # Errors
+///
+/// The line is none that a listing has; a prefix reaches more than `terms` terms; or a growth of the heap was refused.
+pub fn item_after(
+    alloc: Global,
+    table: Table,
+    pattern: Pattern,
+    depth: u8,
+    line: &str,
+    terms: usize,
+) -> Result<(Search, Option<Found>), ItemFault>
+    requires { 1 ≤ terms }
+    ensures found { IfOk result (IsItemAfter table pattern depth terms line.now) }
+    ensures stopped { IfErr result (IsItemFault table pattern depth terms line.now) }
+{
+    let mark = match Mark::read(alloc, line, pattern.strong()) {
+        Ok(mark) => mark,
+        Err(MarkFault::E46) => return Err(ItemFault::Line),
+        Err(MarkFault::E99(_)) => return Err(ItemFault::Halt(Halt::Memory)),
+    };
+    Ok(first_item(alloc, table, pattern, depth, Some(mark), terms)?)
+}
+
+/// The second item of the whole listing, with the search that gave it; none where there are less than two.
+///
+/// # Errors
+///
+/// A prefix reaches more than `terms` terms, or a growth of the heap was refused.
+pub fn second_item(
+    alloc: Global,
+    table: Table,
+    pattern: Pattern,
+    depth: u8,
+    terms: usize,
+) -> Result<(Search, Option<Found>), Halt>
+    requires { 1 ≤ terms }
+    ensures found { IfOk result (IsSecondItem table pattern depth terms) }
+    ensures stopped { IfErr result (IsSecondHalt table pattern depth terms) }
+{
+    let (mut search, first) = first_item(alloc, table, pattern, depth, None, terms)?;
+    match first {
+        Some(_) => {
+            let second = search.next()?;
+            Ok((search, second))
+        }
+        None => Ok((search, None)),
+    }
+}
+
+/// The first item behind the mark, if one is given, with the search that gave it.
+fn first_item(
+    alloc: Global,
+    table: Table,
+    pattern: Pattern,
+    depth: u8,
+    mark: Option<Mark>,
+    terms: usize,
+) -> Result<(Search, Option<Found>), Halt>
+    requires { 1 ≤ terms }
+    ensures found { IfOk result (IsFirstItem table pattern depth terms mark) }
+    ensures stopped { IfErr result (IsHaltOf table pattern depth terms mark) }
+{
+    let mut search = Search::begin(alloc, table, pattern, depth, mark, terms)?;
+    let found = search.next()?;
+    Ok((search, found))
+}
+
+#[cfg(test)]
+mod tests;

@@ -1,0 +1,119 @@
+//! Items behind a line, and second items.
+use super::{ItemFault, item_after, second_item};
+use lotos_check::check;
+use lotos_pattern::Pattern;
+use lotos_search::{Found, Halt};
+use lotos_terms::{Label, Table};
+use lotos_text::parse;
+use std::alloc::Global;
+use std::test::Fail;
+
+/// The depth of the searches, and more terms than a prefix reaches.
+const DEPTH: u8 = 3;
+
+const TERMS: usize = 100;
+
+/// A specification of which the sequences are `<empty>`, `A`, `B`, `A exit`, `B A`, `B A exit`.
+const TEXT: &str = "specification S [a,b] : exit behaviour a; exit [] b; a; exit endspec";
+
+fn table_of(alloc: Global, text: &str) -> Result<Table, Fail> {
+    let tree = parse(alloc, text.as_bytes())?;
+    let system = check(alloc, tree)?;
+    let table = Table::new(alloc, system)?;
+    Ok(table)
+}
+
+/// The labels of the gates, in the order of their names.
+const A: Label = Label::Gate(0);
+
+const B: Label = Label::Gate(1);
+
+/// A line, and the sequence of the first item behind it; none where nothing stands there.
+const LINES: &[(&str, Option<&[Label]>)] = &[
+    ("<empty>", Some(&[A])),
+    ("A", Some(&[B])),
+    ("B", Some(&[A, Label::Exit])),
+    ("A exit", Some(&[B, A])),
+    ("A exit : A exit", Some(&[B, A])),
+    ("B A", Some(&[B, A, Label::Exit])),
+    ("B A exit", None),
+    // Lines that the listing does not have.
+    ("A A", Some(&[A, Label::Exit])),
+    ("C", Some(&[A, Label::Exit])),
+    ("A A A A", None),
+];
+
+/// The sequence of an item.
+fn sequence(found: &Option<Found>) -> Option<&[Label]> {
+    match found {
+        Some(item) => Some(item.sequence.as_slice()),
+        None => None,
+    }
+}
+
+#[test]
+fn finds_the_item_behind_a_line(rt: HostRuntime) -> Result<(), Fail> {
+    let alloc = rt.alloc();
+    for (line, wanted) in LINES {
+        let table = table_of(alloc, TEXT)?;
+        let pattern = Pattern::read(alloc, &["<while>", "<any>"], false)?;
+        match item_after(alloc, table, pattern, DEPTH, line, TERMS) {
+            Ok((_, found)) => assert_eq!(rt; sequence(&found), *wanted, "behind {}", line),
+            Err(_) => return Err("no answer")?,
+        }
+    }
+    Ok(())
+}
+
+#[test]
+fn refuses_a_line_that_no_listing_has(rt: HostRuntime) -> Result<(), Fail> {
+    let alloc = rt.alloc();
+    let table = table_of(alloc, TEXT)?;
+    let pattern = Pattern::read(alloc, &["<any>"], false)?;
+    let answer = item_after(alloc, table, pattern, DEPTH, "A  B", TERMS);
+    assert!(rt; matches!(answer, Err(ItemFault::Line)), "two blanks");
+    Ok(())
+}
+
+#[test]
+fn finds_the_second_item(rt: HostRuntime) -> Result<(), Fail> {
+    let alloc = rt.alloc();
+    let rows: &[(&[&str], Option<&[Label]>)] = &[
+        (&["<while>", "<any>"], Some(&[A])),
+        (&["<any>"], Some(&[B])),
+        // `A exit` and `B A`.
+        (&["<any>", "<any>"], Some(&[B, A])),
+        // `A exit` and `B A exit`.
+        (&["<until>", "exit"], Some(&[B, A, Label::Exit])),
+        // `B` alone.
+        (&["b"], None),
+        // None at all.
+        (&["c"], None),
+    ];
+    for (words, wanted) in rows {
+        let table = table_of(alloc, TEXT)?;
+        let pattern = Pattern::read(alloc, words, false)?;
+        match second_item(alloc, table, pattern, DEPTH, TERMS) {
+            Ok((_, found)) => assert_eq!(rt; sequence(&found), *wanted, "{:?}", words),
+            Err(_) => return Err("no answer")?,
+        }
+    }
+    Ok(())
+}
+
+#[test]
+fn stops_where_a_prefix_is_over(rt: HostRuntime) -> Result<(), Fail> {
+    let alloc = rt.alloc();
+    let text = "specification S [a] : noexit behaviour a; stop [] a; a; stop endspec";
+    let table = table_of(alloc, text)?;
+    let pattern = Pattern::read(alloc, &["<while>", "<any>"], false)?;
+    match second_item(alloc, table, pattern, DEPTH, 1) {
+        Err(Halt::OverTerms(prefix)) => assert_eq!(rt;
+            prefix.as_slice(),
+            [A].as_slice(),
+            "the prefix"
+        ),
+        _ => return Err("no halt")?,
+    }
+    Ok(())
+}

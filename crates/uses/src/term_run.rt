@@ -1,0 +1,55 @@
+//! A run of a specification, by `lotos_terms`.
+ghost use Rattle.std.specs.Prelude.{◌<◌, IfOk, length};
+ghost use Rattle.lotos_terms.specs.TableView.{Grows, IsSoundView};
+ghost use Rattle.uses.specs.TermRuns.{IsRunOf, IsStepIfAny};
+
+use lotos_terms::{Label, Table, Term};
+use std::alloc::{AllocError, Global};
+
+/// Follows the first step of each term from the start, at most `depth` steps: a run of the specification, with each label and the
+/// term that its step leads to. It ends early only at a deadlock. Internal steps and `exit` count. That it is the first step of
+/// each term which is followed, the contract does not say.
+///
+/// # Errors
+///
+/// A growth of the heap was refused. The table may have grown then too.
+pub fn first_run(
+    alloc: Global,
+    table: &mut Table,
+    depth: usize,
+) -> Result<Vec<(Label, Term)>, AllocError>
+    ensures grows { Grows table.old table.new }
+    ensures sound { IsSoundView table.new }
+    ensures run { IfOk result (λ v. IsRunOf table.new table.new.start v.items depth) }
+{
+    let mut run = Vec::new(alloc);
+    let mut here = table.start();
+    for _ in 0..depth {
+        let next = first_step(table, here)?;
+        match next {
+            None => return Ok(run),
+            Some(step) => {
+                let to = step.1;
+                run.push(step)?;
+                here = to;
+            }
+        }
+    }
+    Ok(run)
+}
+
+/// The first step of a term; none at a deadlock.
+fn first_step(table: &mut Table, here: Term) -> Result<Option<(Label, Term)>, AllocError>
+    requires { here < length table.old.terms }
+    ensures grows { Grows table.old table.new }
+    ensures sound { IsSoundView table.new }
+    ensures step { IfOk result (IsStepIfAny table.new here) }
+{
+    match table.successors(here)?.first() {
+        None => Ok(None),
+        Some(step) => Ok(Some(*step)),
+    }
+}
+
+#[cfg(test)]
+mod tests;
