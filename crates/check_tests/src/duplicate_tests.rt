@@ -1,4 +1,4 @@
-//! Names that are declared twice, and names that are declared once in each of several lists.
+//! Names that are declared twice, and names that several lists declare once each.
 use super::table_texts::message;
 use std::test::Fail;
 

@@ -1,10 +1,11 @@
-//! Gates that may be used at a place of a body, and those that may not.
+//! Gates that are in scope at a point of a body, and gates that are not.
 use super::table_texts::{answer, message};
 use lotos_check::{Code, check};
 use lotos_text::parse;
 use std::test::Fail;
 
-/// A formal gate list, and a hide form whose gates are a formal one and another: what is known inside it and behind it.
+/// A list of formal gates, and a hide form for one of them and another gate: what is in scope inside the form and after
+/// it.
 #[test]
 fn knows_the_gates_that_were_added(rt: HostRuntime) -> Result<(), Fail> {
     let rows = [
@@ -50,7 +51,7 @@ fn knows_the_gates_that_were_added(rt: HostRuntime) -> Result<(), Fail> {
     Ok(())
 }
 
-/// A gate that is known twice is one gate: the list has three.
+/// A gate that is declared and hidden counts once: the list has three.
 #[test]
 fn knows_each_gate_once(rt: HostRuntime) -> Result<(), Fail> {
     let found = answer(

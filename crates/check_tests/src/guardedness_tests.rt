@@ -1,4 +1,4 @@
-//! Processes that call each other, with their unguarded calls and rankings.
+//! Processes that call each other, with their unguarded calls and their ranks.
 use lotos_check::{CheckFault, Checked, check};
 use lotos_text::parse;
 use std::alloc::{AllocError, Global};
@@ -19,7 +19,7 @@ enum Place {
     RightOfDisable,
 }
 
-/// A body that calls the process at the place.
+/// A body that calls the process there.
 fn called(alloc: Global, place: Place, process: usize) -> Result<String, AllocError> {
     match place {
         Place::Bare => format!(in alloc; "P{process} [] exit"),
@@ -34,7 +34,7 @@ fn called(alloc: Global, place: Place, process: usize) -> Result<String, AllocEr
     }
 }
 
-/// The definition of the process of this number, with its calls in a choice.
+/// The definition of the process with this number, whose body is a choice of its calls.
 fn process(
     alloc: Global,
     number: usize,
@@ -53,7 +53,7 @@ fn process(
     Ok(text)
 }
 
-/// A specification of so many processes with these calls, each from a process to one.
+/// A specification of `count` processes with these calls, each from one process to another.
 fn specification(
     alloc: Global,
     count: usize,
@@ -80,7 +80,7 @@ enum Ranking {
     Unguarded(Vec<usize>),
 }
 
-/// The ranking of so many processes with these calls.
+/// The ranking of `count` processes with these calls.
 fn ranked(alloc: Global, count: usize, calls: &[(usize, Place, usize)]) -> Result<Ranking, Fail> {
     let text = specification(alloc, count, calls)?;
     let tree = parse(alloc, text.as_bytes())?;
@@ -101,7 +101,7 @@ fn ranks_of(alloc: Global, system: &Checked) -> Result<Vec<usize>, AllocError> {
     Ok(ranks)
 }
 
-/// The set of processes with unguarded calls into it; none where recursion is guarded.
+/// The set of processes with unguarded calls into it; empty if recursion is guarded.
 fn unguarded_of(found: &Ranking) -> &[usize] {
     match found {
         Ranking::Guarded(_) => &[],
@@ -239,7 +239,7 @@ fn ranks_or_refuses_a_long_chain(rt: HostRuntime) -> Result<(), Fail> {
     Ok(())
 }
 
-/// The processes that can be numbered, in the order of their ranks; where some cannot be, in the order of the text.
+/// The processes that can be ranked: by rank if all can, otherwise by number.
 fn order_of(alloc: Global, count: usize, found: &Ranking) -> Result<Vec<usize>, AllocError> {
     let mut order = Vec::new(alloc);
     match found {

@@ -1,7 +1,7 @@
-//! Tests of the static rules through what their crate makes public: specifications with their systems or their faults, each
-//! worked out by hand.
+//! Tests of the static rules through their crate's public items: specifications with their systems or their faults,
+//! each worked out by hand.
 //!
-//! They stand in a crate of their own, since what is tested is proved once below it.
+//! They are a crate of their own, because a crate with tests inside is proved twice.
 #![tactic(auto)]
 
 #[cfg(test)]

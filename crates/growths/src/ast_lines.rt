@@ -1,4 +1,4 @@
-//! Trees as text: every parenthesis, and the names with their offsets.
+//! ASTs as text, with every parenthesis and with the offsets of names.
 
 use crate::lines::{Line, put, put_number};
 use crate::retry_heap::Stop;
@@ -98,7 +98,7 @@ fn write_sync(line: &mut Line, sync: &SyncSet) -> Result<(), Stop> {
     }
 }
 
-/// A name with gates, in brackets where there are some.
+/// Writes a name, and gates in brackets if there are some.
 fn write_call(line: &mut Line, name: &Placed, gates: &[Placed]) -> Result<(), Stop> {
     write_name(line, name)?;
     if gates.is_empty() {
@@ -109,7 +109,7 @@ fn write_call(line: &mut Line, name: &Placed, gates: &[Placed]) -> Result<(), St
     put(line, " ]")
 }
 
-/// Names, a blank before each.
+/// Writes names, each after a blank.
 fn write_names(line: &mut Line, names: &[Placed]) -> Result<(), Stop> {
     for name in names {
         put(line, " ")?;

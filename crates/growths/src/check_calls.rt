@@ -1,4 +1,4 @@
-//! Texts of specifications: their trees, their systems and the steps of their terms.
+//! Texts of specifications: their ASTs, their systems and the steps of their terms.
 
 use crate::ast_lines::write_definition;
 use crate::front_end::{checked, parsed, table_of_system};
@@ -40,7 +40,7 @@ pub fn rows(rt: &impl Print, heap: &mut Heap) -> Result<(), Stop> {
     Ok(())
 }
 
-/// Writes a tree, and what its check answers.
+/// Writes an AST, and the result of its check.
 fn accept(rt: &impl Print, heap: &mut Heap, tree: Specification, text: &str) -> Result<(), Stop> {
     let mut line = Line::new();
     write_definition(&mut line, &tree.whole)?;
@@ -72,7 +72,7 @@ fn copied(heap: &mut Heap, name: &Name) -> Result<Name, AllocError> {
     }
 }
 
-/// Writes the steps of the first terms of a system, and then once more those of all of them.
+/// Writes the steps of the first terms of a system, and then the same once more.
 fn follow(rt: &impl Print, heap: &mut Heap, system: Checked, text: &str) -> Result<(), Stop> {
     let table = table_of_system(heap, system, text)?;
     let mut met = Explored::new(heap, table)?;

@@ -1,4 +1,4 @@
-//! Specifications, checked ones and tables, made once more where memory was refused.
+//! Specifications, checked ones and tables, retried after an allocation failure.
 
 use crate::retry_heap::{Heap, Stop};
 use lotos_check::{CheckFault, Checked, check};
@@ -15,7 +15,7 @@ pub fn parsed(heap: &mut Heap, text: &str) -> Result<Specification, TextFault> {
     }
 }
 
-/// What the check of a tree answers, which is that of the text.
+/// The result of the check of an AST, which is that of the text.
 pub fn checked(
     heap: &mut Heap,
     tree: Specification,
@@ -36,7 +36,7 @@ fn system_of(heap: &mut Heap, text: &str) -> Result<Checked, Stop> {
     Ok(checked(heap, tree, text)??)
 }
 
-/// The table of a system, which is that of the text.
+/// The table of a checked specification, which is that of the text.
 pub fn table_of_system(heap: &mut Heap, system: Checked, text: &str) -> Result<Table, Stop> {
     match Table::new(heap.alloc, system) {
         Ok(table) => Ok(table),

@@ -1,4 +1,4 @@
-//! Texts that are cut into tokens.
+//! Texts that are lexed.
 
 use crate::lines::Line;
 use crate::retry_heap::{Heap, Stop};

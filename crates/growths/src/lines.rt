@@ -1,15 +1,15 @@
-//! Lines of the output, which are composed without a growth of the heap.
+//! Output lines, which are composed without allocating.
 
 use crate::retry_heap::Stop;
 use arrayvec::ArrayString;
 use std::fmt::Write;
 
-/// The bytes that a line has room for.
+/// The capacity of a line, in bytes.
 const ROOM: usize = 500;
 
 pub type Line = ArrayString<ROOM>;
 
-/// Puts a text at the end of a line.
+/// Appends a text to a line.
 pub fn put(line: &mut Line, text: &str) -> Result<(), Stop> {
     match line.try_push_str(text) {
         Ok(()) => Ok(()),
@@ -17,7 +17,7 @@ pub fn put(line: &mut Line, text: &str) -> Result<(), Stop> {
     }
 }
 
-/// Puts a number at the end of a line.
+/// Appends a number to a line.
 pub fn put_number(line: &mut Line, number: usize) -> Result<(), Stop> {
     Ok(write!(line, "{number}")?)
 }

@@ -1,8 +1,8 @@
-//! Makes each public call that takes memory, over worked rows, and writes what it answers.
+//! Makes each public call that allocates, over rows of arguments, and writes what it returns.
 //!
-//! A call that was refused memory is made once more with the same arguments, and its second answer is written. So the output is
-//! the same whichever one growth of the heap is refused, as long as the call says so and leaves what it was lent unchanged. How
-//! many calls were refused stands on standard error.
+//! A call that runs out of memory is retried with the same arguments, and the second result is written. So the output
+//! is the same whichever one allocation fails, as long as the call reports the failure and leaves its borrowed
+//! arguments unchanged. The number of retried calls is written to standard error.
 #![tactic(auto)]
 
 mod ast_lines;

@@ -5,7 +5,7 @@ use crate::retry_heap::{Heap, Stop};
 use lotos_search::{Mark, MarkFault};
 use std::fmt::Write;
 
-/// A line, and whether internal steps are shown.
+/// A line, and whether internal steps are observed.
 const ROWS: &[(&str, bool)] = &[
     ("a exit b_1 A A A : i A", false),
     ("i A I", true),

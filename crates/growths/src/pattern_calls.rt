@@ -1,11 +1,11 @@
-//! Words of patterns, and whether the beginnings of a sequence match.
+//! Words of patterns, and whether the prefixes of a sequence match.
 
 use crate::lines::{Line, put};
 use crate::retry_heap::{Heap, Stop};
 use lotos_pattern::{Pattern, PatternFault};
 use std::fmt::Write;
 
-/// Words, whether internal steps are shown, and a sequence.
+/// Words, whether internal steps are observed, and a sequence.
 const ROWS: &[(&[&str], bool, &[&str])] = &[
     (
         &["A", "<any>", "b", "<until>", "c", "exit", "<deadlock>"],
@@ -44,7 +44,7 @@ pub fn pattern_of(heap: &mut Heap, words: &[&str], strong: bool) -> Result<Patte
     }
 }
 
-/// Writes whether the sequence may end behind each of its beginnings, up to where the pattern matches none that goes on so.
+/// Writes whether each prefix of the sequence may end there, up to the first that the pattern cannot match.
 fn write_ends(line: &mut Line, pattern: &Pattern, sequence: &[&str]) -> Result<(), Stop> {
     let mut place = pattern.begin();
     let end = pattern.accepts(place);

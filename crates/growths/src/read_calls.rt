@@ -7,7 +7,7 @@ use std::alloc::Global;
 use std::fmt::Write;
 use std::io::{self, Read};
 
-/// How many bytes the source has.
+/// The number of bytes that the source has.
 const ROWS: &[u64] = &[0, 1, 10_000];
 
 pub fn rows(rt: &impl Print, heap: &mut Heap) -> Result<(), Stop> {
@@ -32,7 +32,7 @@ fn text_of(heap: &mut Heap, length: u64) -> Result<Vec<u8>, ReadFault> {
     }
 }
 
-/// Reads a whole text, from a source of its own.
+/// Reads a whole text from a source made for it.
 fn read(alloc: Global, length: u64) -> Result<Vec<u8>, ReadFault> {
     let mut source = FromRead::new(io::repeat(b'a').take(length));
     read_text(alloc, &mut source)

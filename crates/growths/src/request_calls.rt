@@ -1,4 +1,4 @@
-//! Words of the command.
+//! Words of the command line.
 
 use crate::retry_heap::{Heap, Stop};
 use lotos_command::{CommandFault, Request, request};

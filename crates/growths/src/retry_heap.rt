@@ -1,4 +1,4 @@
-//! The heap, how many calls it refused, and why the program stops.
+//! The heap with its count of failed calls, and why the program stops.
 
 use lotos_check::CheckFault;
 use lotos_pattern::PatternFault;
@@ -7,7 +7,7 @@ use lotos_text::TextFault;
 use std::alloc::{AllocError, AllocFailed, Global};
 use std::{fmt, io};
 
-/// The heap, with the count of the calls that were refused memory.
+/// The heap, with the number of calls that ran out of memory.
 #[derive(Drop)]
 pub struct Heap {
     pub alloc: Global,
@@ -19,7 +19,7 @@ impl Heap {
         Heap { alloc, refused: 0 }
     }
 
-    /// Counts one call more that was refused.
+    /// Counts a call that ran out of memory.
     pub fn refuse(&mut self) {
         self.refused = self.refused.saturating_add(1);
     }
@@ -32,13 +32,13 @@ impl Heap {
 /// Why the program stops before its end.
 #[derive(Clone, Copy, Debug, PartialEq, Eq)]
 pub enum Stop {
-    /// A call was refused memory twice.
+    /// A call ran out of memory twice.
     Memory,
-    /// A row is not what it is taken for.
+    /// A row has another result than it should.
     Row,
     /// A line is too long.
     Line,
-    /// Standard output refuses bytes.
+    /// Standard output could not be written.
     Output,
 }
 

@@ -1,4 +1,4 @@
-//! Listings. A search that was refused memory is begun again behind its last item.
+//! Listings. A search that runs out of memory is begun again after its last item.
 ghost use Rattle.lotos_check.specs.NameLists.{In};
 ghost use Rattle.lotos_terms.specs.TableView.{IsPrintedAs};
 ghost use Rattle.lotos_terms.specs.declared.label.Label.{Label as TermLabel};
@@ -19,12 +19,12 @@ const MOST_CALLS: usize = 50;
 /// What is searched for.
 #[derive(Clone, Copy)]
 struct Question {
-    /// The functionality and the behaviour of a specification, and what stands behind it.
+    /// The functionality and the behaviour of a specification, and what follows them.
     text: &'static str,
     words: &'static [&'static str],
     strong: bool,
     depth: u8,
-    /// The line behind which the listing begins; the empty text for none.
+    /// The line after which the listing starts; empty for none.
     behind: &'static str,
     terms: usize,
 }
@@ -145,7 +145,7 @@ fn begun(
     Ok(Search::begin(heap.alloc, table, pattern, asked.depth, mark, asked.terms))
 }
 
-/// A search that was refused memory answers that it failed, again and again.
+/// Fails unless a search that ran out of memory returns `Halt::Failed`, again and again.
 fn fail(search: &mut Search) -> Result<(), Stop> {
     for _ in 0..2 {
         if !matches!(search.next(), Err(Halt::Failed)) {
@@ -155,14 +155,14 @@ fn fail(search: &mut Search) -> Result<(), Stop> {
     Ok(())
 }
 
-/// What one call gives.
+/// What a call of the search returns.
 enum NextResult {
     Item,
     End,
     Refusal,
 }
 
-/// Writes what one call gives, and the sequence of an item as the last one too.
+/// Writes what a call returns, and stores the sequence of an item as the last one.
 fn advance(search: &mut Search, line: &mut Line, last: &mut Line) -> Result<NextResult, Stop> {
     match search.next() {
         Ok(Some(found)) => {
@@ -188,7 +188,7 @@ fn advance(search: &mut Search, line: &mut Line, last: &mut Line) -> Result<Next
     }
 }
 
-/// Writes a sequence of labels of the search, a blank between two.
+/// Writes a sequence of labels of the search, separated by one blank each.
 fn spell(line: &mut Line, search: &Search, labels: &[Label]) -> Result<(), Stop>
     requires known { (k : TermLabel) → In k labels.now → (text : Text) × IsPrintedAs search.now.question.names k text }
 {
@@ -204,7 +204,7 @@ fn spell(line: &mut Line, search: &Search, labels: &[Label]) -> Result<(), Stop>
     Ok(())
 }
 
-/// Puts a blank between two labels, and none before the first.
+/// Appends a blank between labels, and none before the first.
 fn put_blank(line: &mut Line, is_first: bool) -> Result<(), Stop> {
     if is_first { Ok(()) } else { put(line, " ") }
 }

@@ -1,4 +1,4 @@
-//! Checked specifications as text: every parenthesis, and the calls by number.
+//! Checked specifications as text, with every parenthesis and with calls by number.
 
 use crate::ast_lines::functionality_word;
 use crate::lines::{Line, put, put_number};
@@ -26,7 +26,7 @@ pub fn write_system(line: &mut Line, system: &Checked) -> Result<(), Stop> {
     Ok(())
 }
 
-/// Writes a fault, the offset of its place, and the processes that it carries.
+/// Writes a fault, its offset, and the processes that it carries.
 pub fn write_fault(line: &mut Line, fault: &CheckFault) -> Result<(), Stop> {
     write!(line, " {fault}")?;
     if let Some(at) = fault.at() {
@@ -100,7 +100,7 @@ fn write_code(line: &mut Line, code: &Code) -> Result<(), Stop> {
     Ok(())
 }
 
-/// Names, a blank before each.
+/// Writes names, each after a blank.
 fn write_names(line: &mut Line, names: &[Name]) -> Result<(), Stop> {
     for name in names {
         let text = name.text();

@@ -1,4 +1,4 @@
--- Where no `where` declares a name twice, a name has one meaning.
+-- If no `where` declares a name twice, a name has one binding.
 use Rattle.std.proofs.Common.{◌≡◌, ℕ, ◌+◌, List, [], ◌∷◌, ◌++◌, ◌⊎◌, inl, inr, refl, sym, ap, subst, ◌∙◌}
 use Rattle.lotos_text.specs.AstView.{DefinitionView, DefinitionListView, no_defs, more_defs, name_of, inner_of}
 use Rattle.lotos_text.specs.declared.ast.Placed.{Placed}

@@ -1,4 +1,4 @@
--- What is found of many bodies, one by one.
+-- The resolution of many bodies, one by one.
 use Rattle.std.specs.Prelude.{◌≡◌, ℕ, suc, ◌+◌, ◌<◌, length, get_or, drop, List, [], ◌∷◌, ◌++◌, IfErr, IsErrAnd, Result, Ok, Err}
 use Rattle.std.specs.HashMap.{HashMap}
 use Rattle.std.proofs.Common.{refl, sym, subst, append_assoc, append-nil, ap, ◌∙◌, drop-cons, add-one, inl, inr}

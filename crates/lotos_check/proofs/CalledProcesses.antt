@@ -1,4 +1,4 @@
--- Every call goes to the process whose number its name means, and with no cause E23 it fits.
+-- Every call goes to the process that its name is bound to, and without E23 its gates fit.
 use Rattle.std.proofs.Common.{◌≡◌, ◌≢◌, ℕ, ◌+◌, List, [], ◌∷◌, ◌++◌, Some, length, slice_get, refl, sym, ap, ◌∙◌, subst, inl, inr, arith, zero, suc}
 use Rattle.std.proofs.lemmas.Bool.Decides.{eqb_tells}
 use Rattle.std.proofs.lemmas.List.{length-map}

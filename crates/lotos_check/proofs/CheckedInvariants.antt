@@ -1,4 +1,4 @@
--- What an accepted specification keeps, merely.
+-- The invariant of a checked specification, truncated.
 use Rattle.std.proofs.Common.{◌≡◌, ℕ, ◌<◌, List, Some, length, slice_get, get_or, refl, arith}
 use Rattle.std.proofs.Math.Logic.{∥∥₁_elim}
 use Rattle.std.proofs.lemmas.Option.{slice_get_read}

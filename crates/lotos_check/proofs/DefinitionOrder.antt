@@ -1,4 +1,4 @@
--- All definitions of a row, from those of its first and of the others.
+-- All definitions of a list, from those of its first and of the others.
 use Rattle.std.proofs.Common.{◌≡◌, ◌∷◌, refl}
 use Rattle.lotos_text.specs.AstView.{DefinitionView, def, inner_of}
 use Rattle.lotos_text.specs.AstOf.{definition_view, definitions_view, behaviour_view, definition_list_view}

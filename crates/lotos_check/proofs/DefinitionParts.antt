@@ -1,4 +1,4 @@
--- The parts of a definition of the code are those of the plain one.
+-- The parts of a definition of the program are those of its view.
 use Rattle.std.specs.Prelude.{◌≡◌}
 use Rattle.std.proofs.Common.{sym, ap}
 use Rattle.lotos_text.specs.AstView.{DefinitionView, def, name_of, formals_of, declared_of, body_of, inner_of}

@@ -1,4 +1,4 @@
--- Where no gate is declared twice, no name stands twice among formal gates.
+-- If no gate is declared twice, no name occurs twice among formal gates.
 use Rattle.std.proofs.Common.{◌≡◌, ℕ, List, [], ◌∷◌, ◌++◌, Some, slice_get, refl, sym, ap, subst, inl, inr}
 use Rattle.lotos_text.specs.AstView.{DefinitionView, formals_of}
 use Rattle.lotos_text.specs.declared.ast.Placed.{Placed}

@@ -1,4 +1,4 @@
--- What repeats in a definition: its own formals, the names of its `where`, or what repeats in one of its inner definitions.
+-- A duplicate in a definition: in its formals, in its `where`, or in one of its inner definitions.
 use Rattle.std.proofs.Common.{◌≡◌, ◌⊎◌, ℕ, ◌+◌, List, [], ◌∷◌, refl, sym, ap, subst, ◌∙◌, inl, inr}
 use Rattle.lotos_text.specs.AstView.{DefinitionView, def, DefinitionListView, no_defs, more_defs, formals_of, inner_of}
 use Rattle.lotos_text.specs.declared.ast.Placed.{Placed}

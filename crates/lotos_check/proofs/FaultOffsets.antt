@@ -1,4 +1,4 @@
--- Where the faults of a specification stand: inside every text inside which its tree stands.
+-- The offsets of faults are inside every text that the AST is inside.
 use Rattle.std.proofs.Common.{◌≡◌, ℕ, ◌+◌, ◌≤◌, List, [], ◌∷◌, Some, zero, suc, refl, sym, subst, inl, inr}
 use Rattle.std.specs.Prelude.{slice_get}
 use Rattle.lotos_text.specs.AstView.{BehaviourView, enable, call, DefinitionView, def, DefinitionListView, no_defs, more_defs, name_of, formals_of, body_of, inner_of}

@@ -1,4 +1,4 @@
--- What a pass refuses breaks a static rule, and what breaks a static rule is not accepted.
+-- What a pass rejects breaks a static rule, and what breaks a static rule is not accepted.
 use Rattle.std.proofs.Common.{◌≡◌, ℕ, List, [], ◌∷◌, map, refl, sym, ap, ◌∙◌, subst, inl, inr, Option, Some, None, zero, suc}
 use Rattle.std.specs.Prelude.{MatchOption, slice_get}
 use Rattle.lotos_text.specs.AstView.{DefinitionView, name_of, formals_of, body_of}

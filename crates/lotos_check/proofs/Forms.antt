@@ -1,4 +1,4 @@
--- What is found of a behaviour, from what is found of its operands.
+-- The resolution of a behaviour, from those of its operands.
 use Rattle.std.specs.Prelude.{◌≡◌, ℕ, List, ◌++◌, Option, Some, None, MatchOption, MatchResult, Result, Ok, Err}
 use Rattle.std.specs.Option.{option_or}
 use Rattle.std.specs.Result.{IsErrAnd}

@@ -1,4 +1,4 @@
--- What stands in a list, by its place.
+-- The items of a list, by index.
 use Rattle.std.proofs.Common.{◌<◌, ℕ, zero, suc, List, [], ◌∷◌, length, get_or, refl, inl, inr, arith}
 use Rattle.lotos_check.specs.NameLists.{In}
 

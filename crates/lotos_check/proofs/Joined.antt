@@ -1,5 +1,4 @@
--- What the passes over one specification give each other: the definitions of its text, what was found of their bodies, its
--- flat system and the processes' numbers.
+-- How the passes fit together: definitions, resolved bodies, the flat system and its ranks.
 use Rattle.std.proofs.Common.{◌≡◌, ℕ, ◌+◌, ◌<◌, List, [], Some, length, map, get_or, arith, refl, sym, ap, subst, inl, add-one}
 use Rattle.std.specs.Prelude.{slice_get}
 use Rattle.std.proofs.lemmas.List.{length-map}

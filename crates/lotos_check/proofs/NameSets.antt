@@ -1,4 +1,4 @@
--- Names that were sorted and of which repeats were dropped.
+-- Names after sorting and removing duplicates.
 use Rattle.std.proofs.Common.{◌≡◌, ℕ, ◌<◌, zero, suc, List, [], ◌∷◌, refl, sym, subst, inl, inr, true, arith, length, get_or}
 use Rattle.std.specs.Ordering.{nat_cmp, ordering_then}
 use Rattle.std.specs.declared.cmp.Ordering.{Ordering}

@@ -1,4 +1,4 @@
--- Whether a process has a number, by its place.
+-- Whether a process has a rank, by its number.
 use Rattle.std.proofs.Common.{◌≡◌, ◌<◌, ℕ, List, Option, Some, None, true, false, length, get_or, refl}
 use Rattle.std.proofs.lemmas.Option.{slice_get-get_or}
 use Rattle.std.specs.Prelude.{slice_get}

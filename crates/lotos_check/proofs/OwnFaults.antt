@@ -1,4 +1,4 @@
--- Faults of a behaviour itself, and what is found of a call.
+-- Faults of a behaviour itself, and the resolution of a call.
 use Rattle.std.specs.Prelude.{◌≡◌, ◌≢◌, ℕ, List, [], ◌∷◌, length, None}
 use Rattle.std.proofs.Common.{sym, subst, inl, inr}
 use Rattle.lotos_text.specs.AstView.{BehaviourView, SyncView, gates, all, prefix, par, call, DefinitionView, formals_of, declared_of}

@@ -1,4 +1,4 @@
--- The definitions of one `where`, passed one after the other: none of the passed ones repeats a name.
+-- The definitions of one `where` that are passed: none of them is a duplicate.
 use Rattle.std.proofs.Common.{◌≡◌, ◌⊎◌, List, [], ◌∷◌, ◌++◌, map, refl, sym, ap, subst, ◌∙◌, inl, inr, Bool, true, false}
 use Rattle.std.specs.Prelude.{not, if◌then◌else◌}
 use Rattle.std.specs.List.{list_any}

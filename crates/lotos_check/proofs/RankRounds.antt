@@ -1,4 +1,4 @@
--- Why rounds end with a numbering, or with processes that cannot be numbered.
+-- Why the rounds end with ranks, or with processes that cannot be ranked.
 use Rattle.std.proofs.Common.{◌≡◌, ℕ, ◌+◌, ◌<◌, ◌⊎◌, zero, suc, List, [], ◌∷◌, Option, Some, None, refl, ap, inl, inr, arith, length}
 use Rattle.std.specs.Prelude.{slice_get, slice_set}
 use Rattle.lotos_check.specs.RankingSteps.{ListsCall, AreConsistentRanks, count_unranked}

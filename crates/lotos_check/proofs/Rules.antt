@@ -1,4 +1,4 @@
--- From what the passes find to the static rules and to the flat system.
+-- From the results of the passes to the static rules and the flat system.
 use Rattle.std.proofs.Common.{◌≡◌, ℕ, List, [], ◌∷◌, length, map, refl, sym, ap, ◌∙◌, subst, inl, inr, Option, Some, None}
 use Rattle.std.specs.Prelude.{MatchOption}
 use Rattle.lotos_text.specs.AstView.{BehaviourView, DefinitionView, formals_of, declared_of, body_of, inner_of}

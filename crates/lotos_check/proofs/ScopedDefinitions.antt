@@ -1,4 +1,4 @@
--- All definitions with what is visible in them: how many, in which order, and which definitions enclose them.
+-- All definitions with their scopes: how many, in which order, and which definitions enclose them.
 use Rattle.std.proofs.Common.{◌≡◌, ℕ, ◌+◌, ◌<◌, ◌≤◌, ◌⊎◌, List, [], ◌∷◌, ◌++◌, length, map, refl, sym, ap, subst, inl, inr, arith, length-append}
 use Rattle.std.proofs.lemmas.List.{map-append, length-map}
 use Rattle.lotos_text.specs.AstView.{DefinitionView, def, DefinitionListView, no_defs, more_defs, inner_of}

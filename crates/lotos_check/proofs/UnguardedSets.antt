@@ -1,4 +1,4 @@
--- A set of processes each of which calls into the set: none of them has a number.
+-- Of a set of processes each of which calls into the set, none has a rank.
 use Rattle.std.proofs.Common.{◌≡◌, ℕ, ◌+◌, ◌<◌, zero, suc, List, [], ◌∷◌, Option, Some, None, map, length, refl, arith}
 use Rattle.std.specs.Prelude.{slice_get}
 use Rattle.std.proofs.lemmas.List.{length-map}

@@ -1,4 +1,4 @@
--- What `check` answers.
+-- Which specifications are accepted, and with which faults others are rejected.
 use Rattle.std.specs.Prelude.{◌≡◌, ℕ, ◌<◌, List, [], ◌∷◌, length, slice_get, Some}
 use Rattle.lotos_text.specs.AstView.{DefinitionView, name_of, formals_of, declared_of}
 use Rattle.lotos_check.specs.NameLists.{texts}
@@ -12,7 +12,7 @@ use Rattle.lotos_check.specs.Guard.{Calls, IsGuarded, IsE27}
 use Rattle.lotos_check.specs.declared.fault.CheckFault.{CheckFault}
 use Rattle.lotos_check.specs.declared.fault.CheckFault.TheVariants.{E20, E21, E22, E23, E24, E25, E26, E27, E99}
 
--- a number for each process, and they fall at every unguarded call
+-- a rank for each process; they decrease at every unguarded call
 pub record AreRanks (processes : List FlatProcess) (ranks : List ℕ) : Type 0 where
   pub all : length ranks ≡ length processes
   pub falls : (p q r s : ℕ) → Calls processes p q → slice_get ranks p ≡ Some r → slice_get ranks q ≡ Some s → s < r
@@ -23,7 +23,7 @@ pub record IsAccepted (whole : DefinitionView) (system : System) : Type 0 where
   pub flat : IsFlat whole system
   pub guarded : IsGuarded system
 
--- why a specification repeats a name
+-- why a specification has a duplicate name
 abbrev pub IsDuplicateFault : DefinitionView → CheckFault → Type 0
 IsDuplicateFault whole (E20 gate) = IsE20 whole gate
 IsDuplicateFault whole (E21 gate) = ⊥
@@ -35,7 +35,7 @@ IsDuplicateFault whole (E26 at) = ⊥
 IsDuplicateFault whole (E27 name set) = ⊥
 IsDuplicateFault whole (E99 e) = Unit {0}
 
--- why a specification is refused
+-- why a specification breaks a static rule
 abbrev pub IsStaticFault : DefinitionView → CheckFault → Type 0
 IsStaticFault whole (E20 gate) = IsE20 whole gate
 IsStaticFault whole (E21 gate) = IsE21 whole gate
@@ -47,7 +47,7 @@ IsStaticFault whole (E26 at) = IsE26 whole at
 IsStaticFault whole (E27 name set) = IsE27 whole name set.items
 IsStaticFault whole (E99 e) = Unit {0}
 
--- but for want of memory, the specification is not accepted
+-- the fault is that memory ran out, or the specification is not accepted
 abbrev pub IsNotAccepted : DefinitionView → CheckFault → Type 0
 IsNotAccepted whole (E99 e) = Unit {0}
 IsNotAccepted whole (E20 gate) = (system : System) → IsAccepted whole system → ⊥
@@ -59,20 +59,20 @@ IsNotAccepted whole (E25 name declared) = (system : System) → IsAccepted whole
 IsNotAccepted whole (E26 at) = (system : System) → IsAccepted whole system → ⊥
 IsNotAccepted whole (E27 name set) = (system : System) → IsAccepted whole system → ⊥
 
--- the process is the definition with that code
+-- the process is the definition with the code of its resolved body
 pub record IsProcessOfBody (definition : DefinitionView) (found : ResolvedBody) (process : FlatProcess) : Type 0 where
   pub name : process.name ≡ (name_of definition).name
   pub formals : process.formals ≡ texts (formals_of definition)
   pub functionality : process.functionality ≡ declared_of definition
   pub body : process.body ≡ flat_of found.code
 
--- one by one
+-- the processes are the definitions with the code of their resolved bodies, one by one
 pub data AreProcessesOfBodies : List DefinitionView → List ResolvedBody → List Process → Type 0 where
   no_processes : AreProcessesOfBodies [] [] []
   one_process : {d : DefinitionView} {ds : List DefinitionView} {r : ResolvedBody} {rs : List ResolvedBody} {process : Process} {processes : List Process} →
       IsProcessOfBody d r (process_of process) → AreProcessesOfBodies ds rs processes → AreProcessesOfBodies (d ∷ ds) (r ∷ rs) (process ∷ processes)
 
--- the first definition gave the behaviour, and each other one its process
+-- the first definition is the behaviour, each other one a process
 pub data IsFlattened : List DefinitionView → List ResolvedBody → Code → List Process → Type 0 where
   flattens : {d : DefinitionView} {ds : List DefinitionView} {r : ResolvedBody} {rs : List ResolvedBody} {start : Code} {processes : List Process} →
       flat_of start ≡ flat_of r.code → AreProcessesOfBodies ds rs processes → IsFlattened (d ∷ ds) (r ∷ rs) start processes

@@ -1,4 +1,4 @@
--- What stands anywhere in the behaviours of a system.
+-- What occurs anywhere in the behaviours of a system.
 use Rattle.std.specs.Prelude.{◌≡◌, ℕ, List, ◌∷◌, ◌++◌, Option, Some, slice_get}
 use Rattle.lotos_text.specs.AstView as t
 use Rattle.lotos_text.specs.AstView.{DefinitionView, name_of, formals_of, body_of}
@@ -8,7 +8,7 @@ use Rattle.lotos_check.specs.Scope.{Scoped, Binds}
 use Rattle.lotos_check.specs.Subexpressions.{IsSubexpression}
 use Rattle.lotos_check.specs.Flat.{Flat, prefix, choice, par, hide, enable, disable, call, FlatProcess, System}
 
--- in the behaviour stands a call of the process with these gates
+-- the behaviour contains a call of the process with these gates
 pub data ContainsCall : Flat → ℕ → List Name → Type 0 where
   itself : {k : ℕ} {gs : List Name} → ContainsCall (call k gs) k gs
   under_prefix : {a : Option Name} {b : Flat} {k : ℕ} {gs : List Name} → ContainsCall b k gs → ContainsCall (prefix a b) k gs
@@ -27,31 +27,32 @@ pub data IsBodyOf (system : System) : Flat → Type 0 where
   of_whole : IsBodyOf system system.start
   of_process : (p : ℕ) (process : FlatProcess) → slice_get system.processes p ≡ Some process → IsBodyOf system process.body
 
--- no name stands behind the same one
+-- no name of the list occurs twice
 abbrev pub AreDistinctNames : List Name → Type 0
 AreDistinctNames names = (before after : List Name) (n : Name) → names ≡ before ++ n ∷ after → In n before → ⊥
 
--- in the body of the definition stands a call by name with these gates, and the name means the process of that number
+-- the body of the definition contains a call by name with these gates, and the name is bound to the process with this
+-- number
 pub record IsNamed (scoped : Scoped) (k : ℕ) (gates : List Name) : Type 0 where
   -- the gates that may be used at the call
   pub there : List Name
-  -- the name that is called, where it stands
+  -- the name that is called, with its offset
   pub called : Placed
   pub actuals : List Placed
   pub inside : IsSubexpression (texts (formals_of scoped.definition)) (body_of scoped.definition) there (t.call called actuals)
-  -- the definition that the name means
+  -- the definition that the name is bound to
   pub definition : DefinitionView
   pub means : Binds scoped.scope called.name k definition
   pub given : gates ≡ texts actuals
 
--- the process of that number has the name and the formal gates of the definition
+-- the process with this number has the name and the formal gates of the definition
 pub record IsProcessOf (system : System) (k : ℕ) (definition : DefinitionView) : Type 0 where
   pub process : FlatProcess
   pub stands : slice_get system.processes k ≡ Some process
   pub name : process.name ≡ (name_of definition).name
   pub formals : process.formals ≡ texts (formals_of definition)
 
--- the call by number comes from one by name, and goes to the definition that the name means
+-- the call by number comes from one by name, and goes to the definition that the name is bound to
 pub record GoesToNamed (system : System) (scoped : Scoped) (k : ℕ) (gates : List Name) : Type 0 where
   -- the call by name
   pub named : IsNamed scoped k gates

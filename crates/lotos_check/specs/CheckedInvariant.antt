@@ -1,10 +1,10 @@
--- What an accepted specification keeps of its check.
+-- The invariant of a checked specification.
 use Rattle.std.specs.Prelude.{ℕ, List}
 use Rattle.lotos_text.specs.AstView.{DefinitionView}
 use Rattle.lotos_check.specs.Flat.{System}
 use Rattle.lotos_check.specs.Acceptance.{AreRanks, IsAccepted}
 
--- it is the flat system of some specification that is accepted, and these are ranks of its processes
+-- the system is the flat system of some accepted specification, and these are ranks of its processes
 pub record IsCheckedSystem (system : System) (ranks : List ℕ) : Type 0 where
   pub whole : DefinitionView
   pub accepted : IsAccepted whole system

@@ -9,8 +9,8 @@ use Rattle.lotos_text.specs.declared.ast.Action.TheVariants.{Internal, Gate}
 use Rattle.lotos_check.specs.NameLists.{Name, texts, IsSetOf}
 use Rattle.lotos_check.specs.Scope.{Scope, Binds, Scoped, within, processes_of}
 
--- A behaviour with calls by number. A prefix of none is one of the internal action; a parallel expression on none
--- synchronizes on all gates.
+-- a behaviour with calls by number; `None` in a prefix is the internal action, in a parallel expression it means all
+-- gates
 pub data Flat : Type 0 where
   stop : Flat
   exit : Flat
@@ -35,11 +35,12 @@ pub record System : Type 0 where
   pub start : Flat
   pub processes : List FlatProcess
 
+-- the gate of an action, if it is not the internal one
 abbrev pub action_of : Action → Option Name
 action_of Internal = None
 action_of (Gate g) = Some g.name
 
--- where these processes are visible, the behaviour is that one with calls by number
+-- given the visible processes, the behaviour with its calls by number
 pub data Resolves (scope : Scope) : BehaviourView → Flat → Type 0 where
   of_stop : Resolves scope t.stop stop
   of_exit : Resolves scope t.exit exit
@@ -57,14 +58,14 @@ pub data Resolves (scope : Scope) : BehaviourView → Flat → Type 0 where
   of_call : {p : Placed} {gs : List Placed} {k : ℕ} {d : DefinitionView} → Binds scope p.name k d →
       Resolves scope (t.call p gs) (call k (texts gs))
 
--- the process is this definition, with calls by number
+-- the process is the definition with calls by number
 pub record IsProcess (v : Scoped) (process : FlatProcess) : Type 0 where
   pub name : process.name ≡ (name_of v.definition).name
   pub formals : process.formals ≡ texts (formals_of v.definition)
   pub functionality : process.functionality ≡ declared_of v.definition
   pub body : Resolves v.scope (body_of v.definition) process.body
 
--- item by item
+-- the lists are related item by item
 pub data Pairwise {X Y : Type 0} (P : X → Y → Type 0) : List X → List Y → Type 0 where
   no_pair : Pairwise P [] []
   one_pair : {x : X} {y : Y} {xs : List X} {ys : List Y} → P x y → Pairwise P xs ys → Pairwise P (x ∷ xs) (y ∷ ys)

@@ -1,9 +1,10 @@
--- What the program's code shows: behaviours with calls by number, and processes.
+-- The views of the program's code: behaviours with calls by number, and processes.
 use Rattle.std.specs.Prelude.{option_map}
 use Rattle.lotos_check.specs.Flat.{Flat, stop, exit, prefix, choice, par, hide, enable, disable, call, FlatProcess}
 use Rattle.lotos_check.specs.declared.resolved.Code.{Code, Stop, Exit, Prefix', Choice', Par', Hide', Enable', Disable', Call}
 use Rattle.lotos_check.specs.declared.resolved.Process.{Process}
 
+-- the view of a behaviour
 abbrev pub flat_of : Code → Flat
 flat_of Stop = stop
 flat_of Exit = exit
@@ -15,5 +16,6 @@ flat_of (Enable' p left q right) = enable (flat_of left) (flat_of right)
 flat_of (Disable' p left q right) = disable (flat_of left) (flat_of right)
 flat_of (Call process gates) = call process gates.items
 
+-- the view of a process
 abbrev pub process_of : Process → FlatProcess
 process_of p = record { name = p.name; formals = p.formals.items; functionality = p.functionality; body = flat_of p.body }

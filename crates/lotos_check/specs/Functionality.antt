@@ -1,5 +1,5 @@
--- The functionality of a behaviour. Where it is noexit, the behaviour never terminates successfully; exit promises nothing:
--- the process `P := x; P` may be declared exit, and never ends.
+-- The functionality of a behaviour. With noexit the behaviour never terminates successfully; exit promises nothing: the
+-- process `P := x; P` may be declared exit, and never ends.
 use Rattle.std.specs.Prelude.{ℕ, List}
 use Rattle.lotos_text.specs.AstView.{BehaviourView, SyncView, stop, exit, prefix, choice, par, hide, enable, disable, call, DefinitionView, declared_of}
 use Rattle.lotos_text.specs.declared.ast.Placed.{Placed}
@@ -8,17 +8,17 @@ use Rattle.lotos_text.specs.declared.ast.Functionality.{Functionality}
 use Rattle.lotos_text.specs.declared.ast.Functionality.TheVariants.{Exit, NoExit}
 use Rattle.lotos_check.specs.Scope.{Scope, Binds}
 
--- exit if either operand is
+-- exit if either operand has exit
 abbrev pub either : Functionality → Functionality → Functionality
 either Exit g = Exit
 either NoExit g = g
 
--- exit only if both operands are
+-- exit only if both operands have exit
 abbrev pub both : Functionality → Functionality → Functionality
 both Exit g = g
 both NoExit g = NoExit
 
--- where these processes are visible, the behaviour has the functionality
+-- given the visible processes, the behaviour has the functionality
 pub data Func (scope : Scope) : BehaviourView → Functionality → Type 0 where
   of_stop : Func scope stop NoExit
   of_exit : Func scope exit Exit

@@ -1,4 +1,4 @@
--- What the comparison of bodies with their definitions answers.
+-- What the comparison of resolved bodies with their definitions returns.
 use Rattle.std.specs.Prelude.{◌≡◌, ◌≢◌, ℕ, List, Some, None, slice_get}
 use Rattle.lotos_text.specs.AstView.{DefinitionView, name_of, declared_of}
 use Rattle.lotos_check.specs.declared.resolution.ResolvedBody.{ResolvedBody}

@@ -18,17 +18,17 @@ pub data CallsUnguarded : Flat → ℕ → Type 0 where
   left_disable : {l r : Flat} {k : ℕ} → CallsUnguarded l k → CallsUnguarded (disable l r) k
   right_disable : {l r : Flat} {k : ℕ} → CallsUnguarded r k → CallsUnguarded (disable l r) k
 
--- the body of the process p has an unguarded call of the process q
+-- the body of process `p` has an unguarded call of process `q`
 pub record Calls (processes : List FlatProcess) (p q : ℕ) : Type 0 where
   pub process : FlatProcess
   pub stands : slice_get processes p ≡ Some process
   pub calls : CallsUnguarded process.body q
 
--- a numbering of the processes that falls at every unguarded call
+-- a rank for each process that decreases at every unguarded call
 abbrev pub IsRanking : List FlatProcess → (ℕ → ℕ) → Type 0
 IsRanking processes rank = (p q : ℕ) → Calls processes p q → rank q < rank p
 
--- there is such a numbering
+-- recursion is guarded: there is such a ranking
 pub record IsGuarded (system : System) : Type 0 where
   pub rank : ℕ → ℕ
   pub falls : IsRanking system.processes rank
@@ -43,7 +43,7 @@ pub data IsAscending : List ℕ → Type 0 where
   one : {x : ℕ} → IsAscending (x ∷ [])
   more : {x y : ℕ} {ys : List ℕ} → x < y → IsAscending (y ∷ ys) → IsAscending (x ∷ y ∷ ys)
 
--- the largest set of that kind: every other lies inside it
+-- the largest set of that kind, ascending: every other lies inside it
 pub record IsLargestUnguardedSet (processes : List FlatProcess) (set : List ℕ) : Type 0 where
   pub unguarded : IsUnguardedSet processes set
   pub largest : (other : List ℕ) → IsUnguardedSet processes other → (p : ℕ) → In p other → In p set

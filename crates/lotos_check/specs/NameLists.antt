@@ -6,44 +6,44 @@ use Rattle.lotos_text.specs.declared.ast.Placed.{Placed}
 abbrev pub Name : Type 0
 Name = List ℕ
 
--- x stands in the list
+-- `x` is in the list
 abbrev pub In : {X : Type 0} → X → List X → Type 0
 In x [] = ⊥
 In x (y ∷ ys) = (y ≡ x) ⊎ In x ys
 
--- the names, without their places
+-- the names, without their offsets
 abbrev pub texts : List Placed → List Name
 texts = map (λ p. p.name)
 
--- the placed name stands in the list, behind one of the same text
+-- the name occurs in the list after another with the same text
 pub record IsDuplicate (placed : Placed) (names : List Placed) : Type 0 where
   pub before : List Placed
   pub after : List Placed
   pub stands : names ≡ before ++ placed ∷ after
   pub again : In placed.name (texts before)
 
--- no name stands twice
+-- no name of the list occurs twice
 abbrev pub AreDistinct : List Placed → Type 0
 AreDistinct names = (p : Placed) → IsDuplicate p names → ⊥
 
--- smaller at the first place where they differ, or a beginning of the other
+-- smaller at the first index where the lists differ, or a proper prefix of the other
 abbrev pub Lex : {A : Type 0} → (A → A → Type 0) → List A → List A → Type 0
 Lex smaller [] [] = ⊥
 Lex smaller [] (y ∷ ys) = Unit {0}
 Lex smaller (x ∷ xs) [] = ⊥
 Lex smaller (x ∷ xs) (y ∷ ys) = smaller x y ⊎ ((x ≡ y) × Lex smaller xs ys)
 
--- the text is smaller by its bytes; a beginning is smaller than what it begins
+-- the text is smaller by its bytes; a proper prefix is smaller
 abbrev pub Below : Name → Name → Type 0
 Below = Lex ◌<◌
 
--- each is smaller than the next
+-- each name is smaller than the next
 pub data IsAscendingNames : List Name → Type 0 where
   none : IsAscendingNames []
   one : {x : Name} → IsAscendingNames (x ∷ [])
   more : {x y : Name} {ys : List Name} → Below x y → IsAscendingNames (y ∷ ys) → IsAscendingNames (x ∷ y ∷ ys)
 
--- the names of the list, in order of bytes without repeats
+-- the names of the list in the order of their bytes, without repeats
 pub record IsSetOf (names : List Name) (list : List Placed) : Type 0 where
   pub ascends : IsAscendingNames names
   pub same : (n : Name) → In n names ↔ In n (texts list)

@@ -1,4 +1,4 @@
--- What a process name means: the definition of that name in the nearest enclosing `where`.
+-- What a process name is bound to: the definition of that name in the nearest enclosing `where`.
 use Rattle.std.specs.Prelude.{ℕ, ◌+◌, List, [], ◌∷◌, ◌++◌}
 use Rattle.lotos_text.specs.AstView.{DefinitionView, def, DefinitionListView, no_defs, more_defs, name_of, inner_of}
 use Rattle.lotos_text.specs.declared.ast.Placed.{Placed}
@@ -9,7 +9,7 @@ abbrev pub declared_names : DefinitionListView → List Placed
 declared_names no_defs = []
 declared_names (more_defs d ds) = name_of d ∷ declared_names ds
 
--- how many definitions there are, inner ones among them
+-- how many definitions there are, inner ones included
 abbrev pub count : DefinitionListView → ℕ
 count no_defs = 0
 count (more_defs (def name formals declared body inner) ds) = 1 + count inner + count ds
@@ -23,48 +23,50 @@ pub record Where : Type 0 where
 abbrev pub Scope : Type 0
 Scope = List Where
 
--- of definitions that are numbered from there on, each followed at once by its inner ones, this one has the name and number
+-- of the definitions, numbered from there on and each followed at once by its inner ones, this one has the name and the
+-- number
 pub data Declares : DefinitionListView → ℕ → Name → ℕ → DefinitionView → Type 0 where
   here : {d : DefinitionView} {ds : DefinitionListView} {k : ℕ} → Declares (more_defs d ds) k (name_of d).name k d
   later : {d e : DefinitionView} {ds : DefinitionListView} {k j : ℕ} {n : Name} →
       Declares ds (k + 1 + count (inner_of d)) n j e → Declares (more_defs d ds) k n j e
 
--- the name means the process of that number
+-- the name is bound to the process with this number and definition
 pub data Binds : Scope → Name → ℕ → DefinitionView → Type 0 where
   nearest : {w : Where} {ws : Scope} {n : Name} {k : ℕ} {d : DefinitionView} → Declares w.defs w.first n k d → Binds (w ∷ ws) n k d
   outward : {w : Where} {ws : Scope} {n : Name} {k : ℕ} {d : DefinitionView} →
       ((j : ℕ) (e : DefinitionView) → Declares w.defs w.first n j e → ⊥) → Binds ws n k d → Binds (w ∷ ws) n k d
 
--- what is visible inside a definition, where its own definitions are numbered from there on
+-- the scope inside a definition, whose own definitions are numbered from `first` on
 abbrev pub within : DefinitionView → ℕ → Scope → Scope
 within d first scope = record { defs = inner_of d; first = first } ∷ scope
 
--- a definition, and the `where`s that are visible in it, its own the nearest
+-- a definition with the scope inside it, whose nearest `where` is its own
 pub record Scoped : Type 0 where
   pub scope : Scope
   pub definition : DefinitionView
 
--- the definitions, numbered from there on, each followed at once by its inner ones, where the scope encloses them
+-- the definitions of a `where`, numbered from `first` on, each followed at once by its inner ones, in an enclosing
+-- scope
 abbrev pub definitions_in_scope : Scope → ℕ → DefinitionListView → List Scoped
 definitions_in_scope scope first no_defs = []
 definitions_in_scope scope first (more_defs (def name formals declared body inner) ds) =
     record { scope = record { defs = inner; first = first + 1 } ∷ scope; definition = def name formals declared body inner }
     ∷ definitions_in_scope (record { defs = inner; first = first + 1 } ∷ scope) (first + 1) inner ++ definitions_in_scope scope (first + 1 + count inner) ds
 
--- a definition whose inner ones are numbered from there on, followed by these
+-- a definition and then its inner ones, which are numbered from `first` on
 abbrev pub definition_in_scope : Scope → ℕ → DefinitionView → List Scoped
 definition_in_scope scope first d =
     record { scope = within d first scope; definition = d } ∷ definitions_in_scope (within d first scope) first (inner_of d)
 
--- the processes of a specification, in the order of their numbers
+-- the processes of a specification, by number
 abbrev pub processes_of : DefinitionView → List Scoped
 processes_of whole = definitions_in_scope (within whole 0 []) 0 (inner_of whole)
 
--- the specification, followed by its processes
+-- the specification and then its processes
 abbrev pub all_definitions : DefinitionView → List Scoped
 all_definitions whole = definition_in_scope [] 0 whole
 
--- the definition stands in the specification, and the scope is visible in it
+-- the definition is one of the specification, and has this scope
 abbrev pub IsDefinition : DefinitionView → Scope → DefinitionView → Type 0
 IsDefinition whole scope d = In {X = Scoped} (record { scope = scope; definition = d }) (all_definitions whole)
 
@@ -72,7 +74,7 @@ IsDefinition whole scope d = In {X = Scoped} (record { scope = scope; definition
 abbrev pub IsDistinctScope : Scope → Type 0
 IsDistinctScope scope = (w : Where) → In w scope → AreDistinct (declared_names w.defs)
 
--- a definition, followed by all that stand inside it, each followed at once by its inner ones; and the same of a row
+-- a definition and all definitions inside it, each followed at once by its inner ones; and the same of a list
 abbrev mutual
   pub definitions_in : DefinitionView → List DefinitionView
   definitions_in (def name formals declared body inner) = def name formals declared body inner ∷ row_in inner

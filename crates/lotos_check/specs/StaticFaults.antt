@@ -1,4 +1,4 @@
--- Why a specification is refused: each cause with the placed name, or the offset, at which it stands.
+-- Why a specification breaks a static rule: each cause with its name or its offset.
 use Rattle.std.specs.Prelude.{◌≡◌, ◌≢◌, ℕ, List, length}
 use Rattle.lotos_text.specs.AstView.{BehaviourView, call, enable, DefinitionView, name_of, formals_of, declared_of, body_of, inner_of}
 use Rattle.lotos_text.specs.declared.ast.Placed.{Placed}
@@ -9,20 +9,20 @@ use Rattle.lotos_check.specs.Scope.{Scope, IsDefinition, Binds, declared_names}
 use Rattle.lotos_check.specs.Subexpressions.{IsSubexpression, UsesGate}
 use Rattle.lotos_check.specs.Functionality.{Func}
 
--- in the body of a definition stands this part, in which these processes are visible and these gates may be used
+-- the body of a definition has this part, where these processes are visible and these gates are in scope
 pub record Occurs (whole : DefinitionView) (scope : Scope) (known : List Name) (part : BehaviourView) : Type 0 where
   pub definition : DefinitionView
   pub stands : IsDefinition whole scope definition
   pub inside : IsSubexpression (texts (formals_of definition)) (body_of definition) known part
 
--- a formal gate stands twice in one list
+-- one list declares a formal gate twice
 pub record IsE20 (whole : DefinitionView) (gate : Placed) : Type 0 where
   pub scope : Scope
   pub definition : DefinitionView
   pub stands : IsDefinition whole scope definition
   pub second : IsDuplicate gate (formals_of definition)
 
--- a gate is not declared where it is used
+-- a gate is used where it is not in scope
 pub record IsE21 (whole : DefinitionView) (gate : Placed) : Type 0 where
   pub scope : Scope
   pub known : List Name
@@ -31,7 +31,7 @@ pub record IsE21 (whole : DefinitionView) (gate : Placed) : Type 0 where
   pub uses : UsesGate part gate
   pub unknown : In gate.name known → ⊥
 
--- no process of that name is visible
+-- no process with this name is visible
 pub record IsE22 (whole : DefinitionView) (name : Placed) : Type 0 where
   pub scope : Scope
   pub known : List Name
@@ -70,7 +70,7 @@ pub record IsE25 (whole : DefinitionView) (name : Placed) (declared : Functional
   pub has : Func scope (body_of definition) other
   pub differ : other ≢ declared
 
--- the left operand of `>>` has noexit
+-- the left operand of a `>>` has noexit
 pub record IsE26 (whole : DefinitionView) (at : ℕ) : Type 0 where
   pub scope : Scope
   pub known : List Name
@@ -79,12 +79,12 @@ pub record IsE26 (whole : DefinitionView) (at : ℕ) : Type 0 where
   pub occurs : Occurs whole scope known (enable left at right)
   pub never_exits : Func scope left NoExit
 
--- formal gates and process names are distinct, each in its list
+-- no list declares a formal gate twice, no `where` a process
 pub record IsDistinct (whole : DefinitionView) : Type 0 where
   pub gates : (p : Placed) → IsE20 whole p → ⊥
   pub processes : (p : Placed) → IsE24 whole p → ⊥
 
--- the static rules, guardedness apart: none of the causes stands
+-- the static rules without guardedness: there is none of these faults
 pub record WellTyped (whole : DefinitionView) : Type 0 where
   pub distinct : IsDistinct whole
   pub known_gates : (p : Placed) → IsE21 whole p → ⊥

@@ -1,4 +1,4 @@
--- The parts of a behaviour, each with the gates that may be used there.
+-- The parts of a behaviour, each with the gates in scope there.
 use Rattle.std.specs.Prelude.{ℕ, List, ◌++◌}
 use Rattle.lotos_text.specs.AstView.{BehaviourView, SyncView, gates, prefix, choice, par, hide, enable, disable, call}
 use Rattle.lotos_text.specs.declared.ast.Placed.{Placed}
@@ -6,7 +6,8 @@ use Rattle.lotos_text.specs.declared.ast.Action.{Action}
 use Rattle.lotos_text.specs.declared.ast.Action.TheVariants.{Gate}
 use Rattle.lotos_check.specs.NameLists.{Name, In, texts}
 
--- where the first gates may be used in the whole, the second may be used in the part: those, and those hidden around it
+-- with the first gates in scope around the whole, the second are in scope at the part: the first, and those hidden
+-- around it
 pub data IsSubexpression : List Name → BehaviourView → List Name → BehaviourView → Type 0 where
   whole : {known : List Name} {t : BehaviourView} → IsSubexpression known t known t
   in_prefix : {known there : List Name} {a : Action} {b t : BehaviourView} → IsSubexpression known b there t → IsSubexpression known (prefix a b) there t

@@ -1,4 +1,4 @@
-//! The bodies of all definitions, in the order of the text.
+//! The resolution of all bodies, in the order of the text.
 ghost use Rattle.std.specs.Prelude.{◌≡◌, ◌+◌, ◌<◌, ◌^◌, IfErr, OnOk};
 ghost use Rattle.lotos_text.specs.AstView.{inner_of};
 ghost use Rattle.lotos_text.specs.AstOf.{definition_view};
@@ -14,8 +14,8 @@ use indexmap::{IndexMap, IndexSet};
 use lotos_text::Definition;
 use std::alloc::Global;
 
-/// Adds what is found of the body of a definition and of its inner ones, whose first has this number; the tables show the
-/// processes that are visible around it.
+/// Appends the resolutions of a definition's body and of those of its inner definitions, which are numbered from
+/// `first` on. `scopes` are the processes visible around the definition; they are unchanged unless it fails.
 pub(crate) fn resolve_bodies<'a>(
     alloc: Global,
     scopes: &mut Vec<IndexMap<&'a str, Binding<'a>>>,

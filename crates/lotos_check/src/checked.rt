@@ -6,8 +6,8 @@ ghost use Rattle.lotos_check.specs.CheckedInvariant.{IsCheckedSystem};
 use crate::resolved::{Code, Process};
 use lotos_text::Name;
 
-/// A specification that meets the static rules, with its processes numbered from 0 in the order of their definitions, each
-/// followed at once by its inner ones.
+/// A specification that meets the static rules. Its processes are numbered from 0 in the order of their definitions,
+/// each followed at once by its inner ones.
 #[derive(Debug, Drop)]
 pub struct Checked {
     pub(crate) gates: Vec<Name>,
@@ -27,14 +27,14 @@ impl Checked {
         self.gates.as_slice()
     }
 
-    /// The processes; the number of each is its place.
+    /// The processes; the number of each is its index.
     pub fn processes(&self) -> &[Process]
         ensures { map process_of result.now ≡ (system_of self.now).processes }
     {
         self.processes.as_slice()
     }
 
-    /// The behaviour of the specification, which with the processes meets the static rules.
+    /// The behaviour of the specification. With the processes it meets the static rules.
     pub fn start(&self) -> &Code
         ensures start { flat_of result.now ≡ (system_of self.now).start }
         ensures kept { ∥ IsCheckedSystem (system_of self.now) (ranks_of self.now) ∥₁ }
@@ -42,8 +42,8 @@ impl Checked {
         &self.start
     }
 
-    /// The rank of the process of that number: every unguarded call in its body goes to a process of smaller rank, since the
-    /// system is guarded and these are its ranks.
+    /// The rank of the process with this number: every unguarded call in its body goes to a process of smaller rank, as
+    /// the system is guarded and these are its ranks.
     pub fn rank(&self, process: usize) -> usize
         requires { process < length (system_of self.now).processes }
         ensures place { slice_get (ranks_of self.now) process ≡ Some result }

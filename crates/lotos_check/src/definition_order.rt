@@ -6,7 +6,7 @@ ghost use Rattle.lotos_check.specs.Scope.{definitions_in};
 use lotos_text::Definition;
 use std::alloc::AllocError;
 
-/// Adds a definition, and behind it all that stand inside, each followed at once by its inner ones.
+/// Appends a definition and all definitions inside it, each followed at once by its inner ones.
 pub(crate) fn add_definitions<'a>(
     of: &'a Definition,
     into: &mut Vec<&'a Definition>,

@@ -10,8 +10,8 @@ use indexmap::IndexSet;
 use lotos_text::{Definition, Placed};
 use std::alloc::{AllocError, Global};
 
-/// Refuses a name that is declared twice, the first in the order of the text: with E20 a formal gate of one list, with E24 a
-/// process of one `where`.
+/// Fails at the first name in the order of the text that is declared twice: with E20 if it is a formal gate of one
+/// list, with E24 if it is a process of one `where`.
 pub(crate) fn check_distinct(alloc: Global, whole: &Definition) -> Result<(), CheckFault>
     ensures distinct { IfOk result (λ _. IsDistinct (definition_view whole.now)) }
     ensures repeat { IfErr result (IsDuplicateFault (definition_view whole.now)) }
@@ -29,7 +29,7 @@ pub(crate) fn check_distinct(alloc: Global, whole: &Definition) -> Result<(), Ch
     Ok(())
 }
 
-/// The first name that stands behind one of the same text.
+/// The first name that occurs earlier in the list too.
 fn first_repeated(alloc: Global, names: &[Placed]) -> Result<Option<Placed>, AllocError>
     ensures { IfOk result (λ r. MatchOption r (AreDistinct names.now) (λ p. IsDuplicate p names.now)) }
 {

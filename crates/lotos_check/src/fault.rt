@@ -8,27 +8,27 @@ use std::alloc::{AllocError, AllocFailed, Global};
 use std::fmt;
 use thiserror::Error;
 
-/// Why a specification breaks a static rule. Each fault carries the name, or the offset in bytes from the start of the text,
-/// at which it stands.
+/// Why a specification breaks a static rule. Each fault carries the name where it occurs, or the offset: bytes from the
+/// start of the text.
 #[derive(Debug, Drop, Error)]
 pub enum CheckFault {
-    /// The formal gate stands twice in one list, here for the second time.
+    /// One list of formal gates declares the gate twice; this is the second time.
     #[error("E20 gate {} is declared twice", .0.name.text())]
     E20(Placed),
-    /// The gate is not declared where it is used.
+    /// The gate is used where it is not declared.
     #[error("E21 gate {} is not declared", .0.name.text())]
     E21(Placed),
-    /// No process of that name is visible.
+    /// No process with this name is visible.
     #[error("E22 process {} is not declared", .0.name.text())]
     E22(Placed),
-    /// The call has another number of gates than the definition.
+    /// The call has another number of gates than the process that it names.
     #[error("E23 gates of {}: {formal} formal, {actual} actual", .call.name.text())]
     E23 {
         call: Placed,
         formal: usize,
         actual: usize,
     },
-    /// One `where` declares the process twice, here for the second time.
+    /// One `where` declares the process twice; this is the second time.
     #[error("E24 process {} is declared twice", .0.name.text())]
     E24(Placed),
     /// The declared functionality is not that of the body.
@@ -40,20 +40,20 @@ pub enum CheckFault {
     /// The left operand of the `>>` at the offset never terminates.
     #[error("E26 left side of >> never exits")]
     E26(usize),
-    /// Recursion is not guarded. The set is the largest of processes each of which has an unguarded call into the set, by
-    /// number and ascending; the name is that of the first.
+    /// Recursion is not guarded. `set` is the largest set of processes each of which has an unguarded call into it, by
+    /// number and ascending; `name` is that of the first.
     #[error("E27 the unguarded calls of {} do not end", .name.name.text())]
     E27 {
         name: Placed,
         set: Vec<usize>,
     },
-    /// A growth of the heap was refused.
+    /// Out of memory.
     #[error("E99 out of memory")]
     E99(AllocError),
 }
 
 impl CheckFault {
-    /// The offset at which the fault stands, in bytes from the start of the text; none for want of memory.
+    /// The offset of the fault, in bytes from the start of the text; `None` for E99.
     pub fn at(&self) -> Option<usize>
         ensures { result ≡ offset_of self.now }
     {
@@ -86,7 +86,7 @@ impl<T: Drop> From<AllocFailed<T>> for CheckFault {
     }
 }
 
-/// A declared functionality, and the other one, which the body has.
+/// The text of E25: the declared functionality, and the other one, which is the body's.
 #[derive(Clone, Copy, Debug)]
 struct FunctionalityText(Functionality);
 
@@ -99,7 +99,7 @@ impl fmt::Display for FunctionalityText {
     }
 }
 
-/// The same name at the same place.
+/// A copy of the name with its offset.
 pub(crate) fn copy_placed(alloc: Global, placed: &Placed) -> Result<Placed, AllocError>
     ensures { IfOk result (λ p. p ≡ placed.now) }
 {

@@ -1,4 +1,4 @@
-//! The declared functionality of each definition, and what stands on the left of `>>`.
+//! The functionality of each definition against the declared one, and of the left operands of `>>`.
 ghost use Rattle.std.specs.Prelude.{◌≡◌, IfErr, IfOk, length, map};
 ghost use Rattle.lotos_text.specs.AstOf.{definition_view};
 ghost use Rattle.lotos_check.specs.Flat.{Pairwise};
@@ -9,8 +9,8 @@ use crate::resolution::ResolvedBody;
 use lotos_text::Definition;
 use std::alloc::Global;
 
-/// Compares what was found of each body with its definition, both in the order of the text. Refuses the first fault: with E25
-/// a definition whose declared functionality is not that of its body, with E26 a `>>` whose left operand never terminates.
+/// Compares the resolution of each body with its definition; both lists are in the order of the text. Returns the first
+/// fault: E25 if the declared functionality is not that of the body, E26 if the left operand of a `>>` has noexit.
 pub(crate) fn check_functionality(
     alloc: Global,
     definitions: &[&Definition],
@@ -27,7 +27,7 @@ pub(crate) fn check_functionality(
     Ok(())
 }
 
-/// Compares one body with its definition.
+/// Compares the resolution of one body with its definition.
 fn check_body(
     alloc: Global,
     definition: &Definition,

@@ -1,7 +1,7 @@
-//! The gates that may be used at a place of a body: the formal ones, and those hidden around the place.
+//! The gates in scope at a point of a body: the formal ones, and those hidden around it.
 //!
-//! A set keeps its names in the order in which they came. So the names that a hide form adds stand behind those that were
-//! known before, and the set is cut back to these where the form ends.
+//! The set keeps the order of insertion. A hide form appends the gates that are not yet in scope, and where it ends the
+//! set is truncated to those before.
 ghost use Rattle.std.specs.Prelude.{◌≡◌, ◌++◌, ◌↔◌, ◌≤◌, List, OnOk, IfOk, IfErr, IsTrue, length, take};
 ghost use Rattle.lotos_text.specs.declared.ast.Placed.{Placed as AnyPlaced};
 ghost use Rattle.lotos_check.specs.NameLists.{In, Name, texts};
@@ -13,7 +13,7 @@ use indexmap::IndexSet;
 use lotos_text::Placed;
 use std::alloc::{AllocError, Global};
 
-/// Adds the gates of a list behind those that are known.
+/// Adds the gates of a list to those in scope, after them.
 pub(crate) fn add_gates<'a>(
     scope: &mut IndexSet<&'a str>,
     gates: &'a [Placed],
@@ -28,7 +28,7 @@ pub(crate) fn add_gates<'a>(
     Ok(())
 }
 
-/// Refuses the first of the gates that is not known, with E21.
+/// Fails with E21 at the first of the gates that is not in scope.
 pub(crate) fn check_declared(
     alloc: Global,
     scope: &IndexSet<&str>,

@@ -1,4 +1,4 @@
-//! Guarded recursion: the unguarded calls of each process, and a numbering that falls at each of them.
+//! Guarded recursion: the unguarded calls of each process, and ranks that decrease at each of them.
 ghost use Rattle.std.specs.Prelude.{◌≡◌, ◌↔◌, ◌⊎◌, ◌<◌, ◌≤◌, ℕ, Some, None, IfOk, MatchBool, OnOk, length, map, slice_get};
 ghost use Rattle.lotos_check.specs.NameLists.{In};
 ghost use Rattle.lotos_check.specs.Flat.{Pairwise};
@@ -12,17 +12,16 @@ use std::alloc::{AllocError, Global};
 /// Whether recursion is guarded.
 #[derive(Debug, Drop)]
 pub(crate) enum Ranking {
-    /// A number for each process, and they fall at every unguarded call.
+    /// A rank for each process; they decrease at every unguarded call.
     Guarded(Vec<usize>),
     /// The largest set of processes each of which has an unguarded call into the set, ascending. It is not empty.
     Unguarded(Vec<usize>),
 }
 
-/// A numbering of the processes that falls at every unguarded call, or the processes that cannot be numbered.
+/// Ranks of the processes that decrease at every unguarded call, or the processes that have none.
 ///
-/// A process is numbered when all that it calls are. They are taken in an order in which a process comes behind those
-/// that it calls, so that one pass numbers all that can be numbered. Rounds over all processes make sure of it, until a
-/// round numbers none.
+/// A process gets a rank when all that it calls unguarded have one. One pass in callee-first order ranks all that can
+/// be ranked. Rounds over all processes confirm it, until one ranks none.
 pub(crate) fn rank_processes(alloc: Global, processes: &[Process]) -> Result<Ranking, AllocError>
     requires { (p q : ℕ) → Calls (map process_of processes.now) p q → q < length processes.now }
     ensures { IfOk result (IsRanked (map process_of processes.now)) }
@@ -54,7 +53,7 @@ fn unguarded_calls(alloc: Global, processes: &[Process]) -> Result<Vec<Vec<usize
     Ok(edges)
 }
 
-/// Adds the processes that the behaviour calls unguarded: under no prefix, and not in the right operand of `>>`.
+/// Appends the processes that the behaviour calls unguarded: under no prefix, and not in the right operand of `>>`.
 fn add_unguarded_calls(code: &Code, into: &mut Vec<usize>) -> Result<(), AllocError>
     ensures { OnOk result ((q : ℕ) → In q into.new.items ↔ In q into.old.items
         ⊎ CallsUnguarded (flat_of code.now) q) }
@@ -82,9 +81,9 @@ fn add_unguarded_calls(code: &Code, into: &mut Vec<usize>) -> Result<(), AllocEr
     }
 }
 
-/// The processes that can be numbered, each behind those that it calls.
+/// The processes that can be ranked, each after those that it calls.
 ///
-/// First come those that call none, then each one as soon as the last of its calls goes to a process in the order.
+/// First come those that call none, then each one as soon as all that it calls are in the order.
 fn callee_first_order(alloc: Global, edges: &[Vec<usize>]) -> Result<Vec<usize>, AllocError>
     ensures { IfOk result (λ v. (p : ℕ) → In p v.items → p < length edges.now) }
 {
@@ -110,7 +109,7 @@ fn callers(alloc: Global, edges: &[Vec<usize>]) -> Result<Vec<Vec<usize>>, Alloc
     Ok(callers)
 }
 
-/// So many empty lists.
+/// As many empty lists as `count`.
 fn empty_lists(alloc: Global, count: usize) -> Result<Vec<Vec<usize>>, AllocError> {
     let mut lists = Vec::new(alloc);
     for _ in 0..count {
@@ -119,7 +118,7 @@ fn empty_lists(alloc: Global, count: usize) -> Result<Vec<Vec<usize>>, AllocErro
     Ok(lists)
 }
 
-/// Adds the caller to the callers of each process that it calls.
+/// Appends the caller to the callers of each process that it calls.
 fn add_caller(
     caller: usize,
     calls: &[usize],
@@ -133,7 +132,7 @@ fn add_caller(
     Ok(())
 }
 
-/// For each process, how many calls it makes.
+/// For each process, the number of its calls.
 fn count_calls(alloc: Global, edges: &[Vec<usize>]) -> Result<Vec<usize>, AllocError>
     ensures { IfOk result (λ v. length v.items ≡ length edges.now) }
 {
@@ -157,7 +156,7 @@ fn find_ready(alloc: Global, left: &[usize]) -> Result<Vec<usize>, AllocError>
     Ok(ready)
 }
 
-/// Takes one from each caller's calls left, and adds the caller to the order where that was the last.
+/// Subtracts one call from what each caller has left, and appends those to the order that have none left.
 fn add_ready(
     callers: &[usize],
     left: &mut [usize],
@@ -177,10 +176,10 @@ fn add_ready(
     Ok(())
 }
 
-/// Numbers processes along the order, then in rounds, until a round numbers none.
+/// Ranks processes along the order, then in rounds, until a round ranks none.
 ///
-/// In the order a process comes behind those that it calls, so that the pass along it numbers all that can be numbered.
-/// The rounds make sure of it, and the first of them finds none left.
+/// Each process of the order comes after those that it calls, so that the pass along it ranks all that can be ranked.
+/// The first round then finds none left.
 fn assign_ranks(edges: &[Vec<usize>], order: &[usize], ranks: &mut [Option<usize>])
     requires in_range { CallsInRange (map (λ v. v.items) edges.now) }
     requires begin { AreConsistentRanks (map (λ v. v.items) edges.now) ranks.old 0 }
@@ -197,7 +196,7 @@ fn assign_ranks(edges: &[Vec<usize>], order: &[usize], ranks: &mut [Option<usize
     }
 }
 
-/// Numbers each process that waits and calls only numbered ones, in this order. The answer is the next number.
+/// Ranks each process of the order that has no rank and calls only ranked ones. Returns the next rank.
 fn rank_in_order(edges: &[Vec<usize>], order: &[usize], ranks: &mut [Option<usize>]) -> usize
     requires in_range { CallsInRange (map (λ v. v.items) edges.now) }
     requires begin { AreConsistentRanks (map (λ v. v.items) edges.now) ranks.old 0 }
@@ -211,7 +210,7 @@ fn rank_in_order(edges: &[Vec<usize>], order: &[usize], ranks: &mut [Option<usiz
     next
 }
 
-/// Numbers each process that waits and calls only numbered ones, in the order of the processes.
+/// The same for all processes, in the order of their numbers.
 fn rank_round(edges: &[Vec<usize>], ranks: &mut [Option<usize>], next: usize) -> usize
     requires in_range { CallsInRange (map (λ v. v.items) edges.now) }
     requires ordered { AreConsistentRanks (map (λ v. v.items) edges.now) ranks.old next }
@@ -226,7 +225,7 @@ fn rank_round(edges: &[Vec<usize>], ranks: &mut [Option<usize>], next: usize) ->
     now
 }
 
-/// Numbers one process, if it waits and calls only numbered ones.
+/// Gives a process the next rank if it has none and calls only ranked ones. Returns the next rank.
 fn try_rank(edges: &[Vec<usize>], ranks: &mut [Option<usize>], next: usize, process: usize) -> usize
     requires in_range { CallsInRange (map (λ v. v.items) edges.now) }
     requires ordered { AreConsistentRanks (map (λ v. v.items) edges.now) ranks.old next }
@@ -243,7 +242,7 @@ fn try_rank(edges: &[Vec<usize>], ranks: &mut [Option<usize>], next: usize, proc
     next + 1
 }
 
-/// Whether one of the processes has no number.
+/// Whether one of the processes has no rank.
 fn has_unranked_callee(calls: &[usize], ranks: &[Option<usize>]) -> bool
     requires { (q : ℕ) → In q calls.now → q < length ranks.now }
     ensures { MatchBool result (HasUnrankedCallee calls.now ranks.now) (AreRanked calls.now ranks.now) }
@@ -256,7 +255,7 @@ fn has_unranked_callee(calls: &[usize], ranks: &[Option<usize>]) -> bool
     false
 }
 
-/// The processes without a number, ascending.
+/// The processes without a rank, ascending.
 fn unranked_processes(alloc: Global, ranks: &[Option<usize>]) -> Result<Vec<usize>, AllocError>
     ensures { IfOk result (λ v. AreUnranked v.items ranks.now) }
 {
@@ -271,7 +270,7 @@ fn unranked_processes(alloc: Global, ranks: &[Option<usize>]) -> Result<Vec<usiz
     Ok(waiting)
 }
 
-/// The numbers of the processes, where each has one.
+/// The ranks of the processes, each of which must have one.
 fn unwrap_ranks(alloc: Global, ranks: &[Option<usize>]) -> Result<Vec<usize>, AllocError>
     requires { (p : ℕ) → slice_get ranks.now p ≡ Some None → ⊥ }
     ensures { IfOk result (λ v. map Some v.items ≡ ranks.now) }

@@ -1,4 +1,4 @@
-//! Laws over the definitions. Each is the contract of a function that does nothing.
+//! Laws of the definitions, each as the contract of an empty function.
 ghost use Rattle.std.specs.Prelude.{◌≡◌, ◌<◌, ℕ, List, Some, length, slice_get};
 ghost use Rattle.lotos_text.specs.AstView.{DefinitionView, body_of};
 ghost use Rattle.lotos_check.specs.NameLists.{In, Name};
@@ -10,33 +10,33 @@ ghost use Rattle.lotos_check.specs.Flat.{Flat, FlatProcess, IsFlat, Resolves, Sy
 ghost use Rattle.lotos_check.specs.Guard.{Calls, IsRanking, IsUnguardedSet};
 ghost use Rattle.lotos_check.specs.declared.fault.CheckFault.{CheckFault};
 
-/// A name has one meaning where no `where` declares a name twice.
+/// A name has one binding if no `where` declares a name twice.
 pub fn binding_is_unique()
     ensures { (scope : Scope) → IsDistinctScope scope → (n : Name) (i j : ℕ) (d e : DefinitionView) →
         Binds scope n i d → Binds scope n j e → (i ≡ j) × (d ≡ e) }
 {}
 
-/// No numbering falls at every unguarded call where each process of a set that is not empty has one into the set.
+/// If each process of a nonempty set has an unguarded call into the set, no ranks decrease at every unguarded call.
 pub fn unguarded_unranked()
     ensures { (processes : List FlatProcess) (set : List ℕ) (rank : ℕ → ℕ) (p : ℕ) →
         IsUnguardedSet processes set → In p set → IsRanking processes rank → ⊥ }
 {}
 
-/// A specification has one flat system, where its names are distinct.
+/// A specification whose names are distinct has one flat system.
 pub fn flat_system_is_unique()
     ensures { (whole : DefinitionView) (s r : System) → IsDistinct whole → IsFlat whole s → IsFlat whole r →
         s ≡ r }
 {}
 
-/// In the flat system of a specification every unguarded call goes to a process that there is.
+/// In a flat system every unguarded call goes to an existing process.
 pub fn calls_in_range()
     ensures { (whole : DefinitionView) (s : System) → IsFlat whole s → (p q : ℕ) → Calls s.processes p q →
         q < length s.processes }
 {}
 
-/// Every call in an accepted specification goes to a process that there is, with as many gates as that has formal ones. A call
-/// in the body of a definition stands there by name, and its process has the name and the formal gates of the definition that
-/// the name means.
+/// Every call in an accepted specification goes to an existing process, with as many gates as that has formal ones. A
+/// call in the body of a definition comes from a call by name, and its process has the name and the formal gates of the
+/// definition that the name is bound to.
 pub fn calls_fit()
     ensures fit { (whole : DefinitionView) (s : System) → IsAccepted whole s → (b : Flat) → IsBodyOf s b →
         (k : ℕ) (gates : List Name) → ContainsCall b k gates → (process : FlatProcess)
@@ -46,7 +46,7 @@ pub fn calls_fit()
         (k : ℕ) (gates : List Name) → ContainsCall b k gates → GoesToNamed s v k gates }
 {}
 
-/// The formal gates of an accepted specification are distinct, and those of each of its processes.
+/// The formal gates of an accepted specification, and those of each of its processes, are distinct.
 pub fn distinct_formals()
     ensures specification { (whole : DefinitionView) (s : System) → IsAccepted whole s → AreDistinctNames s.formals }
     ensures processes { (whole : DefinitionView) (s : System) → IsAccepted whole s →
@@ -54,14 +54,14 @@ pub fn distinct_formals()
         AreDistinctNames process.formals }
 {}
 
-/// The ranks of a flat system's processes fall at every unguarded call, and both of its processes have one.
+/// The ranks of a flat system decrease at every unguarded call, and both of its processes have one.
 pub fn ranks_fall()
     ensures { (whole : DefinitionView) (s : System) (ranks : List ℕ) → IsFlat whole s →
         AreRanks s.processes ranks → (p q : ℕ) → Calls s.processes p q → (r t : ℕ)
         × (slice_get ranks p ≡ Some r) × (slice_get ranks q ≡ Some t) × (t < r) }
 {}
 
-/// A specification with the fact of a fault is not accepted.
+/// A specification with a static fault is not accepted.
 pub fn faulty_is_refused()
     ensures { (whole : DefinitionView) (fault : CheckFault) → IsStaticFault whole fault →
         IsNotAccepted whole fault }

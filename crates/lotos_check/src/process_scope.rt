@@ -1,4 +1,4 @@
-//! What the names of processes mean: a table for each `where`, and a stack of them for those that enclose a place.
+//! The bindings of process names: a map for each `where`, and a stack of these, the innermost last.
 ghost use Rattle.std.specs.Prelude.{◌≡◌, ◌+◌, ◌<◌, ◌^◌, ℕ, IfOk, MatchOption};
 ghost use Rattle.lotos_text.specs.AstView.{DefinitionView, inner_of};
 ghost use Rattle.lotos_text.specs.AstOf.{definition_view, definitions_view};
@@ -9,14 +9,14 @@ use indexmap::IndexMap;
 use lotos_text::Definition;
 use std::alloc::{AllocError, Global};
 
-/// What a process name means: a process by its number, with its definition.
+/// What a process name is bound to: the number of a process, and its definition.
 #[derive(Clone, Copy)]
 pub(crate) struct Binding<'a> {
     pub process: usize,
     pub definition: &'a Definition,
 }
 
-/// How many definitions stand inside this one.
+/// The number of definitions inside this one.
 pub(crate) fn count_inner(of: &Definition) -> usize
     requires { count (inner_of (definition_view of.now)) < 2 ^ 63 }
     ensures { result ≡ count (inner_of (definition_view of.now)) }
@@ -28,7 +28,7 @@ pub(crate) fn count_inner(of: &Definition) -> usize
     total
 }
 
-/// The meanings of the names that one `where` declares, where its first definition has this number.
+/// The bindings of the names that one `where` declares, whose first definition has the number `first`.
 pub(crate) fn bind_definitions<'a>(
     alloc: Global,
     of: &'a [Definition],
@@ -50,7 +50,7 @@ pub(crate) fn bind_definitions<'a>(
     Ok(bindings)
 }
 
-/// The meaning of a name: that of the nearest table that has it, which is the last.
+/// The binding of a name in the innermost `where` that declares it; the stack has that last.
 pub(crate) fn find_binding<'a>(
     scopes: &[IndexMap<&'a str, Binding<'a>>],
     name: &str,

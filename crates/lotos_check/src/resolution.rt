@@ -1,4 +1,4 @@
-//! The names of a body: calls by number, its functionality, and its faults in the order of the text.
+//! The resolution of one body: calls by number, its functionality, and its first fault in the order of the text.
 ghost use Rattle.std.specs.Prelude.{◌≡◌, ◌++◌, List, IfErr, IfOk, None, OnOk, MatchResult, option_map};
 ghost use Rattle.lotos_text.specs.AstView.{BehaviourView, SyncView, call as plain_call, prefix, choice, par, hide, enable, disable};
 ghost use Rattle.lotos_text.specs.declared.ast.Action.{Action as AnyAction};
@@ -19,7 +19,7 @@ use indexmap::{IndexMap, IndexSet};
 use lotos_text::{Action, Behaviour, Functionality, Name, Placed, SyncSet};
 use std::alloc::{AllocError, Global};
 
-/// A behaviour with its calls by number, its functionality, and the offset of the first `>>` whose left operand has noexit.
+/// A behaviour with calls by number, its functionality, and the offset of the first `>>` whose left operand has noexit.
 #[derive(Debug, Drop)]
 pub(crate) struct ResolvedBody {
     pub code: Code,
@@ -27,7 +27,7 @@ pub(crate) struct ResolvedBody {
     pub never_exits: Option<usize>,
 }
 
-/// Exit if either operand is.
+/// Exit if either operand has exit.
 fn exits_if_either(left: Functionality, right: Functionality) -> Functionality
     ensures { result ≡ plain.either left right }
 {
@@ -37,7 +37,7 @@ fn exits_if_either(left: Functionality, right: Functionality) -> Functionality
     }
 }
 
-/// Exit only if both operands are.
+/// Exit only if both operands have exit.
 fn exits_if_both(left: Functionality, right: Functionality) -> Functionality
     ensures { result ≡ plain.both left right }
 {
@@ -58,7 +58,7 @@ pub(crate) fn copy_names(alloc: Global, placed: &[Placed]) -> Result<Vec<Name>, 
     Ok(names)
 }
 
-/// The names of a list, in the order of their bytes, without repeats.
+/// The names of a list in the order of their bytes, without repeats.
 fn name_set(alloc: Global, placed: &[Placed]) -> Result<Vec<Name>, AllocError>
     ensures { IfOk result (λ v. IsSetOf v.items placed.now) }
 {
@@ -68,7 +68,7 @@ fn name_set(alloc: Global, placed: &[Placed]) -> Result<Vec<Name>, AllocError>
     Ok(set)
 }
 
-/// The gate of an action; none for the internal one. Refuses a gate that is not known, with E21.
+/// The gate of an action; `None` for the internal one. Fails with E21 if the gate is not in scope.
 fn resolve_action(
     alloc: Global,
     gates_in_scope: &IndexSet<&str>,
@@ -92,7 +92,8 @@ fn resolve_action(
     }
 }
 
-/// The gates on which both sides synchronize, as a set; none for all gates. Refuses a gate that is not known, with E21.
+/// The gates on which both sides synchronize, as a set; `None` for all gates. Fails with E21 at a gate that is not in
+/// scope.
 fn resolve_sync(
     alloc: Global,
     gates_in_scope: &IndexSet<&str>,
@@ -114,7 +115,8 @@ fn resolve_sync(
     }
 }
 
-/// A call: of a visible process, with as many gates as its definition has, all of them known.
+/// A call. Fails with E22 if no process with the name is visible, with E23 if its definition has another number of
+/// gates, and with E21 at a gate that is not in scope.
 fn resolve_call<'a>(
     alloc: Global,
     scopes: &[IndexMap<&'a str, Binding<'a>>],
@@ -150,7 +152,7 @@ fn resolve_call<'a>(
     })
 }
 
-/// A form without parts, in which no `>>` stands.
+/// A form without parts, and so without `>>`.
 fn make_leaf(code: Code, functionality: Functionality) -> ResolvedBody
     ensures code { flat_of result.code ≡ flat_of code }
     ensures functionality { result.functionality ≡ functionality }
@@ -163,7 +165,7 @@ fn make_leaf(code: Code, functionality: Functionality) -> ResolvedBody
     }
 }
 
-/// A prefix, of what was found of its behaviour.
+/// A prefix, from its resolved behaviour.
 fn make_prefix(
     alloc: Global,
     name: Option<Name>,
@@ -184,7 +186,7 @@ fn make_prefix(
     })
 }
 
-/// A choice, of what was found of its operands.
+/// A choice, from its resolved operands.
 fn make_choice(
     alloc: Global,
     first: ResolvedBody,
@@ -204,7 +206,7 @@ fn make_choice(
     })
 }
 
-/// A parallel composition, of what was found of its operands.
+/// A parallel composition, from its resolved operands.
 fn make_parallel(
     alloc: Global,
     first: ResolvedBody,
@@ -228,7 +230,7 @@ fn make_parallel(
     })
 }
 
-/// A hide form, of what was found of its behaviour, where its gates may be used too.
+/// A hide form, from its behaviour, which was resolved with the hidden gates in scope.
 fn make_hide(
     alloc: Global,
     gates: &[Placed],
@@ -248,7 +250,7 @@ fn make_hide(
     })
 }
 
-/// An enabling whose operator stands at the offset, of what was found of its operands.
+/// An enabling whose operator is at the offset, from its resolved operands.
 fn make_enable(
     alloc: Global,
     first: ResolvedBody,
@@ -273,7 +275,7 @@ fn make_enable(
     })
 }
 
-/// A disabling, of what was found of its operands.
+/// A disabling, from its resolved operands.
 fn make_disable(
     alloc: Global,
     first: ResolvedBody,
@@ -293,9 +295,9 @@ fn make_disable(
     })
 }
 
-/// Turns the names of the calls of a behaviour into numbers, where these tables show the visible processes and these gates
-/// are known. Refuses the first name in the order of the text that breaks a rule: with E22 or E23 that of a call, with E21 a
-/// gate.
+/// Resolves a behaviour, given the visible processes and the gates in scope. Fails at the first name in the order of
+/// the text that breaks a rule: with E22 or E23 at a call, with E21 at a gate. Unless it fails, the gates in scope are
+/// unchanged.
 pub(crate) fn resolve<'a>(
     alloc: Global,
     scopes: &[IndexMap<&'a str, Binding<'a>>],

@@ -4,8 +4,8 @@ use lotos_text::{Functionality, Name};
 
 /// A behaviour expression of a checked specification.
 ///
-/// A process is called by its number. The gates of a hide form and of a parallel expression are in the order of their bytes,
-/// without repeats.
+/// Calls are by the numbers of processes. The gates of a hide form and of a parallel expression are in the order of
+/// their bytes, without repeats.
 #[derive(Debug, Drop)]
 pub enum Code {
     /// Inaction.
@@ -56,7 +56,7 @@ pub struct Process {
     pub name: Name,
     /// The formal gates, in their order.
     pub formals: Vec<Name>,
-    /// As declared, which is that of the body.
+    /// The declared functionality, which is that of the body.
     pub functionality: Functionality,
     pub body: Code,
 }

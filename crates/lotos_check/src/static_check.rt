@@ -1,4 +1,4 @@
-//! What the passes over a specification find together.
+//! The static check: all passes over a specification.
 ghost use Rattle.std.specs.Prelude.{◌≡◌, ◌<◌, ◌∷◌, [], ℕ, List, Some, IfErr, IfOk, length, map, slice_get, suc};
 ghost use Rattle.lotos_text.specs.AstView.{DefinitionView, formals_of, inner_of, name_of};
 ghost use Rattle.lotos_text.specs.OffsetsInside.{IsInside};
@@ -31,10 +31,12 @@ use crate::resolved::{Code, Process};
 use lotos_text::{Definition, Specification};
 use std::alloc::{AllocError, Global};
 
-/// Checks the static rules of a specification, and answers it with its processes numbered and its calls by number.
+/// Checks the static rules of a specification, and returns it with its processes numbered and its calls by number.
 ///
-/// Four passes are made, and the first that finds a fault answers the one that stands first in the text: E20 and E24; E21 to
-/// E23; E25 and E26; E27. Answers E99 where a growth of the heap was refused.
+/// # Errors
+///
+/// Four passes are made, and the first that finds a fault returns the one that is first in the text: E20 and E24; E21
+/// to E23; E25 and E26; E27. E99 if an allocation fails.
 pub fn check(alloc: Global, tree: Specification) -> Result<Checked, CheckFault>
     ensures faulty { IfErr result (IsStaticFault (definition_view tree.whole)) }
     ensures refused { IfErr result (IsNotAccepted (definition_view tree.whole)) }
@@ -66,8 +68,8 @@ pub fn check(alloc: Global, tree: Specification) -> Result<Checked, CheckFault>
     }
 }
 
-/// What the passes find is what the static rules say: with no fault the specification is well typed and its code the flat
-/// system; each fault is one of the specification.
+/// The passes decide the static rules: without a fault the specification is well typed and its code is the flat system;
+/// each fault is one of the specification.
 pub(crate) fn passes_are_static_rules()
     ensures typed { (whole : DefinitionView) (found : List AnyResolved) → IsDistinct whole →
         AddsBodies (all_definitions whole) [] found → Pairwise HasDeclaredFunctionality (definitions_in whole) found →
@@ -91,7 +93,7 @@ pub(crate) fn passes_are_static_rules()
         IsE27 whole name set }
 {}
 
-/// The code of the first definition, which is the specification, and the others as processes.
+/// The code of the first definition, which is the specification, and the processes of the others.
 pub(crate) fn flatten(
     alloc: Global,
     definitions: &[&Definition],

@@ -1,4 +1,4 @@
--- The command line is one whose matches clap states, and what it makes of some words.
+-- The command line is one that clap's contracts cover, and what it makes of some words.
 use Rattle.std.proofs.Common.{◌≡◌, refl, true, false, codes, List, [], ◌∷◌, Some, None}
 use Rattle.clap.specs.Words.{Text, fault_of, is_simple, is_simple_and_free, takes}
 use Rattle.clap.specs.declared.error.kind.ErrorKind.TheVariants.{UnknownArgument, ValueValidation}

@@ -1,4 +1,4 @@
--- What the getters of clap's matches answer at an entry that can be read.
+-- What the getters of clap's matches return for an entry that can be read.
 use Rattle.std.proofs.Common.{◌≡◌, ◌∙◌, ◌<◌, ◌^◌, ◌||◌, ap, sym, refl, ℕ, Bool, true, false, Option, Some, None, Result, Ok, Err, codes, arith}
 use Rattle.std.specs.Prelude.{IfSome, IsSomeAnd, IsSome}
 use Rattle.std.specs.Option.{option_map, option_map_or, unwrap_or}

@@ -1,4 +1,4 @@
--- What a fault of clap's is to the command.
+-- The fault that the command makes of a clap fault.
 use Rattle.std.proofs.Common.{◌≡◌, ◌∙◌, List, inl, inr, refl, sym, subst}
 use Rattle.clap.specs.Words.{HasKind, IsAmong, Text, fault_of, kind_of}
 use Rattle.clap.specs.declared.error.Error.{Error}

@@ -1,4 +1,4 @@
--- One level of a parse in which clap finds no fault leaves rows that can be read.
+-- One level of a parse without a fault leaves rows that can be read.
 use Rattle.std.proofs.Common.{◌≡◌, ◌&&◌, ◌||◌, ℕ, Bool, cond, true, false, not, refl, sym, subst, arith, List, [], ◌∷◌, Option, Some, None, codes, is_some, fold}
 use Rattle.std.specs.Prelude.{IfSome}
 use Rattle.std.specs.Option.{option_map_or}

@@ -1,4 +1,4 @@
--- A use of an argument in which clap finds no fault leaves rows that can be read.
+-- A use of an argument without a fault leaves rows that can be read.
 use Rattle.std.proofs.Common.{◌≡◌, ◌≤◌, ℕ, Bool, false, refl, arith, List, [], ◌∷◌, length, Option, Some, None, find, lt-ltb}
 use Rattle.std.specs.Option.{option_map_or}
 use Rattle.clap.specs.Facts.{unwrap_or_range}

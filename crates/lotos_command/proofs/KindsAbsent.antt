@@ -1,4 +1,4 @@
--- Where clap finds no kind of fault.
+-- Kinds of faults that clap does not find.
 use Rattle.std.proofs.Common.{◌≡◌, ◌∙◌, Bool, refl, ap, List, [], ◌∷◌, ◌++◌}
 use Rattle.clap.specs.Kinds.{Kinds, or_else, value_kinds, values_kinds}
 use Rattle.clap.specs.Walk.{Text}

@@ -25,7 +25,7 @@ limit_rule = record (new_rule (codes "limit")) {
   parser = Some (Signed (pos 1) (pos 1000000000));
 }
 
--- `--terms N`, with a number from 1 to 1,000,000; 100,000 where it is not given
+-- `--terms N`, with a number from 1 to 1,000,000; 100,000 if it is not given
 abbrev pub terms_rule : Rule
 terms_rule = record (new_rule (codes "terms")) {
   long = Some (codes "terms");
@@ -57,7 +57,7 @@ strong_rule = record (new_rule (codes "strong")) {
   action = Some SetTrue;
 }
 
--- `WORD ..`, all that is no option, in its order
+-- `WORD ..`, all words that are no option, in order
 abbrev pub words_rule : Rule
 words_rule = record (new_rule (codes "words")) {
   action = Some Append;
@@ -75,7 +75,7 @@ search_app =
 abbrev pub check_app : App
 check_app = new_app (codes "check")
 
--- `lotosseq`, which wants one of its subcommands
+-- `lotosseq`, which needs one of its subcommands
 abbrev pub lotosseq : App
 lotosseq =
     with_subcommand

@@ -5,7 +5,7 @@ use Rattle.std.specs.Str.Parse.{IsNumeral, without_leading_plus}
 use Rattle.clap.specs.Words.{Row, Text, one_of}
 use Rattle.lotos_command.specs.Request.{number}
 
--- a decimal numeral, which a plus sign may open, in the bounds
+-- a decimal numeral within the bounds, perhaps after a plus sign
 pub record IsNumberIn (low high : ℕ) (text : Text) : Type 0 where
   pub numeral : IsNumeral 10 (without_leading_plus text)
   pub least : low ≤ number text
@@ -15,7 +15,7 @@ pub record IsNumberIn (low high : ℕ) (text : Text) : Type 0 where
 abbrev pub IsTruthText : Text → Type 0
 IsTruthText text = (bytes_eq text (codes "true") || bytes_eq text (codes "false")) ≡ true
 
--- the entries of `search` have a depth, and those of its numbers and flags can be read
+-- the entries of `search` have a depth, and their numbers and flags can be read
 pub record FitsSearch (rows : List Row) : Type 0 where
   pub depth : IsSomeAnd (one_of (codes "depth") rows) (IsNumberIn 0 255)
   pub limit : IfSome (one_of (codes "limit") rows) (IsNumberIn 1 1000000000)

@@ -1,4 +1,4 @@
--- The request that the words of the command spell.
+-- The request that the words of the command line make.
 use Rattle.std.specs.Prelude.{◌≡◌, ◌≤◌, ℕ, Bool, false, List, [], map, codes, Option, Some, None, if◌then◌else◌, option_map, option_and_then, unwrap_or, string_bytes, IfSome, ⊤}
 use Rattle.std.specs.Option.{option_map_or}
 use Rattle.std.specs.Str.{bytes_eq}
@@ -29,6 +29,7 @@ pub data RequestView : Type 0 where
   check : RequestView
   search : SearchView → RequestView
 
+-- the view of a search
 abbrev pub search_view : SearchRequest → SearchView
 search_view request = record {
   depth = request.depth;
@@ -40,11 +41,12 @@ search_view request = record {
   words = map string_bytes request.words.items;
 }
 
+-- the view of a request
 abbrev pub request_view : Request → RequestView
 request_view asked.Check = check
 request_view (asked.Search request) = search (search_view request)
 
--- the number that a decimal numeral spells, which a plus sign may open
+-- the number of a decimal numeral, perhaps after a plus sign
 abbrev pub number : Text → ℕ
 number text = digits_value 10 (without_leading_plus text)
 
@@ -52,7 +54,7 @@ number text = digits_value 10 (without_leading_plus text)
 abbrev pub flag : Text → List Row → Bool
 flag name rows = option_map_or (bytes_eq (codes "true")) (one_of name rows) false
 
--- the search that the entries of the subcommand `search` spell
+-- the search that the entries of the subcommand `search` make
 abbrev pub search_from : List Row → Option SearchView
 search_from rows = option_map (λ depth. record {
   depth = number depth;
@@ -64,31 +66,31 @@ search_from rows = option_map (λ depth. record {
   words = unwrap_or (all_of (codes "words") rows) [];
 }) (one_of (codes "depth") rows)
 
--- the request that a subcommand of this name with these entries spells
+-- the request that a subcommand of this name with these entries makes
 abbrev pub request_named : Text → List Row → Option RequestView
 request_named name rows =
     if bytes_eq name (codes "search") then option_map search (search_from rows)
     else (if bytes_eq name (codes "check") then Some check else None)
 
--- the request that the subcommand with its entries spells, if one was given
+-- the request that the subcommand with its entries makes, if there is one
 abbrev pub request_from : Option (Text × List Row) → Option RequestView
 request_from given = option_and_then (λ p. request_named p.0 p.1) given
 
--- the request that the entries spell which clap finds for the words
+-- the request that the entries make which clap finds in the words
 abbrev pub request_of : List Text → Option RequestView
 request_of words = request_from (subcommand_of lotosseq words)
 
--- The words, the program's own name first, spell the request: clap finds no fault in them, and its entries read as it.
+-- the words, the program's own name first, make the request: clap finds no fault in them, and its entries read as it
 pub record RequestOf (words : List Text) (request : RequestView) : Type 0 where
   pub faultless : fault_of lotosseq words ≡ []
   pub reads : request_of words ≡ Some request
 
--- the number of terms that a prefix may reach, and a limit that is given, are at least 1
+-- the bound on the terms of a prefix is at least 1, and so is the limit, if one is given
 pub record HasSearchBounds (request : SearchRequest) : Type 0 where
   pub terms : 1 ≤ request.terms
   pub limit : IfSome request.limit (λ n. 1 ≤ n)
 
--- a search has these bounds
+-- these bounds, if the request is a search
 abbrev pub HasBounds : Request → Type 0
 HasBounds asked.Check = ⊤
 HasBounds (asked.Search request) = HasSearchBounds request

@@ -1,8 +1,8 @@
-//! What the words of the command ask for.
+//! Requests: what the words of the command line ask for.
 
 use std::alloc::AllocError;
 
-/// What the words of the command ask for.
+/// What the words of the command line ask for.
 #[derive(Debug, Drop)]
 pub enum Request {
     /// Check a specification and list its processes.
@@ -14,15 +14,15 @@ pub enum Request {
 /// A search.
 #[derive(Debug, Drop)]
 pub struct SearchRequest {
-    /// The most steps of a derivation, internal ones counted.
+    /// The most steps of a derivation, internal ones included.
     pub depth: u8,
     /// The most lines that are written, at least 1.
     pub limit: Option<u32>,
     /// The most terms that a prefix may reach, at least 1.
     pub terms: usize,
-    /// A line of a listing: only what stands after its sequence is listed.
+    /// A line of a listing: only what comes after its sequence is listed.
     pub after: Option<String>,
-    /// Whether a line has the least word too.
+    /// Whether each line has the least run of its sequence too.
     pub explain: bool,
     /// Whether the internal action is a label like others.
     pub strong: bool,
@@ -30,14 +30,14 @@ pub struct SearchRequest {
     pub words: Vec<String>,
 }
 
-/// Why the words ask for nothing that can be done.
+/// Why the words are no request.
 #[derive(Debug, Drop)]
 pub enum CommandFault {
     /// The words ask for help, and this is its text.
     Help(String),
     /// The words fit no command, and this text says why.
     Wrong(String),
-    /// A growth of the heap was refused.
+    /// Out of memory.
     Memory,
 }
 

@@ -1,4 +1,4 @@
-//! Reads the words of the command.
+//! The command line, read by clap.
 ghost use Rattle.std.specs.Prelude.{◌≡◌, IfErr, IfOk, IfSome, IsSomeAnd, Some, true, false, map, [], codes, option_map, string_bytes, unwrap_or};
 ghost use Rattle.std.specs.Option.{option_map_or};
 ghost use Rattle.clap.specs.Words.{all_of, app_of, first_of, found_of, kind_of, new_app, one_of, rows_of, rule_of, subcommand_rows_of};
@@ -19,13 +19,15 @@ use clap::error::ErrorKind;
 use clap::{Arg, ArgAction, ArgMatches, Command, Error, value_parser};
 use std::alloc::{AllocError, Global};
 
-/// The most terms that a prefix may reach where the words do not say.
+/// The most terms that a prefix may reach unless `--terms` is given.
 const DEFAULT_TERMS: usize = 100_000;
 
-/// The request of the words, the program's own name first.
+/// The request that the words make. The first of them is the program's own name.
 ///
-/// Words that ask for help are a fault too, and so are words that fit no command. Where memory is wanting the fault is
-/// [`CommandFault::Memory`], whatever the words are.
+/// # Errors
+///
+/// [`CommandFault::Help`] if the words ask for help, [`CommandFault::Wrong`] if they fit no command, and
+/// [`CommandFault::Memory`] if an allocation fails, whatever the words are.
 pub fn request(alloc: Global, words: &[&str]) -> Result<Request, CommandFault>
     ensures is { IfOk result (λ r. RequestOf (texts_of words.now) (request_view r)) }
     ensures bounds { IfOk result HasBounds }
@@ -173,7 +175,7 @@ fn words_arg<'a>(alloc: Global) -> Arg<'a>
         .long_help(WORDS_LONG_HELP)
 }
 
-// ---- what was given
+// ---- what was matched
 
 fn read_request(alloc: Global, found: &ArgMatches<'_>) -> Result<Request, AllocError>
     requires { FitsRequest (subcommand_rows_of found.now) }

@@ -1,7 +1,7 @@
-//! The words of the command `lotosseq`, read by clap into a request.
+//! The command line of `lotosseq`.
 //!
-//! [`request`] takes the words and answers a [`Request`], or the text of help, or why the words fit no command. The command
-//! line itself, as clap's own definitions have it, is `specs/Command.antt`.
+//! [`request`] reads the words by clap. It returns a [`Request`], or the text of help, or why the words fit no command.
+//! The command line in clap's own definitions is `specs/CommandRules.antt`.
 #![tactic(auto)]
 
 mod command;

@@ -1,4 +1,4 @@
-//! What words ask for, with ample memory.
+//! Requests of words, with enough memory.
 
 use crate::{CommandFault, Request, request};
 use std::alloc::Global;

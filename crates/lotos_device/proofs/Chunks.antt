@@ -1,4 +1,4 @@
--- Bytes that are written piece by piece.
+-- Bytes that are written chunk by chunk.
 use Rattle.std.proofs.Common.{◌≡◌, ℕ, ◌+◌, ◌<◌, List, Option, take, drop, subst, sym, length, length-drop, take-append-drop, arith, Result, Ok, Err, OnErr}
 use Rattle.std.proofs.Math.Seq.{take-add}
 use Rattle.std.specs.Io.KnownBytes.{Appends, Keeps}

@@ -1,4 +1,4 @@
--- What reading a whole text answers.
+-- What reading a whole text returns, and how much it takes.
 use Rattle.std.specs.Prelude.{◌≡◌, ℕ, ◌≤◌, Bool, true, false, List, length, Option, Result, Err}
 use Rattle.std.specs.Io.KnownBytes.{Consumes, IsAtEnd}
 use Rattle.lotos_text.specs.Limits.{max_text_length}
@@ -11,11 +11,11 @@ pub record ReadsAll (old new : Option (List ℕ)) (text : List ℕ) : Type 0 whe
   pub end : IsAtEnd new
   pub within : length text ≤ max_text_length
 
--- at most so many bytes were taken
+-- at most `n` bytes were taken
 abbrev pub TakesAtMost : Option (List ℕ) → Option (List ℕ) → ℕ → Type 0
 TakesAtMost old new n = (taken : List ℕ) × (length taken ≤ n) × Consumes old new taken
 
--- so many bytes were taken
+-- exactly `n` bytes were taken
 abbrev pub TakesExactly : Option (List ℕ) → Option (List ℕ) → ℕ → Type 0
 TakesExactly old new n = (taken : List ℕ) × (length taken ≡ n) × Consumes old new taken
 

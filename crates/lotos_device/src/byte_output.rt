@@ -1,4 +1,4 @@
-//! Writes bytes whole.
+//! The loop that writes all bytes.
 ghost use Rattle.std.specs.Prelude.{◌≡◌, false, OnOk, OnErr};
 ghost use Rattle.std.specs.Io.KnownBytes.{Appends};
 ghost use Rattle.lotos_device.specs.DeviceContracts.{SetsFailed};
@@ -6,7 +6,8 @@ ghost use Rattle.lotos_device.specs.ByteOutput.{AppendsPart};
 
 use crate::device::{DeviceFailed, Sink};
 
-/// Writes all the bytes, piece by piece as the writer takes them.
+/// Writes all the bytes, as many at a time as the writer takes. If the writer fails, it has taken a proper prefix of
+/// them.
 pub fn write_bytes<W: Sink>(writer: &mut W, bytes: &[u8]) -> Result<(), DeviceFailed>
     requires { W.has_failed writer.old ≡ false }
     ensures whole { OnOk result (Appends (W.got writer.old) (W.got writer.new) bytes.now) }

@@ -1,7 +1,8 @@
-//! Where bytes come from and where they go.
+//! Devices: where bytes come from, and where they go.
 //!
-//! A device remembers whether one of its calls has failed. Contracts speak of the bytes that it has left or has got, where
-//! it tells them: those over memory do, and for a file or a terminal the claim is as honest as the system is.
+//! A device remembers whether one of its calls has failed. Contracts speak of the bytes that a device has left or has
+//! got, if these are known. They are for devices over memory; for a file or a terminal the claim is as good as the
+//! system's.
 ghost use Rattle.std.specs.Prelude.{◌≡◌, ℕ, Bool, false, List, Option};
 ghost use Rattle.std.specs.Io.KnownBytes.{Keeps};
 ghost use Rattle.lotos_device.specs.DeviceContracts.{CountsGiven, Reads, Accepts, SetsFailed};
@@ -9,58 +10,59 @@ ghost use Rattle.lotos_device.specs.WrappedDevices.{wrapped_reader, reader_faile
 
 use std::io::{Read, Write};
 
-/// A device refused a call.
+/// A call of a device failed.
 #[derive(Clone, Copy, Debug, PartialEq, Eq)]
 pub struct DeviceFailed;
 
 /// Where bytes come from.
 pub trait Source {
-    /// The bytes that are left, where the source tells them.
+    /// The bytes that are left, if they are known.
     ghost left: { Self → Option (List ℕ) };
 
-    /// How many bytes it has given since it was made, whether it tells what is left or not.
+    /// The number of bytes that it has given since it was made, whether or not it is known what is left.
     ghost given: { Self → ℕ };
 
     /// Whether a call has failed.
     ghost has_failed: { Self → Bool };
 
-    /// Moves bytes to the front of `into` and answers how many: none, where there is room, only at the end. A failure takes
-    /// none.
+    /// Moves bytes to the front of `into` and returns how many. Into a buffer that is not empty it moves none only at
+    /// the end. A call that fails moves none.
     fn read(&mut self, into: &mut [u8]) -> Result<usize, DeviceFailed>
         ensures bytes { Reads (left self.old) (left self.new) result into.new }
         ensures given { CountsGiven (given self.old) (given self.new) result }
         ensures flag { SetsFailed (has_failed self.old) (has_failed self.new) result };
 
-    /// Whether a call has failed. No call takes that back.
+    /// Whether a call has failed. Once true, it stays true.
     fn failed(&self) -> bool
         ensures { result ≡ has_failed self.now };
 }
 
 /// Where bytes go.
 pub trait Sink {
-    /// The bytes that were got so far, where the sink tells them.
+    /// The bytes that were written so far, if they are known.
     ghost got: { Self → Option (List ℕ) };
 
     /// Whether a call has failed.
     ghost has_failed: { Self → Bool };
 
-    /// Takes bytes from the front of `bytes` and answers how many: at least one, where there is one.
+    /// Takes bytes from the front of `bytes` and returns how many: at least one, if there is one. A call that fails
+    /// takes none.
     fn write(&mut self, bytes: &[u8]) -> Result<usize, DeviceFailed>
         ensures bytes { Accepts (got self.old) (got self.new) result bytes.now }
         ensures flag { SetsFailed (has_failed self.old) (has_failed self.new) result };
 
-    /// Passes on what was got.
+    /// Passes on the bytes that were written.
     fn flush(&mut self) -> Result<(), DeviceFailed>
         ensures bytes { Keeps (got self.old) (got self.new) }
         ensures flag { SetsFailed (has_failed self.old) (has_failed self.new) result };
 
-    /// Whether a call has failed. No call takes that back.
+    /// Whether a call has failed. Once true, it stays true.
     fn failed(&self) -> bool
         ensures { result ≡ has_failed self.now };
 }
 
-/// A source over std's reader, whose bytes it has. It counts the bytes that it gives, and a read into more room than can
-/// still be counted is a failure. No slice has 2^63 bytes, so there is none of these before 2^63 bytes are given.
+/// A source over a reader of std. It counts the bytes that it gives, and fails at a read into a buffer larger than what
+/// can still be counted. No slice has 2^63 bytes, so this cannot happen before 2^63 bytes are given.
 #[derive(Drop)]
 pub struct FromRead<R> {
     inner: R,
@@ -69,7 +71,7 @@ pub struct FromRead<R> {
 }
 
 impl<R: Read> FromRead<R> {
-    /// Wraps a reader, as a source that has given nothing and has not failed.
+    /// Wraps a reader in a source that has given nothing and has not failed.
     pub fn new(inner: R) -> FromRead<R>
         ensures inner { wrapped_reader result ≡ inner }
         ensures given { reader_given result ≡ 0 }
@@ -82,7 +84,7 @@ impl<R: Read> FromRead<R> {
         }
     }
 
-    /// Hands back what was wrapped.
+    /// Returns the reader.
     pub fn into_inner(self) -> R
         ensures { result ≡ wrapped_reader self }
     {
@@ -119,7 +121,7 @@ impl<R: Read> Source for FromRead<R> {
     }
 }
 
-/// A sink over std's writer, whose bytes it has. A write that takes no byte of a slice that isn't empty is a failure.
+/// A sink over a writer of std. A write that takes no byte of a slice that is not empty is a failure.
 #[derive(Drop)]
 pub struct FromWrite<W> {
     inner: W,
@@ -127,7 +129,7 @@ pub struct FromWrite<W> {
 }
 
 impl<W: Write> FromWrite<W> {
-    /// Wraps a writer, as a sink that has not failed.
+    /// Wraps a writer in a sink that has not failed.
     pub fn new(inner: W) -> FromWrite<W>
         ensures inner { wrapped_writer result ≡ inner }
         ensures unfailed { writer_failed result ≡ false }
@@ -138,7 +140,7 @@ impl<W: Write> FromWrite<W> {
         }
     }
 
-    /// Hands back what was wrapped.
+    /// Returns the writer.
     pub fn into_inner(self) -> W
         ensures { result ≡ wrapped_writer self }
     {

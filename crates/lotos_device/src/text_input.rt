@@ -1,4 +1,4 @@
-//! Reads a whole text, and no more than a text may have.
+//! The loop that reads a whole text, within the limit of its length.
 ghost use Rattle.std.specs.Prelude.{◌≡◌, ◌+◌, ◌≤◌, false, IfOk, IsErrOf};
 ghost use Rattle.lotos_text.specs.Limits.{max_text_length};
 ghost use Rattle.lotos_device.specs.TextInput.{ReadsAll, TakesAtMost, TakesExactly, is_device_fault};
@@ -7,7 +7,7 @@ use crate::device::{DeviceFailed, Source};
 use lotos_text::TEXT_LIMIT;
 use std::alloc::{AllocError, Global};
 
-/// The most bytes that one read asks for.
+/// The most bytes that one read may move.
 const CHUNK_SIZE: usize = 4096;
 
 /// Why a text could not be read.
@@ -29,8 +29,8 @@ impl From<AllocError> for ReadFault {
     }
 }
 
-/// Reads all that the reader has left. One byte more than a text may have is the most that is taken, whatever the reader gives,
-/// and is too long.
+/// Reads all that the reader has left. It takes at most one byte more than a text may have, whatever the reader gives;
+/// if it takes that byte, the text is too long.
 pub fn read_text<R: Source>(alloc: Global, reader: &mut R) -> Result<Vec<u8>, ReadFault>
     requires { R.has_failed reader.old ≡ false }
     ensures whole { IfOk result (λ text. ReadsAll (R.left reader.old) (R.left reader.new) text.items) }

@@ -1,4 +1,4 @@
--- Where no label need follow at a position of a place.
+-- When no label need follow at a state of a place.
 use Rattle.std.proofs.Common.{◌≡◌, ℕ, zero, suc, ◌+◌, ◌≤◌, inl, inr, Bool, true, false, List, [], ◌∷◌, ◌++◌, length, drop, refl, sym, subst, arith}
 use Rattle.std.specs.Prelude.{◌↔◌, MatchBool}
 use Rattle.std.proofs.lemmas.Bool.{cases_lt}

@@ -1,4 +1,4 @@
--- Where no element can begin or end, the words spell no pattern.
+-- If no element can begin or end at a word, the words spell no pattern.
 use Rattle.std.proofs.Common.{◌≡◌, ◌≢◌, ℕ, ◌+◌, ◌<◌, Bool, false, List, [], ◌∷◌, ◌++◌, length, take, drop, Some, refl, sym, ap, subst, ◌∙◌, arith, codes, get_or, inl, inr}
 use Rattle.std.specs.Prelude.{slice_get}
 use Rattle.std.proofs.lemmas.List.{length-drop, take-append-drop, length-append}

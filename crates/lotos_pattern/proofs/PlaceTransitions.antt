@@ -1,4 +1,4 @@
--- Where a label leads from the positions of a place.
+-- The place that a label leads to from the states of another.
 use Rattle.std.proofs.Common.{◌≡◌, ℕ, zero, suc, ◌+◌, ◌<◌, ◌≤◌, ◌⊎◌, inl, inr, Option, None, Some, List, [], ◌∷◌, ◌++◌, length, drop, refl, sym, ap, subst, ◌∙◌, arith}
 use Rattle.std.specs.Prelude.{MatchOption, unwrap_or}
 use Rattle.std.proofs.lemmas.Bool.{cases_lt}

@@ -1,4 +1,4 @@
--- The positions of a place, as the bits of its words.
+-- The states of a place, as the bits of its words.
 use Rattle.std.proofs.Common.{◌≡◌, ℕ, ◌+◌, ◌-◌, ◌*◌, ◌/◌, ◌%◌, ◌^◌, ◌<◌, ◌≤◌, ◌⊎◌, inl, inr, List, length, get_or, sym, ap, ◌∙◌, arith, w64}
 use Rattle.std.specs.Prelude.{◌↔◌, bit_or, replicate, slice_set}
 use Rattle.std.specs.Int.{bit_at, trailing_zeros}

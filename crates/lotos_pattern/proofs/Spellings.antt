@@ -1,4 +1,4 @@
--- The first word of an element fixes how many words spell it, so words spell at most one pattern.
+-- The first word of an element decides how many words spell it, so words spell at most one pattern.
 use Rattle.std.proofs.Common.{◌≡◌, Bool, List, [], ◌∷◌, ◌++◌, refl, sym, ap, subst, ◌∙◌, append_assoc, arith, codes, get_or}
 use Rattle.std.proofs.lemmas.List.{append-nil}
 use Rattle.lotos_pattern.specs.Patterns.{Element, IsJoin, Pattern, any, deadlock, one, until, until_deadlock, while, while_any}

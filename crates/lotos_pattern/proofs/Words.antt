@@ -1,4 +1,4 @@
--- Words that mean different things.
+-- Words with different meanings.
 use Rattle.std.proofs.Common.{◌≡◌, ◌≢◌, ℕ, zero, suc, ◌+◌, ◌<◌, Bool, true, false, List, [], ◌∷◌, ◌++◌, length, map, take, drop, get_or, Some, Result, Ok, Err, refl, sym, ap, subst, ◌∙◌, arith}
 use Rattle.std.specs.Prelude.{IfOk, IsTrue, slice_get}
 use Rattle.std.specs.Borrow.{Bor}

@@ -1,10 +1,11 @@
--- The elements that the program keeps, as those of the definition.
+-- The views of the program's elements and patterns, and the invariant of patterns.
 use Rattle.std.specs.Prelude.{◌≤◌, Bool, List, All, length, map}
 use Rattle.std.specs.String.{string_bytes}
 use Rattle.lotos_pattern.specs.Patterns.{Element, OnlyLastDemandsDeadlock, IsObservable, Pattern, any, deadlock, one, until, until_deadlock, while, while_any}
 use Rattle.lotos_pattern.specs.declared.element.Element.{Element as Kept}
 use Rattle.lotos_pattern.specs.declared.element.Element.TheVariants as kept
 
+-- the view of an element
 abbrev pub element_of : Kept → Element
 element_of (kept.Label text) = one (string_bytes text)
 element_of kept.Any = any
@@ -14,13 +15,15 @@ element_of kept.WhileAny = while_any
 element_of kept.Deadlock = deadlock
 element_of kept.UntilDeadlock = until_deadlock
 
+-- the views of elements
 abbrev pub elements_of : List Kept → List Element
 elements_of = map element_of
 
+-- the pattern of these elements
 abbrev pub pattern_of : (strong : Bool) → List Element → Pattern
 pattern_of strong elements = record { elements = elements; strong = strong }
 
--- the label of the element, if it has one, can be observed
+-- the label of the element, if it needs one, can be observed
 abbrev pub CanOccur : (strong : Bool) → Element → Type 0
 CanOccur strong (one l) = IsObservable strong l
 CanOccur strong any = Unit {0}
@@ -30,7 +33,7 @@ CanOccur strong while_any = Unit {0}
 CanOccur strong deadlock = Unit {0}
 CanOccur strong until_deadlock = Unit {0}
 
--- what a pattern keeps true
+-- the invariant of patterns
 pub record IsPattern (p : Pattern) : Type 0 where
   pub ends_last : OnlyLastDemandsDeadlock p.elements
   pub observable : All (CanOccur p.strong) p.elements

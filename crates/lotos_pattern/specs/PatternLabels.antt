@@ -1,7 +1,7 @@
--- Labels as they are printed.
+-- Labels as printed texts.
 use Rattle.std.specs.Prelude.{ℕ, List, codes}
 
--- a label, by its printed text: a gate's name, `exit` or `i`
+-- a label as its printed text: a gate's name, `exit` or `i`
 abbrev pub Label : Type 0
 Label = List ℕ
 
@@ -9,6 +9,6 @@ Label = List ℕ
 abbrev pub termination : Label
 termination = codes "exit"
 
--- the internal action, which nobody observes
+-- the internal action, which is not observed
 abbrev pub internal : Label
 internal = codes "i"

@@ -2,7 +2,7 @@
 use Rattle.std.specs.Prelude.{◌≡◌, ◌≢◌, Bool, true, false, List, [], ◌∷◌, ◌++◌, All}
 use Rattle.lotos_pattern.specs.PatternLabels.{Label, internal}
 
--- the list is the join of one part for each of the items, in turn
+-- the list is the concatenation of one part for each of the items, in turn
 abbrev pub IsJoin : {E X : Type 0} → (E → List X → Type 0) → List E → List X → Type 0
 IsJoin Part [] xs = xs ≡ []
 IsJoin {E} {X} Part (e ∷ es) xs = (front : List X) × (rest : List X) × Part e front × IsJoin Part es rest × (xs ≡ front ++ rest)
@@ -19,12 +19,12 @@ pub data Element : Type 0 where
   while : Label → Element
   -- any number of labels
   while_any : Element
-  -- nothing, where the end must be a deadlock
+  -- no label; the end must be a deadlock
   deadlock : Element
-  -- any number of labels, where the end must be a deadlock
+  -- any number of labels; the end must be a deadlock
   until_deadlock : Element
 
--- the labels that an element takes
+-- the sequences of labels that an element takes
 abbrev pub Segment : Element → List Label → Type 0
 Segment (one l) s = s ≡ l ∷ []
 Segment any s = (l : Label) × (s ≡ l ∷ [])
@@ -34,26 +34,26 @@ Segment while_any s = Unit {0}
 Segment deadlock s = s ≡ []
 Segment until_deadlock s = Unit {0}
 
--- the label can be observed: each one where internal steps are shown, and else each one but the internal action
+-- the label can be observed: any label if internal steps are observed, otherwise any but the internal action
 abbrev pub IsObservable : (strong : Bool) → Label → Type 0
 IsObservable true l = Unit {0}
 IsObservable false l = l ≢ internal
 
--- a pattern: its elements in their order, and whether internal steps are shown
+-- a pattern: its elements in order, and whether internal steps are observed
 pub record Pattern : Type 0 where
   pub elements : List Element
   pub strong : Bool
 
--- a pattern matches one segment for each of its elements in turn, all of them observable
+-- the sequence is one segment for each of the pattern's elements in turn, and all its labels can be observed
 pub record Matches (p : Pattern) (s : List Label) : Type 0 where
   pub joined : IsJoin Segment p.elements s
   pub observable : All (IsObservable p.strong) s
 
--- some sequence that the pattern matches begins so
+-- some sequence that the pattern matches starts with `r`
 abbrev pub Viable : Pattern → List Label → Type 0
 Viable p r = (s : List Label) × Matches p (r ++ s)
 
--- the element demands that the end is a deadlock
+-- the element demands a deadlock at the end
 abbrev pub IsEnd : Element → Type 0
 IsEnd (one l) = ⊥
 IsEnd any = ⊥
@@ -63,7 +63,7 @@ IsEnd while_any = ⊥
 IsEnd deadlock = Unit {0}
 IsEnd until_deadlock = Unit {0}
 
--- the last of the elements demands that the end is a deadlock
+-- the last of the elements demands a deadlock at the end
 abbrev pub LastDemandsDeadlock : List Element → Type 0
 LastDemandsDeadlock [] = ⊥
 LastDemandsDeadlock (e ∷ []) = IsEnd e
@@ -73,7 +73,7 @@ LastDemandsDeadlock (e ∷ f ∷ p) = LastDemandsDeadlock (f ∷ p)
 abbrev pub DemandsDeadlock : Pattern → Type 0
 DemandsDeadlock p = LastDemandsDeadlock p.elements
 
--- an element that demands a deadlock stands last only
+-- no element but the last demands a deadlock
 abbrev pub OnlyLastDemandsDeadlock : List Element → Type 0
 OnlyLastDemandsDeadlock [] = Unit {0}
 OnlyLastDemandsDeadlock (e ∷ []) = Unit {0}

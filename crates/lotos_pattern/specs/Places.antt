@@ -6,11 +6,11 @@ use Rattle.lotos_pattern.specs.NfaStates.{CanFollow, Place}
 use Rattle.lotos_pattern.specs.declared.place.End.{End}
 use Rattle.lotos_pattern.specs.declared.place.End.TheVariants as end
 
--- the place is that of the sequence: what completes the sequence is what may follow at the place
+-- the place is that of the sequence `r`: what completes `r` is what may follow at the place
 unfoldable pub IsPlaceOf : Pattern → List Label → Place → Type 0
 IsPlaceOf p r place = (s : List Label) → Matches p (r ++ s) ↔ CanFollow p place s
 
--- whether a sequence is one that the pattern matches, and whether its end must then be a deadlock
+-- whether the pattern matches a sequence, and whether the sequence must then end in a deadlock
 abbrev pub Accepts : Pattern → List Label → End → Type 0
 Accepts p r end.No = Matches p r → ⊥
 Accepts p r end.Yes = Matches p r × (DemandsDeadlock p → ⊥)

@@ -6,6 +6,7 @@ use Rattle.std.specs.List.{AllByRecursion}
 use Rattle.lotos_pattern.specs.PatternLabels.{Label, internal, termination}
 use Rattle.lotos_pattern.specs.Patterns.{Element, OnlyLastDemandsDeadlock, IsJoin, IsObservable, Pattern, any, deadlock, one, until, until_deadlock, while, while_any}
 
+-- a word as its bytes
 abbrev pub Text : Type 0
 Text = List ℕ
 
@@ -22,17 +23,18 @@ abbrev pub IsWord : Text → Type 0
 IsWord [] = ⊥
 IsWord (b ∷ bs) = IsTrue (is_ascii_alphabetic b) × AllByRecursion (λ c. IsTrue (is_word_byte c)) bs
 
--- the word is this one, in upper or lower case
+-- the word is this text, in any mix of cases
 abbrev pub EqualsIgnoringCase : Text → Text → Type 0
 EqualsIgnoringCase word text = map to_ascii_lowercase word ≡ text
 
--- what a label word names: `exit` is termination, `i` is the internal action, and every other word a gate's name in upper case
+-- what a word names: `exit` termination, `i` the internal action, and every other word a gate, by its name in upper
+-- case
 pub data IsNamed (word : Text) : Label → Type 0 where
   exits : EqualsIgnoringCase word termination → IsNamed word termination
   inside : EqualsIgnoringCase word internal → IsNamed word internal
   gate : (EqualsIgnoringCase word termination → ⊥) → (EqualsIgnoringCase word internal → ⊥) → IsNamed word (map to_ascii_uppercase word)
 
--- the label that a word of the language names, which can be observed
+-- the word names the label, which can be observed
 pub record Names (strong : Bool) (word : Text) (l : Label) : Type 0 where
   pub spelled : IsWord word
   pub named : IsNamed word l
@@ -52,8 +54,8 @@ Spelling strong deadlock words = (word : Text) × (words ≡ word ∷ []) × Equ
 Spelling strong until_deadlock words =
     (first second : Text) × (words ≡ first ∷ second ∷ []) × EqualsIgnoringCase first (codes "<until>") × EqualsIgnoringCase second (codes "<deadlock>")
 
--- The words spell the pattern: a join of at most 256 elements, of which the last alone may demand a deadlock. Where internal
--- steps are shown the internal action is a label like others.
+-- the words spell the pattern: at most 256 elements, of which only the last may demand a deadlock; if internal steps
+-- are observed, the internal action is a label like others
 pub record PatternOf (strong : Bool) (words : List Text) (p : Pattern) : Type 0 where
   pub shows : p.strong ≡ strong
   pub spelled : IsJoin (Spelling strong) p.elements words

@@ -1,4 +1,4 @@
--- What a word of a pattern means by itself, and what the reading of one element answers.
+-- What a word of a pattern means on its own, and what the parser of one element returns.
 use Rattle.std.specs.Prelude.{◌≡◌, ◌≢◌, ℕ, ◌+◌, ◌<◌, ◌≤◌, Bool, false, List, ◌++◌, codes, length, take}
 use Rattle.std.specs.String.{string_bytes}
 use Rattle.lotos_pattern.specs.Patterns.{Element, LastDemandsDeadlock}
@@ -9,7 +9,7 @@ use Rattle.lotos_pattern.specs.declared.fault.PatternFault.TheVariants.{E41, E42
 use Rattle.lotos_pattern.specs.declared.pattern_parser.WordKind.{WordKind}
 use Rattle.lotos_pattern.specs.declared.pattern_parser.WordKind.TheVariants as meaning
 
--- what the word means by itself
+-- what the word means on its own
 abbrev pub IsKindOfWord : (strong : Bool) → Text → WordKind → Type 0
 IsKindOfWord strong word (meaning.Label text) = Names strong word (string_bytes text)
 IsKindOfWord strong word meaning.Internal = IsInternal word × (strong ≡ false)
@@ -19,12 +19,12 @@ IsKindOfWord strong word meaning.While = IsWhile word
 IsKindOfWord strong word meaning.Deadlock = EqualsIgnoringCase word (codes "<deadlock>")
 IsKindOfWord strong word meaning.Unknown = BeginsNoElement strong word
 
--- another element may follow these, of which there are at most 256
+-- another element may follow these
 pub record CanBeFollowed (p : List Element) : Type 0 where
   pub goes_on : LastDemandsDeadlock p → ⊥
   pub room : length p ≢ 256
 
--- why none may follow them, at the word with this number
+-- why no element may follow these, at the word with this number
 abbrev pub IsEndFault : List Element → ℕ → PatternFault → Type 0
 IsEndFault p n (E41 m) = ⊥
 IsEndFault p n (E42 m) = ⊥
@@ -34,7 +34,7 @@ IsEndFault p n (E45 m) = ⊥
 IsEndFault p n (E48 m) = ⊥
 IsEndFault p n (E99 e) = ⊥
 
--- the words from this place up to where the next element begins spell the element
+-- the words from index `place` up to index `behind` spell the element
 pub record ParsesAt (strong : Bool) (words : List Text) (place : ℕ) (e : Element) (behind : ℕ) : Type 0 where
   pub own : List Text
   pub spelling : Spelling strong e own
@@ -42,6 +42,6 @@ pub record ParsesAt (strong : Bool) (words : List Text) (place : ℕ) (e : Eleme
   pub further : place < behind
   pub within : behind ≤ length words
 
--- where an element begins at this place, the fault has its cause and the words spell no pattern
+-- if an element begins at this index, the fault has its cause and the words spell no pattern
 abbrev pub IsFaultAt : (strong : Bool) → List Text → ℕ → PatternFault → Type 0
 IsFaultAt strong words place fault = BeginsElement strong words (place + 1) → IsCause strong words fault × SpellsNone strong words fault

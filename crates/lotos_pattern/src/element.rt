@@ -1,10 +1,10 @@
-//! Elements of a pattern, and what a label does at them.
+//! Elements of a pattern, and their transitions on labels.
 ghost use Rattle.std.specs.Prelude.{◌↔◌, ◌≤◌, ℕ, MatchBool, [], drop};
 ghost use Rattle.lotos_pattern.specs.Patterns.{LastDemandsDeadlock, IsEnd, IsJoin, Segment};
 ghost use Rattle.lotos_pattern.specs.ElementView.{element_of, elements_of};
 ghost use Rattle.lotos_pattern.specs.Transitions.{Takes};
 
-/// An element of a pattern, with its label as it is printed.
+/// An element of a pattern. Labels are given by their printed texts.
 #[derive(Debug, Drop)]
 pub(crate) enum Element {
     /// That one label.
@@ -17,24 +17,24 @@ pub(crate) enum Element {
     While(String),
     /// Any number of labels.
     WhileAny,
-    /// Nothing, where the end must be a deadlock.
+    /// No label; the end must be a deadlock.
     Deadlock,
-    /// Any number of labels, where the end must be a deadlock.
+    /// Any number of labels; the end must be a deadlock.
     UntilDeadlock,
 }
 
-/// What a label does where an element's segment begins.
+/// What a label does at the start of an element's segment.
 pub(crate) enum Transition {
-    /// It is the whole segment.
+    /// It is the complete segment.
     Advance,
-    /// It belongs to the segment, and what is left may again be any segment of the element.
+    /// It belongs to the segment, and what follows may again be any segment of the element.
     Stay,
-    /// No segment begins so.
+    /// No segment starts with it.
     Reject,
 }
 
 impl Element {
-    /// What the label, given by its printed text, does where this element's segment begins.
+    /// What the label, given by its printed text, does at the start of this element's segment.
     pub(crate) fn transition_on(&self, label: &str) -> Transition
         ensures { Takes (element_of self.now) label.now result }
     {
@@ -67,7 +67,7 @@ impl Element {
         }
     }
 
-    /// Whether the element may take no label at all.
+    /// Whether the empty sequence is a segment of the element.
     pub(crate) fn may_be_empty(&self) -> bool
         ensures { MatchBool result (Segment (element_of self.now) []) (Segment (element_of self.now) [] → ⊥) }
     {
@@ -82,7 +82,7 @@ impl Element {
         }
     }
 
-    /// Whether the element demands that the end is a deadlock.
+    /// Whether the element demands a deadlock at the end.
     pub(crate) fn is_end(&self) -> bool
         ensures { MatchBool result (IsEnd (element_of self.now)) (IsEnd (element_of self.now) → ⊥) }
     {
@@ -90,7 +90,7 @@ impl Element {
     }
 }
 
-/// Whether the last of the elements demands that the end is a deadlock.
+/// Whether the last of the elements demands a deadlock at the end.
 pub(crate) fn demands_deadlock(elements: &[Element]) -> bool
     ensures { MatchBool result (LastDemandsDeadlock (elements_of elements.now)) (LastDemandsDeadlock (elements_of elements.now) → ⊥) }
 {
@@ -100,7 +100,7 @@ pub(crate) fn demands_deadlock(elements: &[Element]) -> bool
     }
 }
 
-/// How many of the elements are done at least where a sequence ends: those behind may all be empty.
+/// The least number of elements that are done where a sequence may end: all after them may have an empty segment.
 pub(crate) fn min_accepting_state(elements: &[Element]) -> usize
     ensures { (k : ℕ) → IsJoin Segment (drop k (elements_of elements.now)) [] ↔ (result ≤ k) }
 {

@@ -3,28 +3,28 @@
 use std::alloc::{AllocError, AllocFailed};
 use thiserror::Error;
 
-/// Why the words of a pattern spell none. A number counts the words from 1.
+/// Why words spell no pattern. The number in a fault is that of a word, counted from 1.
 #[derive(Clone, Copy, Debug, PartialEq, Eq, Error)]
 pub enum PatternFault {
     /// The word is neither a label nor an element.
     #[error("E41 word {0} is neither a label nor an element")]
     E41(usize),
-    /// Behind this word, `<until>`, stands neither a label nor `<deadlock>`, or nothing.
+    /// This word, `<until>`, is not followed by a label or `<deadlock>`.
     #[error("E42 word {0} needs a label or <deadlock> after it")]
     E42(usize),
     /// The word follows an element that demands a deadlock.
     #[error("E43 word {0} follows an end element")]
     E43(usize),
-    /// The pattern is over 256 elements; this word begins the first past them.
+    /// The pattern has more than 256 elements; this word begins the 257th.
     #[error("E44 pattern is over 256 elements")]
     E44(usize),
-    /// The word is `i`, which cannot be observed where internal steps are not shown.
+    /// The word is `i`, which is not observed unless internal steps are.
     #[error("E45 word {0} is i, which cannot be observed")]
     E45(usize),
-    /// Behind this word, `<while>`, stands neither a label nor `<any>`, or nothing.
+    /// This word, `<while>`, is not followed by a label or `<any>`.
     #[error("E48 word {0} needs a label or <any> after it")]
     E48(usize),
-    /// A growth of the heap was refused.
+    /// Out of memory.
     #[error("E99 out of memory")]
     E99(AllocError),
 }

@@ -1,4 +1,4 @@
-//! Laws over the definitions. Each is the contract of a function that does nothing.
+//! Laws of the definitions, each as the contract of an empty function.
 ghost use Rattle.std.specs.Prelude.{◌≡◌, Bool, List};
 ghost use Rattle.lotos_pattern.specs.Patterns.{Pattern};
 ghost use Rattle.lotos_pattern.specs.Spelling.{PatternOf, Text};

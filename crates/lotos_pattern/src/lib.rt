@@ -1,8 +1,8 @@
-//! Patterns: what a tester asks of a sequence of labels.
+//! Patterns of sequences of labels.
 //!
-//! A [`Pattern`] is read from words. Its [`Place`]s tell, label by label, whether a sequence that it matches can still be
-//! reached, and its [`End`]s whether one is. The definitions that the contracts cite stand in `specs/`, and the laws over them
-//! in [`laws`].
+//! A [`Pattern`] is read from words. Its [`Place`]s tell, label by label, whether a sequence can still be extended to
+//! one that the pattern matches, and its [`End`]s whether it is one itself. The definitions that the contracts cite are
+//! in `specs/`, the laws over them in [`laws`].
 #![tactic(auto)]
 
 mod element;

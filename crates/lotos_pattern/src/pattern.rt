@@ -1,4 +1,4 @@
-//! Patterns, and how a sequence stands to one.
+//! Patterns, and the places of sequences in them.
 ghost use Rattle.std.specs.Prelude.{◌≡◌, ◌∷◌, ◌++◌, ◌<◌, [], List, IfErr, IfOk, MatchBool, MatchOption};
 ghost use Rattle.lotos_pattern.specs.PatternLabels.{Label};
 ghost use Rattle.lotos_pattern.specs.Patterns.{IsObservable, Viable};
@@ -15,11 +15,11 @@ use crate::place::{End, Place};
 use std::alloc::Global;
 use std::marker::Model;
 
-/// What a sequence of labels has to be: one segment for each element in turn.
+/// A pattern matches the sequences of labels that are made of one segment for each of its elements in turn.
 #[derive(Debug, Drop)]
 pub struct Pattern {
     elements: Vec<Element>,
-    /// Whether internal steps are shown.
+    /// Whether internal steps are observed.
     strong: bool,
 }
 
@@ -35,11 +35,12 @@ impl Model for Pattern {
 }
 
 impl Pattern {
-    /// The pattern that the words spell, read without regard to case (this project's profile). Where internal steps are shown,
-    /// as `strong` says, the internal action is a label like others.
+    /// The pattern that the words spell, in any mix of cases (this project's profile). If internal steps are observed
+    /// (`strong`), the internal action is a label like others.
     ///
-    /// Words are read from the left, and the first fault is answered. Where an element begins, a word behind one that demands a
-    /// deadlock is refused first, then a 257th element, then the word itself.
+    /// Words are read from the left, and the first fault is returned. Where an element begins, the faults are tried in
+    /// this order: E43, if the pattern so far demands a deadlock; E44, if this is the 257th element; those of the word
+    /// itself.
     pub fn read(alloc: Global, words: &[&str], strong: bool) -> Result<Pattern, PatternFault>
         ensures pattern { IfOk result (PatternOf strong (texts_of words.now)) }
         ensures cause { IfErr result (IsCause strong (texts_of words.now)) }
@@ -49,26 +50,27 @@ impl Pattern {
         Ok(Pattern { elements, strong })
     }
 
-    /// Whether internal steps are shown.
+    /// Whether internal steps are observed.
     pub fn strong(&self) -> bool
         ensures { result ≡ self.now.strong }
     {
         self.strong
     }
 
-    /// The place before any label.
+    /// The place of the empty sequence.
     pub fn begin(&self) -> Place
         ensures begins { IsPlaceOf self.now [] result }
         ensures viable { Viable self.now [] }
     {
-        // That the elements make a pattern is known where one of the fields is read.
+        // Reading a field brings in the invariant of patterns.
         let _ = &self.elements;
         let mut place = Place::empty();
         place.add(0);
         place
     }
 
-    /// The place behind one more label, given by its printed text; none where no sequence that the pattern matches goes on so.
+    /// The place after one more label, given by its printed text; `None` if no sequence that the pattern matches goes
+    /// on like this.
     pub fn step(&self, place: Place, label: &str) -> Option<Place>
         ensures { (r : List Label) → IsPlaceOf self.now r place →
             MatchOption result (Viable self.now (r ++ label.now ∷ []) → ⊥)
@@ -81,7 +83,7 @@ impl Pattern {
         if next.is_empty() { None } else { Some(next) }
     }
 
-    /// Whether the sequence whose place this is may end there.
+    /// Whether the sequence that has this place may end there.
     pub fn accepts(&self, place: Place) -> End
         ensures { (r : List Label) → IsPlaceOf self.now r place → Accepts self.now r result }
     {
@@ -94,7 +96,7 @@ impl Pattern {
         }
     }
 
-    /// Where the label leads from the positions of the place, whether or not it can be observed.
+    /// The place after one more label, whether or not the label is observed.
     fn successor_place(&self, place: &Place, label: &str) -> Place
         ensures { IsSuccessorPlace self.now.elements place.now label.now result }
     {
@@ -110,7 +112,7 @@ impl Pattern {
         next
     }
 
-    /// Whether no label need follow at one of the positions of the place.
+    /// Whether the place has an accepting state.
     fn is_accepting(&self, place: &Place) -> bool
         ensures { MatchBool result (CanContinue self.now.elements place.now []) (CanContinue self.now.elements place.now [] → ⊥) }
     {
@@ -118,15 +120,15 @@ impl Pattern {
     }
 }
 
-/// Whether the label cannot be observed, where internal steps are shown or not.
+/// Whether the label is not observed.
 fn is_hidden(strong: bool, label: &str) -> bool
     ensures { MatchBool result (IsObservable strong label.now → ⊥) (IsObservable strong label.now) }
 {
     !strong & (label == "i")
 }
 
-/// Where the element at the position is reached, the next position that is: the one behind it where it may be empty, else the
-/// next of the place, and the end where there is none.
+/// The next state to visit after `state`, which is reached: the one after it if the element may be empty, otherwise the
+/// next state of the place, or `end` if there is none.
 fn skip_empty_elements(element: &Element, place: &Place, state: usize, end: usize) -> usize
     requires { state < end }
     ensures { IsNextState (element_of element.now) place.now state end result }
@@ -138,7 +140,7 @@ fn skip_empty_elements(element: &Element, place: &Place, state: usize, end: usiz
     }
 }
 
-/// Marks where a label leads that does this at the element behind so many others.
+/// Adds the state that a transition leads to from `state`, if it leads to one.
 fn apply_transition(place: &mut Place, transition: Transition, state: usize)
     requires { state < 256 }
     ensures { HasTransition transition state place.old place.new }

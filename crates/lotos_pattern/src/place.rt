@@ -1,17 +1,18 @@
-//! Places in a pattern, and whether a sequence may end there.
+//! Places in a pattern, as sets of NFA states.
 
 use std::marker::Model;
 
-/// How many words a place has: room for its positions, where no element is done, or up to 256 are.
+/// The number of words of a place: enough for the 257 states from 0 to 256 elements done.
 const WORDS: usize = 5;
 
-/// How many positions a word tells of.
+/// The number of states in a word.
 const BITS: usize = 64;
 
-/// Where in a pattern the labels of a sequence have led. It is asked of the pattern that gave it.
+/// What of a pattern a sequence has matched so far: a set of NFA states. A place is only valid for the pattern that
+/// gave it.
 #[derive(Clone, Copy, Debug, PartialEq, Eq, Hash)]
 pub struct Place {
-    /// For each number of elements a bit, the lowest of the first word for none, whether it is where so many are done.
+    /// For each state a bit, from the lowest of the first word on. State `k` means that `k` elements are done.
     words: [u64; WORDS],
 }
 
@@ -29,14 +30,14 @@ impl Place {
     ghost use Rattle.std.specs.Prelude.{◌≡◌, ◌⊎◌, ◌↔◌, ◌<◌, ◌≤◌, ◌/◌, ℕ, MatchBool, MatchOption};
     ghost use Rattle.lotos_pattern.specs.NfaStates.{HasState, IsFirstState};
 
-    /// No position.
+    /// The empty set.
     pub(crate) fn empty() -> Place
         ensures { (k : ℕ) → HasState result k → ⊥ }
     {
         Place { words: [0; WORDS] }
     }
 
-    /// One position more: where so many elements are done.
+    /// Adds a state.
     pub(crate) fn add(&mut self, state: usize)
         requires { state < 257 }
         ensures { (k : ℕ) → HasState self.new k ↔ (HasState self.old k ⊎ (k ≡ state)) }
@@ -44,7 +45,7 @@ impl Place {
         self.words[state / BITS] |= 1 << (state % BITS);
     }
 
-    /// The first of its positions from this one on, if there is one.
+    /// The first state from this one on, if there is one.
     pub(crate) fn first_state_from(&self, state: usize) -> Option<usize>
         ensures { MatchOption result ((k : ℕ) → state ≤ k → HasState self.now k → ⊥) (IsFirstState self.now state) }
     {
@@ -66,7 +67,7 @@ impl Place {
         None
     }
 
-    /// The first of its positions from this one on, if there is one in the same word.
+    /// The first state from this one on in the same word, if there is one.
     fn first_state_in_word(&self, state: usize) -> Option<usize>
         requires { state / 64 < 5 }
         ensures { MatchOption result ((k : ℕ) → state ≤ k → k / 64 ≡ state / 64 → HasState self.now k → ⊥)
@@ -79,7 +80,7 @@ impl Place {
         Some(state + rest.trailing_zeros() as usize)
     }
 
-    /// Whether it is where so many elements are done, or more.
+    /// Whether there is a state from this one on.
     pub(crate) fn has_state(&self, state: usize) -> bool
         ensures { MatchBool result ((k : ℕ) × (state ≤ k) × HasState self.now k)
             ((k : ℕ) → state ≤ k → HasState self.now k → ⊥) }
@@ -87,7 +88,7 @@ impl Place {
         self.first_state_from(state).is_some()
     }
 
-    /// Whether it is nowhere.
+    /// Whether the set is empty.
     pub(crate) fn is_empty(&self) -> bool
         ensures { MatchBool result ((k : ℕ) → HasState self.now k → ⊥) ((k : ℕ) × HasState self.now k) }
     {
@@ -95,13 +96,13 @@ impl Place {
     }
 }
 
-/// Whether a sequence is one that the pattern matches.
+/// Whether the pattern matches a sequence.
 #[derive(Clone, Copy, Debug, PartialEq, Eq)]
 pub enum End {
-    /// It is none.
+    /// It does not.
     No,
-    /// It is one.
+    /// It does.
     Yes,
-    /// It is one where its end is a deadlock: a term without any step.
+    /// It does if the sequence ends in a deadlock: a term without any step.
     IfDead,
 }

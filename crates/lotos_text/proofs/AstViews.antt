@@ -1,4 +1,4 @@
--- How the program's definitions are seen.
+-- The views of the program's definitions.
 use Rattle.std.proofs.Common.{◌≡◌, List, [], ◌∷◌, ◌++◌, map, ◌∙◌, sym, ap, append_assoc}
 use Rattle.std.proofs.lemmas.List.{append-nil, map-append}
 use Rattle.lotos_text.specs.AstView.{DefinitionView, def}

@@ -1,4 +1,4 @@
--- Calls: what is found and lost behind the name of a process.
+-- Calls: what is parsed after the name of a process, and how that fails.
 use Rattle.std.proofs.Common.{◌≡◌, ℕ, ◌<◌, false, List, [], ◌∷◌, ◌++◌, Some, None, inl, inr, refl, sym, ap, subst}
 use Rattle.std.proofs.lemmas.List.{append-nil}
 use Rattle.lotos_text.specs.AstView as t

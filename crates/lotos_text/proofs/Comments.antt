@@ -1,4 +1,4 @@
--- Comments: where they open, where they close, and that one text opens with one comment at most.
+-- Comments: where they open, where they close, and that a text starts with at most one.
 use Rattle.std.proofs.Common.{◌≡◌, ℕ, ◌+◌, ◌-◌, ◌<◌, ◌≤◌, true, false, List, [], ◌∷◌, ◌++◌, length, take, drop, nat_eq, zero, suc, inl, inr, refl, sym, ap, ◌∙◌, subst, arith, length-append, length-drop, append_assoc}
 use Rattle.std.proofs.lemmas.Bool.{both_ways, cases_order}
 use Rattle.std.proofs.lemmas.Bool.Decides.{Decides-eqb}

@@ -1,4 +1,4 @@
--- Rows of definitions, and inner definitions: what is found and lost of them.
+-- Lists of definitions, and inner definitions: how they parse and fail.
 use Rattle.std.proofs.Common.{◌≡◌, ℕ, ◌+◌, ◌≤◌, List, [], ◌∷◌, ◌++◌, Some, None, refl, sym, ◌∙◌, ap, append_assoc, arith, subst, cond, true, max}
 use Rattle.lotos_text.specs.Grammar.{IsOfKind, a_process, SpellsDefinition, definition, SpellsDefinitions, last, another}
 use Rattle.lotos_text.specs.ConstructOpenings.{opens_construct, count_openings}

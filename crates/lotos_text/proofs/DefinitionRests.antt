@@ -1,4 +1,4 @@
--- What stands behind the first word of a definition: what is found and lost of it.
+-- A definition after its first keyword: how it parses and fails.
 use Rattle.std.proofs.Common.{◌≡◌, ℕ, List, [], ◌∷◌, ◌++◌, Some, None, refl, sym, ◌∙◌, ap, append_assoc, arith}
 use Rattle.lotos_text.specs.Grammar.{IsOfKind, enabling, DefinitionKind, defining_sign, closing_word}
 use Rattle.lotos_text.specs.ParserContracts.{Phrase, NestingLimit, Parses, Fails}

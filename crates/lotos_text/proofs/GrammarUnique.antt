@@ -1,4 +1,4 @@
--- The spellings of one level that begin one list, where nothing goes on behind them, are one.
+-- Of one level, tokens start with at most one spelling that nothing continues.
 use Rattle.std.proofs.Common.{◌≡◌, ℕ, ◌+◌, ◌<◌, max, Bool, true, false, List, [], ◌∷◌, ◌++◌, ◌⊎◌, inl, inr, refl, sym, ◌∙◌, ap, append_assoc, arith}
 use Rattle.lotos_text.specs.AstView as t
 use Rattle.lotos_text.specs.AstView.{BehaviourView}

@@ -1,4 +1,4 @@
--- The header of a definition: what is found and lost of it.
+-- The header of a definition: how it parses and fails.
 use Rattle.std.proofs.Common.{ℕ, List, refl}
 use Rattle.lotos_text.specs.ParserContracts.{Phrase, Parses, Fails}
 use Rattle.lotos_text.specs.Phrases.{Sequence, OneName, OptionalGates, FunctionalityPhrase, HeaderValue, HeaderPhrase}

@@ -1,4 +1,4 @@
--- Where a text is cut up to.
+-- The offset up to which a text is lexed.
 use Rattle.std.proofs.Common.{◌≡◌, ℕ, ◌+◌, ◌≤◌, List, length, arith, length-append}
 use Rattle.lotos_text.specs.Lexing.{LexesTo, nothing, blank, comment, word, mark, FailsAtByte, FailsAtComment, sign_text}
 use Rattle.lotos_text.specs.declared.token.Token.{Token}

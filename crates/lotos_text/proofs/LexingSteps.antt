@@ -1,4 +1,4 @@
--- The cut of a text so far, and the piece that takes it on.
+-- The lexing of a text so far, and the lexeme that extends it.
 use Rattle.std.proofs.Common.{◌≡◌, ℕ, ◌+◌, ◌<◌, ◌≤◌, List, [], ◌∷◌, ◌++◌, length, drop, sym, ap, ◌∙◌, subst, arith, length-append, length-drop}
 use Rattle.std.proofs.lemmas.List.{drop-drop, append-nil}
 use Rattle.std.proofs.Math.ListN.{drop_of_length-le}

@@ -1,4 +1,4 @@
--- Limits of nesting, inside a construct and outside, and the tokens that open constructs.
+-- Limits on nesting, inside a construct and outside, and the tokens that open constructs.
 use Rattle.std.proofs.Common.{◌≡◌, ℕ, ◌+◌, ◌-◌, ◌≤◌, true, cond, List, [], ◌∷◌, ◌++◌, Some, None, ap, ◌∙◌, arith}
 use Rattle.std.proofs.lemmas.Bool.{cond-true}
 use Rattle.std.proofs.lemmas.List.Sums.{sum_by-append, sum_by-cons}

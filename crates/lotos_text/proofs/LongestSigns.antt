@@ -1,4 +1,4 @@
--- Marks: the longest one at the front of a text.
+-- Signs: the longest one at the start of a text.
 use Rattle.std.proofs.Common.{◌≡◌, ℕ, ◌≤◌, Bool, true, false, ◌&&◌, List, [], ◌∷◌, ◌++◌, length, take, drop, Some, None, nat_eq, nat_le, find, slice_index, inl, inr, refl, sym, ap, ◌∙◌, subst, arith}
 use Rattle.std.proofs.lemmas.Bool.{cases_Bool, cond-true, cond-false, and_parts, leb-true, both_ways}
 use Rattle.std.proofs.lemmas.Bool.Decides.{Decides-eqb}

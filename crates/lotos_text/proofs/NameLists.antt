@@ -1,4 +1,4 @@
--- Lists of names: what the loop over names finds and loses, and that a list of names is the only one.
+-- Lists of names: how the loop over names parses and fails, and that tokens start with at most one list.
 use Rattle.std.proofs.Common.{◌≡◌, ℕ, List, [], ◌∷◌, ◌++◌, refl, sym, ◌∙◌, ap, append_assoc, subst}
 use Rattle.lotos_text.specs.Grammar.{IsOfKind, located_name, Names, one_name, more_names, GateList, no_gates, gates}
 use Rattle.lotos_text.specs.ParserContracts.{Phrase, DoesNotStartWith, Parses, Fails}

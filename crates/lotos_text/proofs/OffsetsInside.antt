@@ -1,4 +1,4 @@
--- What a text spells lies inside it.
+-- The offsets in what a text spells are inside it.
 use Rattle.std.proofs.Common.{ℕ, ◌≤◌, Bool, List, [], ◌∷◌, ◌++◌, length, arith}
 use Rattle.std.specs.List.{AllByRecursion}
 use Rattle.lotos_text.specs.AstView.{BehaviourView, DefinitionView, DefinitionListView}

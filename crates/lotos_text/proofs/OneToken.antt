@@ -1,4 +1,4 @@
--- Phrases of one token, and of none: what is found and lost, and that each is the only one.
+-- Phrases of one token, and of none: how they parse and fail, and that each is unique.
 use Rattle.std.proofs.Common.{◌≡◌, ℕ, List, [], ◌∷◌, ◌++◌, refl, sym, ◌∙◌, ap, subst}
 use Rattle.lotos_text.specs.Grammar.{IsOfKind, located_name, IsFunctionality, exits, never_exits}
 use Rattle.lotos_text.specs.ParserContracts.{Phrase, DoesNotStartWith, Parses, Fails, StartsAlike}

@@ -1,4 +1,4 @@
--- What a token is, from what it begins.
+-- The kind of a token, from what it begins.
 use Rattle.std.proofs.Common.{◌≡◌, refl, subst}
 use Rattle.lotos_text.specs.Grammar.{IsOfKind}
 use Rattle.lotos_text.specs.OperandStarts.{operand_start}

@@ -1,4 +1,4 @@
--- The end of an operand, where nothing goes on with it, and operands of one word.
+-- The end of an operand, where nothing continues it, and operands of one keyword.
 use Rattle.std.proofs.Common.{◌≡◌, ℕ, ◌<◌, Bool, false, List, [], ◌∷◌, ◌++◌, Some, None, refl, sym, ◌∙◌, ap, arith, subst, Result, IfErr}
 use Rattle.std.specs.Result.{IsErrAnd}
 use Rattle.lotos_text.specs.AstView as t

@@ -1,4 +1,4 @@
--- Spellings of the tightest level, and hide forms, taken apart by their first token.
+-- Spellings of the tightest level, and hide forms, by their first token.
 use Rattle.std.proofs.Common.{◌≡◌, ℕ, ◌+◌, ◌<◌, Bool, true, false, List, [], ◌∷◌, ◌++◌, ◌⊎◌, inl, inr, refl, sym, ◌∙◌, ap, append_assoc, arith}
 use Rattle.lotos_text.specs.AstView as t
 use Rattle.lotos_text.specs.AstView.{BehaviourView}

@@ -1,4 +1,4 @@
--- Operations of a level: what is found and lost in a left operand, an operator and a right operand.
+-- Operations of a level: how a left operand, an operator and a right operand parse and fail.
 use Rattle.std.proofs.Common.{◌≡◌, ℕ, ◌+◌, ◌-◌, ◌<◌, ◌≤◌, max, Bool, true, false, List, [], ◌∷◌, ◌++◌, Some, None, refl, sym, ◌∙◌, ap, append_assoc, arith, subst}
 use Rattle.lotos_text.specs.AstView.{BehaviourView}
 use Rattle.lotos_text.specs.Grammar.{Level, enabling, disabling, parallel, choosing, prefixing, BindsTighter, tighter_than_enabling, tighter_than_disabling, tighter_than_parallel, tighter_than_choosing, Operator, apply, IsOperator, enable_sign, disable_sign, interleave_sign, full_sign, sync_on_none, sync_on, choice_sign, Spells, tighter, operation}

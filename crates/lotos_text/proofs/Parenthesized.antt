@@ -1,4 +1,4 @@
--- Behaviour expressions in parentheses: what is found and lost behind a left parenthesis.
+-- Behaviour expressions in parentheses: how they parse and fail after the left parenthesis.
 use Rattle.std.proofs.Common.{◌≡◌, ℕ, ◌+◌, ◌-◌, ◌<◌, false, List, [], ◌∷◌, ◌++◌, Some, None, refl, sym, ◌∙◌, arith, subst}
 use Rattle.std.proofs.lemmas.List.{append-nil}
 use Rattle.lotos_text.specs.AstView.{BehaviourView}

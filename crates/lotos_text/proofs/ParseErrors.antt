@@ -1,4 +1,4 @@
--- What is lost where a part of a part stopped.
+-- How a phrase fails when a part of it fails.
 use Rattle.std.proofs.Common.{◌≡◌, ℕ, ◌+◌, ◌≤◌, List, [], ◌∷◌, ◌++◌, sym, ◌∙◌, ap, append_assoc, arith, subst, Some, None, cond, Result, Ok, Err, IfOk, IfErr}
 use Rattle.std.proofs.lemmas.Result.{err_from_is_err_and}
 use Rattle.std.proofs.lemmas.List.Sums.{sum_by-append}

@@ -1,4 +1,4 @@
--- What the parser's answers say of the whole text.
+-- What the parser's result says of the whole text.
 use Rattle.std.proofs.Common.{◌≡◌, ℕ, ◌≤◌, Bool, true, false, if◌then◌else◌, List, [], ◌∷◌, ◌++◌, length, Some, None, refl, sym, ◌∙◌, ap, append_assoc, subst, arith}
 use Rattle.std.proofs.lemmas.List.{append-nil, append_cancel_right}
 use Rattle.lotos_text.specs.Lexing.{Lexes, at_byte, at_comment}

@@ -1,4 +1,4 @@
--- Phrases with a limit of nesting: each is the only one, whatever the limits, and so are two in a row.
+-- Phrases with a limit on nesting are unique, whatever the limits, and so are two in sequence.
 use Rattle.std.proofs.Common.{◌≡◌, ℕ, List, ◌++◌, sym, ◌∙◌, ap, append_assoc, arith, subst}
 use Rattle.lotos_text.specs.Grammar.{Level}
 use Rattle.lotos_text.specs.ParserContracts.{Phrase, NestingLimit, Parses, StartsAlike, Fails}

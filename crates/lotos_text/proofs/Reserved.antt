@@ -1,4 +1,4 @@
--- Reserved words: the kind of a word, looked up row by row.
+-- Keywords: the kind of a word, looked up entry by entry.
 use Rattle.std.proofs.Common.{◌≡◌, ℕ, ◌+◌, ◌<◌, Bool, true, false, cond, List, [], ◌∷◌, length, drop, map, get_or, Bor, suc, sym, ◌∙◌, subst, add-one}
 use Rattle.std.proofs.lemmas.Bool.{and_parts, cond-false, false_from_ne_true}
 use Rattle.std.proofs.lemmas.Slice.Eq.{bytes_eq-Decides}

@@ -1,4 +1,4 @@
--- What two parts in a row find and lose, from what each of them does.
+-- How two phrases in sequence parse and fail, from how each of them does.
 use Rattle.std.proofs.Common.{◌≡◌, List, [], ◌∷◌, ◌++◌, refl, sym, ◌∙◌, ap, append_assoc, subst}
 use Rattle.lotos_text.specs.Grammar.{IsOfKind}
 use Rattle.lotos_text.specs.ParserContracts.{Phrase, Parses, StartsAlike, Fails}

@@ -1,4 +1,4 @@
--- Operators, and the gates behind `|[`: what is found and lost.
+-- Operators, and the gates after `|[`: how they parse and fail.
 use Rattle.std.proofs.Common.{◌≡◌, ℕ, List, [], ◌∷◌, ◌++◌, Option, Some, None, refl, sym, ◌∙◌, ap, append_assoc, subst}
 use Rattle.lotos_text.specs.AstView as t
 use Rattle.lotos_text.specs.Grammar.{IsOfKind, Names, one_name, more_names, Level, parallel, Operator, synchronizes, IsOperator, interleave_sign, full_sign, sync_on_none, sync_on}

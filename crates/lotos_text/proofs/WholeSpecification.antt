@@ -1,4 +1,4 @@
--- The whole specification: what is found and lost of it, and that it is what its tokens spell.
+-- The complete specification: how it parses and fails, and that it is what its tokens spell.
 use Rattle.std.proofs.Common.{◌≡◌, ℕ, List, [], ◌∷◌, ◌++◌, Some, None, refl, sym, ◌∙◌, ap, arith, subst}
 use Rattle.std.proofs.lemmas.List.{append-nil}
 use Rattle.lotos_text.specs.Grammar.{IsOfKind, a_specification, SpellsSpecification}

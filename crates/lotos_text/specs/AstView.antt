@@ -1,4 +1,4 @@
--- The trees of specifications, without where they lie in memory.
+-- ASTs as plain values: without boxes and allocators.
 use Rattle.std.specs.Prelude.{ℕ, List}
 use Rattle.lotos_text.specs.declared.ast.Placed.{Placed}
 use Rattle.lotos_text.specs.declared.ast.Action.{Action}
@@ -21,7 +21,8 @@ pub data BehaviourView : Type 0 where
   disable : BehaviourView → BehaviourView → BehaviourView
   call : Placed → List Placed → BehaviourView
 
--- a definition (its name, formal gates, declared functionality, body and the definitions of its `where`), and a row of them
+-- a definition (its name, formal gates, declared functionality, body and the definitions of its `where`), and a list of
+-- them
 mutual
   pub data DefinitionView : Type 0 where
     def : Placed → List Placed → Functionality → BehaviourView → DefinitionListView → DefinitionView
@@ -30,17 +31,22 @@ mutual
     no_defs : DefinitionListView
     more_defs : DefinitionView → DefinitionListView → DefinitionListView
 
+-- the name of a definition
 abbrev pub name_of : DefinitionView → Placed
 name_of (def name formals declared body inner) = name
 
+-- the formal gates of a definition
 abbrev pub formals_of : DefinitionView → List Placed
 formals_of (def name formals declared body inner) = formals
 
+-- the declared functionality of a definition
 abbrev pub declared_of : DefinitionView → Functionality
 declared_of (def name formals declared body inner) = declared
 
+-- the body of a definition
 abbrev pub body_of : DefinitionView → BehaviourView
 body_of (def name formals declared body inner) = body
 
+-- the definitions of a definition's `where`
 abbrev pub inner_of : DefinitionView → DefinitionListView
 inner_of (def name formals declared body inner) = inner

@@ -1,4 +1,4 @@
--- Kinds of tokens: those that open a construct, and the words of full LOTOS.
+-- The tokens that open a construct, and the keywords of full LOTOS.
 use Rattle.std.specs.Prelude.{ℕ, Bool, true, false, List, count_by}
 use Rattle.lotos_text.specs.declared.token.Token.{Token}
 use Rattle.lotos_text.specs.declared.token.TokenKind.{TokenKind}
@@ -8,13 +8,14 @@ use Rattle.lotos_text.specs.declared.token.Sign.TheVariants as s
 use Rattle.lotos_text.specs.declared.token.Word.{Word}
 use Rattle.lotos_text.specs.declared.token.Word.TheVariants as w
 
--- the words that open a construct: hiding, and the definition of a process
+-- the keywords that open a construct: `hide`, and `process`
 abbrev pub keyword_opens : Word → Bool
 keyword_opens w.HideWord = true
 keyword_opens w.ProcessWord = true
 keyword_opens _ = false
 
--- the marks that open a construct: a left parenthesis, the semicolon of a prefix, and the first token of each binary operator
+-- the signs that open a construct: a left parenthesis, the semicolon of a prefix, and the first token of each binary
+-- operator
 abbrev pub sign_opens : Sign → Bool
 sign_opens s.LeftParenthesis = true
 sign_opens s.Semicolon = true
@@ -36,7 +37,7 @@ opens_construct (of_sign sign) = sign_opens sign
 abbrev pub count_openings : List Token → ℕ
 count_openings = count_by (λ t. opens_construct t.kind)
 
--- a word of full LOTOS, which basic LOTOS does not use
+-- a keyword of full LOTOS that basic LOTOS does not use
 abbrev pub is_full_lotos_word : Word → Bool
 is_full_lotos_word w.AcceptWord = true
 is_full_lotos_word w.ChoiceWord = true
@@ -46,6 +47,7 @@ is_full_lotos_word w.LibraryWord = true
 is_full_lotos_word w.TypeWord = true
 is_full_lotos_word _ = false
 
+-- whether a token of the kind is such a keyword
 abbrev pub is_full_lotos : TokenKind → Bool
 is_full_lotos Identifier = false
 is_full_lotos (Reserved word) = is_full_lotos_word word

@@ -1,4 +1,4 @@
--- Which tokens go on with the behaviour expression before them.
+-- Which tokens continue the behaviour expression before them.
 use Rattle.std.specs.Prelude.{ℕ, Bool, true, false, List, [], ◌∷◌}
 use Rattle.lotos_text.specs.Grammar.{Level, enabling, disabling, parallel, choosing, prefixing}
 use Rattle.lotos_text.specs.declared.token.Token.{Token}
@@ -7,8 +7,8 @@ use Rattle.lotos_text.specs.declared.token.TokenKind.TheVariants.{Identifier, Re
 use Rattle.lotos_text.specs.declared.token.Sign.{Sign}
 use Rattle.lotos_text.specs.declared.token.Sign.TheVariants as s
 
--- how tight a mark binds that goes on with what stands before it: the operators by their levels, and tightest what makes a
--- name a call with gates or a prefix; 0 where the mark goes on with nothing
+-- how tightly a sign binds that continues what is before it: operators by their levels, and tightest what makes a name
+-- a call with gates or a prefix; 0 for signs that continue nothing
 abbrev pub sign_rank : Sign → ℕ
 sign_rank s.Enable = 1
 sign_rank s.Disable = 2
@@ -20,6 +20,7 @@ sign_rank s.LeftBracket = 5
 sign_rank s.Semicolon = 5
 sign_rank _ = 0
 
+-- the rank of a token of the kind
 abbrev pub kind_rank : TokenKind → ℕ
 kind_rank Identifier = 0
 kind_rank (Reserved _) = 0
@@ -38,7 +39,7 @@ level_rank parallel = 3
 level_rank choosing = 4
 level_rank prefixing = 5
 
--- A spelling is whole where what follows ranks below this. Nothing goes on behind an open one.
+-- a spelling is complete before tokens of a rank below this; an open one only before tokens that continue nothing
 abbrev pub bound : Level → Bool → ℕ
 bound level true = 1
 bound level false = level_rank level

@@ -1,4 +1,4 @@
--- What tokens spell: each rule joins the tokens of its parts.
+-- The grammar: which tokens spell what. Each rule joins the tokens of its parts.
 use Rattle.std.specs.Prelude.{◌≡◌, ℕ, ◌+◌, ◌≤◌, max, Bool, true, false, List, [], ◌∷◌, ◌++◌, map, slice_range}
 use Rattle.std.specs.Char.{to_ascii_uppercase}
 use Rattle.lotos_text.specs.AstView as t
@@ -14,11 +14,11 @@ use Rattle.lotos_text.specs.declared.ast.Action.TheVariants.{Internal, Gate}
 use Rattle.lotos_text.specs.declared.ast.Functionality.{Functionality}
 use Rattle.lotos_text.specs.declared.ast.Functionality.TheVariants as f
 
--- the token is of that kind
+-- the token is of this kind
 pub record IsOfKind (token : Token) (kind : TokenKind) : Type 0 where
   pub same : token.kind ≡ kind
 
--- the name of an identifier, with its offset
+-- the name that an identifier spells, with its offset
 abbrev pub located_name : List ℕ → Token → Placed
 located_name text n = record { name = map to_ascii_uppercase (slice_range text n.at n.end); at = n.at }
 
@@ -57,6 +57,7 @@ pub data Operator : Type 0 where
   synchronizes : SyncView → Operator
   chooses : Operator
 
+-- the behaviour that an operator makes of its operands
 abbrev pub apply : Operator → BehaviourView → BehaviourView → BehaviourView
 apply (enables at) x y = t.enable x at y
 apply disables x y = t.disable x y
@@ -81,9 +82,9 @@ pub data IsAction (text : List ℕ) : Token → Action → Type 0 where
   gate : {n : Token} → IsOfKind n Identifier → IsAction text n (Gate (located_name text n))
   internal : {n : Token} → IsOfKind n (Reserved w.IWord) → IsAction text n Internal
 
--- The tokens spell the behaviour at the level: whether the spelling is open, its nesting, its tokens, and the behaviour.
--- A hide form stands at every level and is open, as is what ends in one; a left operand is never open. A binary operator
--- groups to the right: its right operand is of its own level, its left one of the next tighter.
+-- the tokens spell the behaviour at the level; the flag says whether the spelling is open, the number is its nesting. A
+-- hide form is of every level and is open, as is what ends in one; a left operand is never open. A binary operator
+-- groups to the right: its right operand is of its own level, its left one of the next tighter
 pub data Spells (text : List ℕ) : Level → Bool → ℕ → List Token → BehaviourView → Type 0 where
   stop : {n : Token} → IsOfKind n (Reserved w.StopWord) → Spells text prefixing false 0 (n ∷ []) t.stop
   exit : {n : Token} → IsOfKind n (Reserved w.ExitWord) → Spells text prefixing false 0 (n ∷ []) t.exit
@@ -109,22 +110,22 @@ pub data IsFunctionality : Token → Functionality → Type 0 where
   exits : {n : Token} → IsOfKind n (Reserved w.ExitWord) → IsFunctionality n f.Exit
   never_exits : {n : Token} → IsOfKind n (Reserved w.NoexitWord) → IsFunctionality n f.NoExit
 
--- what a definition is of, which is all that its own words depend on
+-- whether a definition is the specification or a process, which decides its keywords
 pub data DefinitionKind : Type 0 where
   a_specification : DefinitionKind
   a_process : DefinitionKind
 
--- the word that it begins with
+-- the keyword that it begins with
 abbrev pub opening_word : DefinitionKind → TokenKind
 opening_word a_specification = Reserved w.SpecificationWord
 opening_word a_process = Reserved w.ProcessWord
 
--- what stands before its body
+-- what introduces its body
 abbrev pub defining_sign : DefinitionKind → TokenKind
 defining_sign a_specification = Reserved w.BehaviourWord
 defining_sign a_process = Sign s.Define
 
--- the word that it ends with
+-- the keyword that it ends with
 abbrev pub closing_word : DefinitionKind → TokenKind
 closing_word a_specification = Reserved w.EndspecWord
 closing_word a_process = Reserved w.EndprocWord
@@ -146,25 +147,25 @@ mutual
     definitions : {word : Token} {n : ℕ} {ts : List Token} {ds : DefinitionListView} →
         IsOfKind word (Reserved w.WhereWord) → SpellsDefinitions text n ts ds → SpellsWhere text n (word ∷ ts) ds
 
-  -- one or more definitions of processes, each one deeper than itself
+  -- one or more definitions of processes, each nested one deeper than by itself
   pub data SpellsDefinitions (text : List ℕ) : ℕ → List Token → DefinitionListView → Type 0 where
     last : {n : ℕ} {ts : List Token} {d : DefinitionView} → SpellsDefinition text a_process n ts d → SpellsDefinitions text (n + 1) ts (t.more_defs d t.no_defs)
     another : {n m : ℕ} {first others : List Token} {d : DefinitionView} {ds : DefinitionListView} →
         SpellsDefinition text a_process n first d → SpellsDefinitions text m others ds →
         SpellsDefinitions text (max (n + 1) m) (first ++ others) (t.more_defs d ds)
 
--- the tokens spell the specification, with that nesting
+-- the tokens spell the specification, with this nesting
 abbrev pub SpellsSpecification : List ℕ → ℕ → List Token → DefinitionView → Type 0
 SpellsSpecification text = SpellsDefinition text a_specification
 
--- some list that starts with these tokens spells a specification
+-- some list of tokens that starts with these spells a specification
 pub record IsSpecificationPrefix (text : List ℕ) (ts : List Token) : Type 0 where
   pub more : List Token
   pub nesting : ℕ
   pub whole : DefinitionView
   pub spells : SpellsSpecification text nesting (ts ++ more) whole
 
--- some list that starts with these tokens spells a specification whose nesting is at most that
+-- some list of tokens that starts with these spells a specification of at most this nesting
 pub record IsPrefixWithin (limit : ℕ) (text : List ℕ) (ts : List Token) : Type 0 where
   pub more : List Token
   pub nesting : ℕ

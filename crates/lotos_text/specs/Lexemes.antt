@@ -1,4 +1,4 @@
--- What stands at the front of a text.
+-- The lexeme at the start of a text.
 use Rattle.std.specs.Prelude.{◌≡◌, ℕ, IsTrue, Option, List, [], ◌∷◌, ◌++◌, length, nat_eq, find}
 use Rattle.std.specs.List.{starts_with}
 use Rattle.lotos_text.specs.Lexing.{is_blank, IsComment, IsUnclosedComment, IsWord, EndsWord, classify, sign_text, IsSignToken, NoLexemeAt}
@@ -8,17 +8,17 @@ use Rattle.lotos_text.specs.declared.token.TokenKind.TheVariants.{Sign as of_sig
 use Rattle.lotos_text.specs.declared.token.Sign.{Sign}
 use Rattle.lotos_text.specs.declared.token.Sign.TheVariants as s
 
--- all marks, a longer one before each shorter one
+-- all signs, longer ones before shorter ones
 abbrev pub signs_longest_first : List Sign
 signs_longest_first =
     s.Interleave ∷ s.Define ∷ s.Choice ∷ s.Disable ∷ s.Enable ∷ s.LeftSync ∷ s.Full ∷ s.Semicolon ∷ s.Colon ∷
     s.Comma ∷ s.LeftParenthesis ∷ s.RightParenthesis ∷ s.LeftBracket ∷ s.RightBracket ∷ s.Bar ∷ []
 
--- the longest mark at the front of the text
+-- the longest sign at the start of the text
 abbrev pub longest_sign : List ℕ → Option Sign
 longest_sign text = find (λ sign. starts_with nat_eq text (sign_text sign)) signs_longest_first
 
--- the piece stands at the front of the text
+-- the lexeme is what the text starts with
 pub data IsNextLexeme (text : List ℕ) : Lexeme → Type 0 where
   a_blank : (b : ℕ) (rest : List ℕ) → text ≡ b ∷ rest → IsTrue (is_blank b) → IsNextLexeme text Blank
   a_comment : (piece rest : List ℕ) → text ≡ piece ++ rest → IsComment piece → IsNextLexeme text (Comment (length piece))

@@ -1,4 +1,4 @@
--- The cut of a text into pieces, each judged where it stands: a blank, a comment, a word or a mark.
+-- Lexing: a text as blanks, comments, words and signs, each judged where it starts.
 use Rattle.std.specs.Prelude.{◌≡◌, ℕ, ◌+◌, ◌≤◌, Bool, false, ◌&&◌, ◌||◌, ◌==◌, nat_le, IsTrue, List, [], ◌∷◌, ◌++◌, length, map, codes, slice_range, if◌then◌else◌}
 use Rattle.std.specs.List.{AllByRecursion}
 use Rattle.std.specs.Char.{is_ascii_alphabetic, is_ascii_alphanumeric, to_ascii_lowercase}
@@ -10,7 +10,7 @@ use Rattle.lotos_text.specs.declared.token.Word.TheVariants as w
 use Rattle.lotos_text.specs.declared.token.Sign.{Sign}
 use Rattle.lotos_text.specs.declared.token.Sign.TheVariants as s
 
--- the bytes 9 to 13, and the blank
+-- the bytes 9 to 13, and the blank (32)
 abbrev pub is_blank : ℕ → Bool
 is_blank b = (nat_le 9 b && nat_le b 13) || (b == 32)
 
@@ -23,16 +23,16 @@ abbrev pub IsWord : List ℕ → Type 0
 IsWord [] = ⊥
 IsWord (b ∷ bs) = IsTrue (is_ascii_alphabetic b) × AllByRecursion (λ c. IsTrue (is_word_byte c)) bs
 
--- before this text a word is whole
+-- a word that is followed by this text ends there
 abbrev pub EndsWord : List ℕ → Type 0
 EndsWord [] = Unit {0}
 EndsWord (b ∷ bs) = is_word_byte b ≡ false
 
--- the word is this one, in upper or lower case
+-- the word is this one, in any mix of cases
 abbrev pub equals_ignoring_case : List ℕ → List ℕ → Bool
 equals_ignoring_case word found = bytes_eq word (map to_ascii_lowercase found)
 
--- the reserved words; every other word is an identifier
+-- the keywords; every other word is an identifier
 abbrev pub classify : List ℕ → TokenKind
 classify found =
     if equals_ignoring_case (codes "specification") found then Reserved w.SpecificationWord
@@ -56,7 +56,7 @@ classify found =
     else if equals_ignoring_case (codes "type") found then Reserved w.TypeWord
     else Identifier
 
--- how a mark is spelled
+-- the bytes of each sign
 abbrev pub sign_text : Sign → List ℕ
 sign_text s.Semicolon = codes ";"
 sign_text s.Colon = codes ":"
@@ -74,7 +74,7 @@ sign_text s.Full = codes "||"
 sign_text s.Interleave = codes "|||"
 sign_text s.Bar = codes "|"
 
--- the text begins with the front
+-- the text starts with `front`
 abbrev pub StartsWith : List ℕ → List ℕ → Type 0
 StartsWith front text = (rest : List ℕ) × (text ≡ front ++ rest)
 
@@ -82,34 +82,34 @@ StartsWith front text = (rest : List ℕ) × (text ≡ front ++ rest)
 abbrev pub comment_opening : List ℕ
 comment_opening = codes "(*"
 
--- the two bytes that close it
+-- the two bytes that close a comment
 abbrev pub comment_closing : List ℕ
 comment_closing = codes "*)"
 
--- an opening, any bytes, and a closing behind them
+-- an opening, any bytes, and a closing after them
 abbrev pub IsClosedComment : List ℕ → Type 0
 IsClosedComment piece = (body : List ℕ) × (piece ≡ comment_opening ++ body ++ comment_closing)
 
--- a comment: closed, and with no shorter beginning that is
+-- a comment: closed, and with no proper prefix that is
 pub record IsComment (piece : List ℕ) : Type 0 where
   pub closed : IsClosedComment piece
   pub first : (front rest : List ℕ) → piece ≡ front ++ rest → IsClosedComment front → rest ≡ []
 
--- a comment opens here, and no beginning of the text closes it
+-- a comment opens at the start of the text, and no prefix of the text closes it
 pub record IsUnclosedComment (text : List ℕ) : Type 0 where
   pub opens : StartsWith comment_opening text
   pub never : (front : List ℕ) → StartsWith front text → IsClosedComment front → ⊥
 
--- before the rest the mark is the longest that stands there, and no comment opens with it
+-- before this rest the sign is the longest that matches, and no comment opens there
 pub record IsSignToken (sign : Sign) (rest : List ℕ) : Type 0 where
   pub longest : (other : Sign) → StartsWith (sign_text other) (sign_text sign ++ rest) → length (sign_text other) ≤ length (sign_text sign)
   pub no_comment : StartsWith comment_opening (sign_text sign ++ rest) → ⊥
 
--- the token of this kind, so many bytes long, at the offset
+-- the token of this kind and length in bytes, at the offset
 abbrev pub token : ℕ → ℕ → TokenKind → Token
 token at len kind = record { at = at; end = at + len; kind = kind }
 
--- From the first offset to the second the text is cut into blanks, comments and these tokens, and the rest follows.
+-- from the first offset to the second the text lexes to blanks, comments and these tokens, and the rest follows
 pub data LexesTo : ℕ → List ℕ → List Token → ℕ → List ℕ → Type 0 where
   nothing : {at : ℕ} {text : List ℕ} → LexesTo at text [] at text
   blank : {at end b : ℕ} {text rest : List ℕ} {ts : List Token} →
@@ -123,17 +123,17 @@ pub data LexesTo : ℕ → List ℕ → List Token → ℕ → List ℕ → Type
       IsSignToken sign text → LexesTo (at + length (sign_text sign)) text ts end rest →
       LexesTo at (sign_text sign ++ text) (token at (length (sign_text sign)) (of_sign sign) ∷ ts) end rest
 
--- the whole text is cut into these tokens
+-- the whole text lexes to these tokens
 abbrev pub Lexes : List ℕ → List Token → Type 0
 Lexes text ts = LexesTo 0 text ts (length text) []
 
--- no piece begins with the byte before the rest
+-- no lexeme begins with the byte before this rest
 pub record NoLexemeAt (b : ℕ) (rest : List ℕ) : Type 0 where
   pub no_blank : is_blank b ≡ false
   pub no_letter : is_ascii_alphabetic b ≡ false
   pub no_mark : (sign : Sign) → StartsWith (sign_text sign) (b ∷ rest) → ⊥
 
--- the bytes before the offset are cut, and the byte there begins no piece
+-- the bytes before the offset lex, and no lexeme begins at the byte there
 pub record FailsAtByte (text : List ℕ) (at : ℕ) : Type 0 where
   pub before : List Token
   pub byte : ℕ
@@ -141,23 +141,24 @@ pub record FailsAtByte (text : List ℕ) (at : ℕ) : Type 0 where
   pub cut : LexesTo 0 text before at (byte ∷ rest)
   pub strange : NoLexemeAt byte rest
 
--- the bytes before the offset are cut, and a comment opens there that is not closed
+-- the bytes before the offset lex, and a comment that is not closed opens there
 pub record FailsAtComment (text : List ℕ) (at : ℕ) : Type 0 where
   pub before : List Token
   pub rest : List ℕ
   pub cut : LexesTo 0 text before at rest
   pub unclosed : IsUnclosedComment rest
 
--- the text sticks at the offset
+-- lexing fails at the offset
 pub data LexingFailsAt (text : List ℕ) (at : ℕ) : Type 0 where
   at_byte : FailsAtByte text at → LexingFailsAt text at
   at_comment : FailsAtComment text at → LexingFailsAt text at
 
--- the token's bytes stand in the text, and those of an identifier are a word
+-- the token's offsets are ordered and inside the text, and the bytes of an identifier are a word
 pub record IsTokenIn (text : List ℕ) (t : Token) : Type 0 where
   pub ordered : t.at ≤ t.end
   pub inside : t.end ≤ length text
   pub word : t.kind ≡ Identifier → IsWord (slice_range text t.at t.end)
 
+-- each token of the list is one of the text
 abbrev pub AreTokensIn : List ℕ → List Token → Type 0
 AreTokensIn text ts = AllByRecursion (IsTokenIn text) ts

@@ -1,4 +1,4 @@
--- Offsets that lie inside a text, or at its end.
+-- Offsets inside a text of `n` bytes, or at its end.
 use Rattle.std.specs.Prelude.{ℕ, ◌≤◌, List}
 use Rattle.std.specs.List.{AllByRecursion}
 use Rattle.lotos_text.specs.AstView.{BehaviourView, SyncView, gates, all, stop, exit, prefix, choice, par, hide, enable, disable, call, DefinitionView, def, DefinitionListView, no_defs, more_defs}
@@ -7,7 +7,7 @@ use Rattle.lotos_text.specs.declared.fault.TextFault.{TextFault}
 use Rattle.lotos_text.specs.declared.fault.TextFault.TheVariants.{E01, E02, E03, E04, E05, E06, E07, E99}
 use Rattle.lotos_text.specs.declared.ast.Action.TheVariants.{Internal, Gate}
 
--- the offset of the fault, if it has one
+-- the offset of the fault is inside, if it has one
 abbrev pub IsFaultInside : ℕ → TextFault → Type 0
 IsFaultInside n (E01 at) = at ≤ n
 IsFaultInside n (E02 at) = at ≤ n
@@ -18,16 +18,16 @@ IsFaultInside n (E06 at) = at ≤ n
 IsFaultInside n (E07 at) = at ≤ n
 IsFaultInside n (E99 e) = Unit {0}
 
--- the offset of each name
+-- the offset of each name is inside
 abbrev pub AreNamesInside : ℕ → List Placed → Type 0
 AreNamesInside n names = AllByRecursion (λ g. g.at ≤ n) names
 
--- the offset of each gate in a list on which both sides synchronize
+-- the offset of each gate on which both sides synchronize is inside, if they are listed
 abbrev pub IsSyncInside : ℕ → SyncView → Type 0
 IsSyncInside n (gates names) = AreNamesInside n names
 IsSyncInside n all = Unit {0}
 
--- the offset of each name and of each `>>` in a behaviour
+-- the offset of each name and of each `>>` in a behaviour is inside
 abbrev pub IsTreeInside : ℕ → BehaviourView → Type 0
 IsTreeInside n stop = Unit {0}
 IsTreeInside n exit = Unit {0}
@@ -40,7 +40,7 @@ IsTreeInside n (enable l at r) = IsTreeInside n l × (at ≤ n) × IsTreeInside 
 IsTreeInside n (disable l r) = IsTreeInside n l × IsTreeInside n r
 IsTreeInside n (call name names) = (name.at ≤ n) × AreNamesInside n names
 
--- the offset of each name in a definition, its inner ones among them
+-- each offset in a definition, and in its inner ones, is inside
 abbrev mutual
   pub IsInside : ℕ → DefinitionView → Type 0
   IsInside n (def name formals declared body inner) =

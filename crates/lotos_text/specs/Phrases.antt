@@ -1,4 +1,4 @@
--- The parts of a specification, in the order of their tokens.
+-- The phrases of a specification, in the order of their tokens.
 use Rattle.std.specs.Prelude.{◌≡◌, ◌<◌, ℕ, Bool, List, [], ◌∷◌, ◌++◌}
 use Rattle.lotos_text.specs.AstView as t
 use Rattle.lotos_text.specs.AstView.{BehaviourView, DefinitionView, DefinitionListView}
@@ -13,7 +13,7 @@ use Rattle.lotos_text.specs.declared.token.Sign.TheVariants as s
 use Rattle.lotos_text.specs.declared.ast.Functionality.{Functionality}
 use Rattle.lotos_text.specs.declared.ast.Placed.{Placed}
 
--- one part and another behind it, and what they say together
+-- one phrase and then another, with a value made of both
 pub record Sequence {A B C : Type 0} (together : A → B → C) (P : Phrase A) (Q : Phrase B)
     (own : List Token) (said : C) (behind : List Token) : Type 0 where
   pub front : List Token
@@ -25,30 +25,30 @@ pub record Sequence {A B C : Type 0} (together : A → B → C) (P : Phrase A) (
   pub second : Q back other behind
   pub same : said ≡ together one other
 
--- one token, of the kind
+-- one token of the kind
 pub record OneToken (kind : TokenKind) (own : List Token) (said : Token) (behind : List Token) : Type 0 where
   pub joined : own ≡ said ∷ []
   pub is : IsOfKind said kind
 
--- the part behind a token of the kind
+-- a token of the kind and then the phrase
 abbrev pub Preceded : {A : Type 0} → TokenKind → Phrase A → Phrase A
 Preceded kind P = Sequence (λ token said. said) (OneToken kind) P
 
--- the part before a token of the kind
+-- the phrase and then a token of the kind
 abbrev pub Followed : {A : Type 0} → Phrase A → TokenKind → Phrase A
 Followed P kind = Sequence (λ said token. said) P (OneToken kind)
 
--- no token at all, at the end
+-- no token, at the end of the input
 pub record EndOfInput (own : List Token) (said : Unit {0}) (behind : List Token) : Type 0 where
   pub empty : own ≡ []
   pub last : behind ≡ []
 
--- one or more names, behind which no comma stands
+-- one or more names, not followed by a comma
 pub record NameList (text : List ℕ) (own : List Token) (said : List Placed) (behind : List Token) : Type 0 where
   pub names : Names text own said
   pub quits : DoesNotStartWith (Sign s.Comma) behind
 
--- names in brackets; or nothing, where no bracket follows
+-- names in brackets; or nothing, if no bracket follows
 pub record OptionalGates (text : List ℕ) (own : List Token) (said : List Placed) (behind : List Token) : Type 0 where
   pub gates : GateList text own said
   pub quits : own ≡ [] → DoesNotStartWith (Sign s.LeftBracket) behind
@@ -64,14 +64,14 @@ pub record OneName (text : List ℕ) (own : List Token) (said : Placed) (behind 
 pub record OneOperator (text : List ℕ) (level : Level) (own : List Token) (said : Operator) (behind : List Token) : Type 0 where
   pub operates : IsOperator text level own said
 
--- what stands behind `|[` in an operator: names or none, then `]` and `|`
+-- what follows `|[` in an operator: names or none, then `]` and `|`
 pub data SyncList (text : List ℕ) : List Token → List Placed → List Token → Type 0 where
   no_sync : {right bar : Token} {behind : List Token} → IsOfKind right (Sign s.RightBracket) → IsOfKind bar (Sign s.Bar) →
       SyncList text (right ∷ bar ∷ []) [] behind
   some_sync : {right bar : Token} {ts behind : List Token} {names : List Placed} → Names text ts names →
       IsOfKind right (Sign s.RightBracket) → IsOfKind bar (Sign s.Bar) → SyncList text (ts ++ right ∷ bar ∷ []) names behind
 
--- a behaviour expression of the level and of a nesting within the limit, behind which nothing goes on
+-- a behaviour expression of the level, with a nesting within the limit, that the tokens after it do not continue
 pub record BehaviourPhrase (text : List ℕ) (level : Level) (limit : NestingLimit)
     (own : List Token) (said : BehaviourView) (behind : List Token) : Type 0 where
   pub ends : Bool
@@ -80,17 +80,17 @@ pub record BehaviourPhrase (text : List ℕ) (level : Level) (limit : NestingLim
   pub quits : rank behind < bound level ends
   pub within : IsNestingWithin limit nesting
 
--- one token that is a functionality
+-- one token, a functionality
 pub record OneFunctionality (own : List Token) (said : Functionality) (behind : List Token) : Type 0 where
   pub token : Token
   pub joined : own ≡ token ∷ []
   pub declares : IsFunctionality token said
 
--- the colon and the functionality
+-- a colon and a functionality
 abbrev pub FunctionalityPhrase : Phrase Functionality
 FunctionalityPhrase = Preceded (Sign s.Colon) OneFunctionality
 
--- what the header says: the name, the formal gates and the functionality
+-- the value of a header: the name, the formal gates and the functionality
 abbrev pub HeaderValue : Type 0
 HeaderValue = Placed × List Placed × Functionality
 
@@ -100,37 +100,37 @@ HeaderPhrase text =
     Sequence (λ (named : Placed × List Placed) returns. (named.0, named.1, returns))
     (Sequence (λ name formals. (name, formals)) (OneName text) (OptionalGates text)) FunctionalityPhrase
 
--- what introduces the body, and the body
+-- what introduces the body, then the body
 abbrev pub BodyPhrase : List ℕ → DefinitionKind → NestingLimit → Phrase BehaviourView
 BodyPhrase text what limit = Preceded (defining_sign what) (BehaviourPhrase text enabling limit)
 
--- one or more definitions, behind which no other follows
+-- one or more definitions, not followed by another
 pub record DefinitionList (text : List ℕ) (limit : NestingLimit) (own : List Token) (said : DefinitionListView) (behind : List Token) : Type 0 where
   pub nesting : ℕ
   pub several : SpellsDefinitions text nesting own said
   pub ends : DoesNotStartWith (Reserved w.ProcessWord) behind
   pub within : IsNestingWithin limit nesting
 
--- nothing, where no `where` follows; or `where` and a row of definitions
+-- nothing, if no `where` follows; or `where` and a list of definitions
 pub data WherePhrase (text : List ℕ) (limit : NestingLimit) : List Token → DefinitionListView → List Token → Type 0 where
   no_inner : {behind : List Token} → DoesNotStartWith (Reserved w.WhereWord) behind → WherePhrase text limit [] t.no_defs behind
   some_inner : {word : Token} {own behind : List Token} {said : DefinitionListView} →
       IsOfKind word (Reserved w.WhereWord) → DefinitionList text limit own said behind → WherePhrase text limit (word ∷ own) said behind
 
--- the header and the body, and the inner definitions
+-- the definition of a header with its body, and the inner definitions
 abbrev pub make_definition : HeaderValue × BehaviourView → DefinitionListView → DefinitionView
 make_definition said inner = t.def said.0.0 said.0.1 said.0.2 said.1 inner
 
--- what stands behind the first word of a definition, up to and with its last word
+-- a definition after its first keyword, up to and including its last one
 abbrev pub DefinitionRest : List ℕ → DefinitionKind → NestingLimit → Phrase DefinitionView
 DefinitionRest text what limit =
     Followed (Sequence make_definition (Sequence (λ heading body. (heading, body)) (HeaderPhrase text) (BodyPhrase text what limit)) (WherePhrase text limit))
     (closing_word what)
 
--- a whole definition
+-- a complete definition
 abbrev pub ProcessDefinition : List ℕ → DefinitionKind → NestingLimit → Phrase DefinitionView
 ProcessDefinition text what limit = Preceded (opening_word what) (DefinitionRest text what limit)
 
--- the whole specification, with nothing behind it
+-- a complete specification, and then the end of the input
 abbrev pub SpecificationPhrase : List ℕ → NestingLimit → Phrase DefinitionView
 SpecificationPhrase text limit = Sequence (λ whole end. whole) (ProcessDefinition text a_specification limit) EndOfInput

@@ -1,8 +1,8 @@
 -- Lines and columns.
 use Rattle.std.specs.Prelude.{◌≡◌, ◌≢◌, ℕ, ◌+◌, ◌<◌, ◌≤◌, ◌⊎◌, List, take, count_by, ◌==◌, slice_index}
 
--- The line is one more than the line feeds before the offset. The column counts from behind the last of them, or from the
--- start of the text.
+-- the line is one more than the line feeds before the offset; the column counts bytes, the first 1, after the last of
+-- these, or from the start of the text
 pub record IsPosition (text : List ℕ) (at line column : ℕ) : Type 0 where
   pub lines : line ≡ count_by (λ b. b == 10) (take at text) + 1
   pub start : ℕ

@@ -6,7 +6,7 @@ use Rattle.lotos_text.specs.Lexing.{Lexes}
 use Rattle.lotos_text.specs.Grammar.{SpellsSpecification}
 use Rattle.lotos_text.specs.declared.token.Token.{Token}
 
--- the text is short enough, and is cut into tokens that spell the specification with no more nesting than is allowed
+-- the text is not too long, and lexes to tokens that spell the specification with no more nesting than is allowed
 pub record Spelled (text : List ℕ) (whole : DefinitionView) : Type 0 where
   pub tokens : List Token
   pub nesting : ℕ

@@ -1,4 +1,4 @@
--- Why a text is refused.
+-- Why a text spells no specification.
 use Rattle.std.specs.Prelude.{◌≡◌, ℕ, ◌≤◌, ◌<◌, true, false, List, [], ◌∷◌, ◌++◌, length}
 use Rattle.lotos_text.specs.Limits.{max_text_length, max_nesting}
 use Rattle.lotos_text.specs.AstView.{DefinitionView}
@@ -10,24 +10,24 @@ use Rattle.lotos_text.specs.declared.fault.TextFault.{TextFault}
 use Rattle.lotos_text.specs.declared.fault.TextFault.TheVariants.{E01, E02, E03, E04, E05, E06, E07, E99}
 use Rattle.lotos_text.specs.declared.token.Token.{Token}
 
--- the text, short enough, sticks at a byte
+-- the text is not too long, and lexing fails at a byte
 pub record IsE01 (text : List ℕ) (at : ℕ) : Type 0 where
   pub short : length text ≤ max_text_length
   pub sticks : FailsAtByte text at
 
--- the text, short enough, sticks at a comment that is not closed
+-- the text is not too long, and lexing fails at a comment that is not closed
 pub record IsE02 (text : List ℕ) (at : ℕ) : Type 0 where
   pub short : length text ≤ max_text_length
   pub sticks : FailsAtComment text at
 
--- the offset is that of a token of a text that is short enough
+-- the text is not too long, and at the offset it has this token, after these
 pub record IsOffsetOfToken (text : List ℕ) (at : ℕ) (before : List Token) (token : Token) : Type 0 where
   pub after : List Token
   pub short : length text ≤ max_text_length
   pub cut : Lexes text (before ++ token ∷ after)
   pub place : token.at ≡ at
 
--- the tokens up to and with the one at the offset begin no specification, and that token is no word of full LOTOS
+-- the tokens up to and including the one at the offset begin no specification, and that one is no keyword of full LOTOS
 pub record IsE04 (text : List ℕ) (at : ℕ) : Type 0 where
   pub before : List Token
   pub token : Token
@@ -35,8 +35,8 @@ pub record IsE04 (text : List ℕ) (at : ℕ) : Type 0 where
   pub never : IsSpecificationPrefix text (before ++ token ∷ []) → ⊥
   pub basic : is_full_lotos token.kind ≡ false
 
--- The tokens up to and with the one at the offset begin no specification whose nesting is within the limit; that token opens
--- a construct, as more of them than may be open at once do.
+-- the tokens up to and including the one at the offset begin no specification within the nesting limit, more of them
+-- open a construct than may be open, and that one does
 pub record IsE05 (text : List ℕ) (at : ℕ) : Type 0 where
   pub before : List Token
   pub token : Token
@@ -53,7 +53,7 @@ pub record IsE06 (text : List ℕ) (at : ℕ) : Type 0 where
   pub place : at ≡ length text
   pub never : (nesting : ℕ) (whole : DefinitionView) → SpellsSpecification text nesting tokens whole → ⊥
 
--- the tokens up to and with the one at the offset begin no specification, and that token is a word of full LOTOS
+-- the tokens up to and including the one at the offset begin no specification, and that one is a keyword of full LOTOS
 pub record IsE07 (text : List ℕ) (at : ℕ) : Type 0 where
   pub before : List Token
   pub token : Token
@@ -61,7 +61,7 @@ pub record IsE07 (text : List ℕ) (at : ℕ) : Type 0 where
   pub never : IsSpecificationPrefix text (before ++ token ∷ []) → ⊥
   pub full : is_full_lotos token.kind ≡ true
 
--- why a text is not cut into tokens
+-- why a text does not lex
 abbrev pub IsLexingFault : List ℕ → TextFault → Type 0
 IsLexingFault text (E01 at) = IsE01 text at
 IsLexingFault text (E02 at) = IsE02 text at
@@ -83,7 +83,7 @@ IsFaultOfText text (E06 at) = IsE06 text at
 IsFaultOfText text (E07 at) = IsE07 text at
 IsFaultOfText text (E99 e) = length text ≤ max_text_length
 
--- the fault is want of memory; or the text spells no specification
+-- the fault is that memory ran out, or the text spells no specification
 abbrev pub SpellsNoSpecification : List ℕ → TextFault → Type 0
 SpellsNoSpecification text (E99 e) = Unit {0}
 SpellsNoSpecification text (E01 at) = (whole : DefinitionView) → Spelled text whole → ⊥

@@ -1,6 +1,6 @@
-//! Trees of specifications.
+//! The AST of a specification.
 //!
-//! The forms are those of ISO 8807:1989, behaviour expressions and process definitions. Parentheses leave nothing in a tree.
+//! The forms are those of ISO 8807:1989: behaviour expressions and process definitions. Parentheses have no node.
 ghost use Rattle.std.specs.Prelude.{◌≡◌, IfOk};
 ghost use Rattle.lotos_text.specs.AstView as plain_tree;
 ghost use Rattle.lotos_text.specs.Grammar.{apply};
@@ -9,7 +9,7 @@ ghost use Rattle.lotos_text.specs.AstOf.{behaviour_view, operator_view};
 use crate::name::Name;
 use std::alloc::{AllocError, Global};
 
-/// A name where it stands in the text.
+/// A name with its offset in the text.
 #[derive(Debug, Drop)]
 pub struct Placed {
     pub name: Name,
@@ -25,18 +25,18 @@ pub enum Action {
     Gate(Placed),
 }
 
-/// What a definition declares of its termination. `noexit` promises that the behaviour never terminates successfully. `exit`
-/// promises nothing: `P := x; P` is declared `exit` and never ends.
+/// What a definition declares of its termination. `noexit` promises that the behaviour never terminates successfully.
+/// `exit` promises nothing: `P := x; P` is declared `exit` and never ends.
 #[derive(Clone, Copy, Debug, PartialEq, Eq)]
 pub enum Functionality {
     Exit,
     NoExit,
 }
 
-/// The gates on which both sides of a parallel expression synchronize. Termination always is one of them.
+/// The gates on which both sides of a parallel expression synchronize, beside termination, on which they always do.
 #[derive(Debug, Drop)]
 pub enum SyncSet {
-    /// These gates, as they stand in the list of `|[..]|`; none for `|||` and `|[]|`.
+    /// The gates in the list of `|[..]|`, in its order; none for `|||` and `|[]|`.
     Gates(Vec<Placed>),
     /// All gates, `||`.
     All,
@@ -65,7 +65,7 @@ pub enum Behaviour {
         sync: SyncSet,
         right: Box<Behaviour>,
     },
-    /// Hiding, `make_hide gates in body`.
+    /// Hiding, `hide gates in body`.
     Hide {
         gates: Vec<Placed>,
         body: Box<Behaviour>,
@@ -89,8 +89,8 @@ pub enum Behaviour {
     },
 }
 
-/// A specification or process with its formal gates, its declared functionality, its behaviour, and the definitions of its
-/// `where` in text order.
+/// A specification or a process: its formal gates, its declared functionality, its behaviour, and the definitions of
+/// its `where` in text order.
 #[derive(Debug, Drop)]
 pub struct Definition {
     pub name: Placed,
@@ -100,7 +100,7 @@ pub struct Definition {
     pub inner: Vec<Definition>,
 }
 
-/// A whole specification.
+/// A complete specification.
 #[derive(Debug, Drop)]
 pub struct Specification {
     pub whole: Definition,

@@ -1,7 +1,7 @@
-//! Behaviour expressions, by descent through the levels of their operators.
+//! The parser of behaviour expressions, by recursive descent through the levels of their operators.
 //!
-//! Each function takes how many more constructs may be open: its room. A construct that would be one too many stops the
-//! parser at the token that opens it.
+//! `nesting_left` is how many more constructs may be open. A construct that would be one too many is an error at the
+//! token that opens it.
 ghost use Rattle.std.specs.Prelude.{◌≡◌, ◌<◌, ◌≤◌, ◌∷◌, ℕ, Some, None, length, IfOk, IfErr};
 ghost use Rattle.lotos_text.specs.AstOf.{behaviour_view, level_view};
 ghost use Rattle.lotos_text.specs.Grammar.{IsOfKind, IsAction, BindsTighter, Level as AnyLevel, prefixing, located_name as placed_at};
@@ -23,7 +23,7 @@ use crate::parse_primitives::{
 use crate::token::{Sign, Token, TokenKind, Word};
 use std::alloc::Global;
 
-/// A behaviour expression of a level: a hide form, or what the level's operators join.
+/// A behaviour expression of a level: a hide form, or operands joined by the level's operators.
 #[cycle(expressions)]
 pub(crate) fn parse_behaviour<'a>(
     alloc: Global,
@@ -45,7 +45,7 @@ pub(crate) fn parse_behaviour<'a>(
     }
 }
 
-/// What follows the word `make_hide`, the first token.
+/// A hide form, after its first token, the keyword `hide`.
 #[cycle(expressions)]
 fn parse_hide<'a>(
     alloc: Global,
@@ -73,7 +73,7 @@ fn parse_hide<'a>(
     Ok((whole, rest))
 }
 
-/// What a level's operators join, which is no hide form: an operand, where the level has none.
+/// Operands joined by the level's operators, or an operand if the level has none; no hide form.
 #[cycle(expressions)]
 fn parse_level<'a>(
     alloc: Global,
@@ -96,7 +96,8 @@ fn parse_level<'a>(
     }
 }
 
-/// A left operand, of the next tighter level; and, where an operator of the level goes on, the operator and its right operand.
+/// A left operand of the next tighter level, and, if an operator of the level follows, that operator and its right
+/// operand.
 #[cycle(expressions)]
 fn parse_operation<'a>(
     alloc: Global,
@@ -170,7 +171,7 @@ fn parse_operand<'a>(
     }
 }
 
-/// What follows a left parenthesis, the first token.
+/// A behaviour expression in parentheses, after its first token, the left parenthesis.
 #[cycle(expressions)]
 fn parse_parenthesized<'a>(
     alloc: Global,
@@ -196,7 +197,7 @@ fn parse_parenthesized<'a>(
     Ok((inner, rest))
 }
 
-/// What follows a name, the first token.
+/// A prefix or a call, after its first token, a name.
 #[cycle(expressions)]
 fn parse_named<'a>(
     alloc: Global,
@@ -221,7 +222,7 @@ fn parse_named<'a>(
     }
 }
 
-/// What follows the action of a prefix, the first token.
+/// A prefix, after its first token, the action.
 #[cycle(expressions)]
 fn parse_prefix<'a>(
     alloc: Global,
@@ -249,7 +250,7 @@ fn parse_prefix<'a>(
     Ok((whole, rest))
 }
 
-/// What follows the name of a call, the first token.
+/// A call, after its first token, the name.
 fn parse_call<'a>(
     alloc: Global,
     text: &[u8],
@@ -273,7 +274,7 @@ fn parse_call<'a>(
     Ok((Behaviour::Call { name, gates }, rest))
 }
 
-/// Nothing, where the operand before the tokens is whole: neither `[` nor `;` may stand behind one.
+/// Succeeds if the operand before the tokens ends there: neither `[` nor `;` may follow one.
 fn expect_operand_end<'a>(tokens: &'a [Token]) -> Result<(), ParseError<'a>>
     ensures whole { IfOk result (λ _. rank tokens.now < 5) }
     ensures fails { IfErr result (λ stop. StopsAt tokens.now stop × (rank tokens.now ≡ 5)) }
@@ -288,7 +289,7 @@ fn expect_operand_end<'a>(tokens: &'a [Token]) -> Result<(), ParseError<'a>>
     }
 }
 
-/// What a token at the front of an operand begins.
+/// What an operand is that starts with a token.
 #[derive(Clone, Copy)]
 enum OperandStart {
     Stop,

@@ -1,11 +1,11 @@
-//! Laws over the definitions. Each is the contract of a function that does nothing.
+//! Laws of the definitions, each as the contract of an empty function.
 ghost use Rattle.std.specs.Prelude.{◌≡◌, ℕ, List};
 ghost use Rattle.lotos_text.specs.AstView.{DefinitionView};
 ghost use Rattle.lotos_text.specs.Grammar.{SpellsSpecification};
 ghost use Rattle.lotos_text.specs.Lexing.{Lexes, LexingFailsAt};
 ghost use Rattle.lotos_text.specs.declared.token.Token.{Token};
 
-/// A text has at most one cut and at most one place where it sticks, and never both.
+/// A text lexes to at most one list of tokens, or fails at one offset at most, and never both.
 pub fn tokens_are_unique()
     ensures cut { (text : List ℕ) (ts us : List Token) → Lexes text ts → Lexes text us → ts ≡ us }
     ensures place { (text : List ℕ) (at other : ℕ) → LexingFailsAt text at → LexingFailsAt text other →
@@ -13,7 +13,7 @@ pub fn tokens_are_unique()
     ensures whole { (text : List ℕ) (ts : List Token) (at : ℕ) → Lexes text ts → LexingFailsAt text at → ⊥ }
 {}
 
-/// A token list spells at most one specification, with one nesting.
+/// A list of tokens spells at most one specification, with one nesting.
 pub fn specification_is_unique()
     ensures { (text : List ℕ) (ts : List Token) (n m : ℕ) (x y : DefinitionView) → SpellsSpecification text n ts x →
         SpellsSpecification text m ts y → (x ≡ y) × (n ≡ m) }

@@ -1,4 +1,4 @@
-//! Cuts a text into tokens.
+//! The lexer: from a text to its tokens.
 ghost use Rattle.std.specs.Prelude.{◌≡◌, ◌<◌, ◌≤◌, length, take, IfOk, IfErr, IfSome, IfNone};
 ghost use Rattle.lotos_text.specs.Lexing.{Lexes, AreTokensIn, StartsWith, IsComment, IsUnclosedComment, comment_opening, is_blank, is_word_byte, sign_text, classify};
 ghost use Rattle.lotos_text.specs.Lexemes.{IsNextLexeme, longest_sign};
@@ -13,14 +13,16 @@ use std::alloc::Global;
 /// The most bytes that a text may have (this project's profile).
 pub const TEXT_LIMIT: usize = 1_048_576;
 
-/// The tokens of a text, in their order.
+/// The tokens of a text, in order.
 ///
-/// Blanks and comments separate tokens and are none. A comment opens with `(*` and ends with the first `*)` behind that;
-/// comments do not nest.
+/// Blanks and comments separate tokens and yield none. A comment opens with `(*` and ends with the first `*)` after
+/// that; comments do not nest.
 ///
-/// Refuses with E03 a text of more than [`TEXT_LIMIT`] bytes, whatever else it holds; then with E01 at the first byte that
-/// begins no token, or with E02 at the opening of a comment that is not closed, whichever stands first; with E99 where a
-/// growth of the heap was refused.
+/// # Errors
+///
+/// E03 for a text of more than [`TEXT_LIMIT`] bytes, whatever its bytes are. Otherwise E01 at the first byte that
+/// begins no token, or E02 at the opening of a comment that is not closed, whichever comes first. E99 if an allocation
+/// fails.
 pub fn tokens(alloc: Global, text: &[u8]) -> Result<Vec<Token>, TextFault>
     ensures short { IfOk result (λ found. length text.now ≤ max_text_length) }
     ensures cut { IfOk result (λ found. Lexes text.now found.items) }
@@ -48,14 +50,14 @@ pub fn tokens(alloc: Global, text: &[u8]) -> Result<Vec<Token>, TextFault>
     Ok(found)
 }
 
-/// What stands at the front of a text.
+/// What the lexer takes next.
 #[derive(Clone, Copy)]
 enum Lexeme {
     /// One blank byte.
     Blank,
-    /// A comment of so many bytes.
+    /// A comment, with its length in bytes.
     Comment(usize),
-    /// A token of so many bytes.
+    /// A token, with its length in bytes.
     Token(usize, TokenKind),
     /// The opening of a comment that is not closed.
     Unclosed,
@@ -63,7 +65,7 @@ enum Lexeme {
     Unknown,
 }
 
-/// What stands at the front of a text that is not empty.
+/// The lexeme at the start of a text that is not empty.
 #[tactic(auto, using(crate::proofs::NextLexemes::found_fronts))]
 fn next_lexeme(text: &[u8]) -> Lexeme
     requires { 0 < length text.now }
@@ -88,7 +90,7 @@ fn next_lexeme(text: &[u8]) -> Lexeme
     }
 }
 
-/// How many bytes the comment has that opens at the front of a text, up to and with its closing.
+/// The length in bytes, closing included, of the comment that opens at the start of a text; `None` if it is not closed.
 fn comment_length(text: &[u8]) -> Option<usize>
     requires { StartsWith comment_opening text.now }
     ensures closed { IfSome result (λ n. IsComment (take n text.now) × (n ≤ length text.now)) }
@@ -116,14 +118,14 @@ fn is_word_byte(byte: u8) -> bool
     byte.is_ascii_alphanumeric() || byte == b'_'
 }
 
-/// How many bytes that words are made of stand at the front of a text.
+/// The number of word bytes at the start of a text.
 fn word_length(text: &[u8]) -> usize
     ensures { result ≡ prefix_len is_word_byte text.now }
 {
     text.iter().take_while(|byte| is_word_byte(**byte)).count()
 }
 
-/// The reserved words, as they are spelled in lower case.
+/// The keywords in lower case.
 const KEYWORDS: [(&[u8], Word); 19] = [
     (b"specification", Word::SpecificationWord),
     (b"endspec", Word::EndspecWord),
@@ -146,7 +148,7 @@ const KEYWORDS: [(&[u8], Word); 19] = [
     (b"type", Word::TypeWord),
 ];
 
-/// What a word is, in upper or lower case.
+/// Which keyword a word is, in any mix of cases, or an identifier.
 fn classify_word(found: &[u8]) -> TokenKind
     ensures { result ≡ classify found.now }
 {
@@ -158,7 +160,7 @@ fn classify_word(found: &[u8]) -> TokenKind
     TokenKind::Identifier
 }
 
-/// All marks, a longer one before each shorter one.
+/// All signs, longer ones before shorter ones.
 const SIGNS: [Sign; 15] = [
     Sign::Interleave,
     Sign::Define,
@@ -177,7 +179,7 @@ const SIGNS: [Sign; 15] = [
     Sign::Bar,
 ];
 
-/// The longest mark at the front of a text.
+/// The longest sign at the start of a text.
 fn longest_sign(text: &[u8]) -> Option<Sign>
     ensures { result ≡ longest_sign text.now }
 {
@@ -187,7 +189,7 @@ fn longest_sign(text: &[u8]) -> Option<Sign>
         .find(|sign| text.starts_with(sign_text(*sign)))
 }
 
-/// The bytes of a mark.
+/// The bytes of a sign.
 fn sign_text(sign: Sign) -> &'static [u8]
     ensures { result.now ≡ sign_text sign }
 {

@@ -1,8 +1,8 @@
-//! Reads the text of a basic LOTOS specification.
+//! The parser of basic LOTOS.
 //!
-//! Basic LOTOS is the part of ISO 8807:1989 without data types. A text is bytes; [`tokens`] cuts it into tokens,
-//! [`parse`] answers the tree that they spell, and [`line_column`] turns an offset into a place for a reader.
-//! The definitions that the contracts cite stand in `specs/`, and the laws over them in [`laws`].
+//! Basic LOTOS is the part of ISO 8807:1989 without data types. A text is a list of bytes: [`tokens`] lexes it,
+//! [`parse`] returns the AST of the specification that it spells, and [`line_column`] turns an offset into a line and a
+//! column. The definitions that the contracts cite are in `specs/`, the laws over them in [`laws`].
 #![tactic(auto)]
 
 mod ast;

@@ -13,9 +13,8 @@ use std::marker::Model;
 
 /// An identifier in upper case: a letter `A` to `Z`, then letters `A` to `Z`, digits and underscores.
 ///
-/// Upper and lower case of a text are not distinguished (this project's profile), so two spellings of one identifier are
-/// one name. Names are equal and ordered as the bytes of their texts are, a beginning before what it begins. Contracts see a
-/// name as its bytes.
+/// Case is not significant in a text (this project's profile), so all spellings of an identifier are one name. Names
+/// are equal and ordered as the bytes of their texts, a proper prefix first. Contracts see a name as its bytes.
 #[derive(Debug, Drop)]
 pub struct Name {
     text: String,
@@ -36,7 +35,7 @@ impl Model for Name {
 }
 
 impl Name {
-    /// The name of a word of a text.
+    /// The name that a word of a text spells.
     pub(crate) fn from_word(alloc: Global, word: &[u8]) -> Result<Name, AllocError>
         requires { IsWord word.now }
         ensures { IfOk result (λ n. n ≡ map to_ascii_uppercase word.now) }
@@ -50,7 +49,7 @@ impl Name {
         }
     }
 
-    /// An equal name. Refuses where a growth of the heap was refused.
+    /// A copy of the name. Fails if an allocation fails.
     pub fn copy(&self, alloc: Global) -> Result<Name, AllocError>
         ensures { IfOk result (λ n. n ≡ self.now) }
     {

@@ -13,7 +13,7 @@ use crate::parse_primitives::{ParseError, eat, expect, parse_names, split_first_
 use crate::token::{Sign, Token, TokenKind};
 use std::alloc::Global;
 
-/// A level of behaviour expressions: that of its operators, or of the operands between all operators.
+/// A level of behaviour expressions: that of some operators, or `Prefixing`, that of the operands of all operators.
 #[derive(Clone, Copy)]
 pub(crate) enum Level {
     Enabling,
@@ -23,7 +23,7 @@ pub(crate) enum Level {
     Prefixing,
 }
 
-/// The next tighter level, that of the operators' left operands.
+/// The next tighter level: that of the left operands of this level's operators.
 pub(crate) fn next_tighter(level: Level) -> Option<Level>
     ensures { MatchOption result (level_view level ≡ prefixing)
         (λ m. BindsTighter (level_view level) (level_view m)) }
@@ -37,14 +37,14 @@ pub(crate) fn next_tighter(level: Level) -> Option<Level>
     }
 }
 
-/// The mark with which a binary operator begins.
+/// The sign that a binary operator begins with.
 #[derive(Clone, Copy)]
 pub(crate) enum Infix {
     Enable,
     Disable,
     Interleave,
     Full,
-    /// `|[`, behind which the gates of the operator follow.
+    /// `|[`, which is followed by the gates of the operator.
     Sync,
     Choice,
 }
@@ -63,7 +63,7 @@ fn infix_of(kind: TokenKind) -> Option<Infix>
     }
 }
 
-/// The operator's mark of the level at the front, its token, and the tokens behind it.
+/// If the tokens start with an operator of the level: its sign, its token, and the tokens after that.
 pub(crate) fn operator_at(tokens: &[Token], level: Level) -> Option<(Infix, Token, &[Token])>
     ensures some { IfSome result (λ p. (tokens.now ≡ p.1 ∷ p.2.now)
         × (opens.infix_of p.1.kind ≡ Some p.0) × (opens.infix_level p.0 ≡ level_view level)) }
@@ -91,7 +91,7 @@ fn has_level(kind: Infix, level: Level) -> bool
     }
 }
 
-/// The operator whose mark is the first token.
+/// The operator that the first token begins.
 pub(crate) fn parse_operator<'a>(
     alloc: Global,
     text: &[u8],
@@ -123,7 +123,7 @@ pub(crate) fn parse_operator<'a>(
     }
 }
 
-/// The gates behind `|[`, which may be none, up to and with the `]` and the `|`.
+/// The gates after `|[`, perhaps none, up to and including the `]` and the `|`.
 fn parse_sync_list<'a>(
     alloc: Global,
     text: &[u8],

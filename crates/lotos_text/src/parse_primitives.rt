@@ -1,7 +1,6 @@
-//! The parts of the grammar without nesting: single tokens, names and lists of names.
+//! Parsers of the phrases without nesting: single tokens, names and lists of names.
 //!
-//! A part of the parser takes the tokens that are left and answers what it found and the tokens behind that, or where it
-//! stopped.
+//! A parser takes the remaining tokens and returns what it parsed and the tokens after it, or where it failed.
 ghost use Rattle.std.specs.Prelude.{◌≡◌, [], ◌∷◌, alloc_error, IfOk, IfErr, IfSome, IfNone, MatchOption};
 ghost use Rattle.lotos_text.specs.Grammar.{IsOfKind, located_name as placed_at};
 ghost use Rattle.lotos_text.specs.Lexing.{IsTokenIn, AreTokensIn};
@@ -15,12 +14,12 @@ use crate::name::Name;
 use crate::token::{Sign, Token, TokenKind, Word};
 use std::alloc::{AllocError, AllocFailed, Global};
 
-/// Why a part of the parser stopped.
+/// Why a parser failed.
 #[derive(Drop)]
 pub(crate) enum ParseError<'a> {
-    /// At the first of these tokens, which is not expected; or, where there is none, at the end of the text.
+    /// The first of these tokens is unexpected; if there is none, the end of the text is.
     Unexpected(&'a [Token]),
-    /// At this token, which opens a construct where no more may be open.
+    /// This token opens a construct where no more may be open.
     TooDeep(Token),
     Memory(AllocError),
 }
@@ -41,7 +40,7 @@ impl<'a, T: Drop> From<AllocFailed<T>> for ParseError<'a> {
     }
 }
 
-/// Names in brackets, or none where no bracket stands.
+/// Names in brackets, or none if there is no bracket.
 pub(crate) fn parse_gate_list<'a>(
     alloc: Global,
     text: &[u8],
@@ -84,7 +83,7 @@ pub(crate) fn parse_names<'a>(
     }
 }
 
-/// The colon and the functionality.
+/// A colon and a functionality.
 pub(crate) fn parse_functionality<'a>(
     tokens: &'a [Token],
 ) -> Result<(Functionality, &'a [Token]), ParseError<'a>>
@@ -109,7 +108,7 @@ pub(crate) fn place_name(alloc: Global, text: &[u8], token: Token) -> Result<Pla
     Ok(Placed { name, at: token.at })
 }
 
-/// The first token, which is of the kind, and the others.
+/// Takes the first token, which must be of the kind, and returns it with the tokens after it.
 pub(crate) fn expect<'a>(
     tokens: &'a [Token],
     kind: TokenKind,
@@ -123,7 +122,7 @@ pub(crate) fn expect<'a>(
     }
 }
 
-/// The first token, where it is of the kind, and the others.
+/// Takes the first token if it is of the kind, and returns it with the tokens after it.
 pub(crate) fn eat(tokens: &[Token], kind: TokenKind) -> Option<(Token, &[Token])>
     ensures some { IfSome result (λ p. (tokens.now ≡ p.0 ∷ p.1.now) × IsOfKind p.0 kind) }
     ensures none { IfNone result (DoesNotStartWith kind tokens.now) }
@@ -134,7 +133,7 @@ pub(crate) fn eat(tokens: &[Token], kind: TokenKind) -> Option<(Token, &[Token])
     }
 }
 
-/// The first token, and the others.
+/// The first token, and the tokens after it.
 pub(crate) fn split_first_token(tokens: &[Token]) -> Option<(Token, &[Token])>
     ensures { MatchOption result (tokens.now ≡ []) (λ p. tokens.now ≡ p.0 ∷ p.1.now) }
 {

@@ -1,4 +1,4 @@
-//! Specifications and the definitions of processes.
+//! The parser of specifications and process definitions.
 ghost use Rattle.std.specs.Prelude.{◌≡◌, ◌<◌, ◌≤◌, [], Some, length, IfOk, IfErr};
 ghost use Rattle.lotos_text.specs.AstView.{DefinitionView};
 ghost use Rattle.lotos_text.specs.AstOf.{definition_kind_view, definition_view, definitions_view};
@@ -24,15 +24,16 @@ use crate::token::{Sign, Token, TokenKind, Word};
 use std::alloc::Global;
 
 /// The most constructs that may be open at once in a text (this project's profile): parentheses, prefixes, hide forms,
-/// binary operators up to the end of their right operand, and definitions of processes.
+/// binary operators up to the end of their right operand, and process definitions.
 pub const NESTING_LIMIT: usize = 200;
 
-/// The tree of the specification that a text spells.
+/// The AST of the specification that a text spells.
 ///
-/// Refuses as [`crate::tokens`] does; then, at the first token at which the tokens so far begin no specification, with E07
-/// where that token is a word of full LOTOS, with E05 where it opens a construct inside [`NESTING_LIMIT`] open ones, and else
-/// with E04; with E06 at the text's length where its tokens begin a specification and are none; with E99 where a growth of
-/// the heap was refused.
+/// # Errors
+///
+/// Those of [`crate::tokens`]. Otherwise, at the first token at which the tokens so far begin no specification: E07 if
+/// that token is a keyword of full LOTOS, E05 if it opens a construct inside [`NESTING_LIMIT`] open ones, else E04. E06
+/// at the text's length if its tokens only begin a specification. E99 if an allocation fails.
 pub fn parse(alloc: Global, text: &[u8]) -> Result<Specification, TextFault>
     ensures spelled { IfOk result (λ found. Spelled text.now (definition_view found.whole)) }
     ensures only { IfOk result (λ found. (other : DefinitionView) → Spelled text.now other →
@@ -50,7 +51,7 @@ pub fn parse(alloc: Global, text: &[u8]) -> Result<Specification, TextFault>
     }
 }
 
-/// The fault of a text of so many bytes, where the parser stopped.
+/// The fault of a parse error in a text of `length` bytes.
 fn fault_of_error(error: ParseError<'_>, length: usize) -> TextFault
     ensures { result ≡ fault_of_error error.entry length }
 {
@@ -68,7 +69,7 @@ fn fault_of_error(error: ParseError<'_>, length: usize) -> TextFault
     }
 }
 
-/// Whether a token is a word of full LOTOS.
+/// Whether a token is a keyword of full LOTOS that basic LOTOS does not use.
 fn is_full_lotos(kind: TokenKind) -> bool
     ensures { result ≡ is_full_lotos kind }
 {
@@ -92,7 +93,7 @@ fn is_full_lotos_word(word: Word) -> bool
     )
 }
 
-/// The whole specification, behind which nothing stands.
+/// A complete specification, after which no token follows.
 fn parse_specification<'a>(
     alloc: Global,
     text: &[u8],
@@ -115,7 +116,7 @@ fn parse_specification<'a>(
     Ok(whole)
 }
 
-/// Nothing, at the end of the tokens.
+/// Succeeds if no tokens are left.
 fn expect_end<'a>(tokens: &'a [Token]) -> Result<(), ParseError<'a>>
     ensures parses { IfOk result (λ _. tokens.now ≡ []) }
     ensures fails { IfErr result (FailsUnlessMemory EndOfInput tokens.now) }
@@ -127,14 +128,14 @@ fn expect_end<'a>(tokens: &'a [Token]) -> Result<(), ParseError<'a>>
     }
 }
 
-/// What a definition is of.
+/// Whether a definition is the specification or a process.
 #[derive(Clone, Copy)]
 enum DefinitionKind {
     Specification,
     Process,
 }
 
-/// What stands before the body of a definition.
+/// What introduces the body of a definition.
 fn defining_sign(what: DefinitionKind) -> TokenKind
     ensures { result ≡ defining_sign (definition_kind_view what) }
 {
@@ -144,7 +145,7 @@ fn defining_sign(what: DefinitionKind) -> TokenKind
     }
 }
 
-/// The last word of a definition.
+/// The keyword that ends a definition.
 fn closing_word(what: DefinitionKind) -> TokenKind
     ensures { result ≡ closing_word (definition_kind_view what) }
 {
@@ -154,7 +155,7 @@ fn closing_word(what: DefinitionKind) -> TokenKind
     }
 }
 
-/// What stands behind the first word of a definition, up to and with its last word.
+/// A definition after its first keyword, up to and including its last one.
 #[cycle(definitions)]
 fn parse_definition_rest<'a>(
     alloc: Global,
@@ -185,7 +186,7 @@ fn parse_definition_rest<'a>(
     Ok((whole, rest))
 }
 
-/// What the header of a definition says.
+/// What the header of a definition declares.
 #[derive(Drop)]
 struct Header {
     name: Placed,
@@ -218,7 +219,7 @@ fn parse_header<'a>(
     Ok((heading, rest))
 }
 
-/// The inner definitions behind the word `where`, or none where that word does not stand.
+/// The inner definitions after the keyword `where`, or none if that keyword does not follow.
 #[cycle(definitions)]
 fn parse_where<'a>(
     alloc: Global,
@@ -239,7 +240,7 @@ fn parse_where<'a>(
     }
 }
 
-/// One or more definitions of processes.
+/// One or more process definitions.
 #[cycle(definitions)]
 fn parse_definitions<'a>(
     alloc: Global,

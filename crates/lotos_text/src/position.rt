@@ -1,4 +1,4 @@
-//! Places for a reader.
+//! Positions: lines and columns of offsets.
 ghost use Rattle.std.specs.Prelude.{◌≤◌, length};
 ghost use Rattle.lotos_text.specs.Position.{IsPosition};
 

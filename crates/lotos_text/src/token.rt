@@ -1,8 +1,8 @@
-//! Tokens: the words and marks of a text.
+//! Tokens: the keywords, identifiers and signs of a text.
 
-/// A reserved word. `behaviour` and `behavior` are one word.
+/// A keyword. `behaviour` and `behavior` are the same one.
 ///
-/// From `AcceptWord` on they are words of full LOTOS, which basic LOTOS does not use.
+/// Those from `AcceptWord` on are keywords of full LOTOS that basic LOTOS does not use.
 #[derive(Clone, Copy, Debug, PartialEq, Eq)]
 pub enum Word {
     SpecificationWord,
@@ -25,7 +25,7 @@ pub enum Word {
     TypeWord,
 }
 
-/// A mark.
+/// A sign: a token that is no word.
 #[derive(Clone, Copy, Debug, PartialEq, Eq)]
 pub enum Sign {
     /// `;`
@@ -63,7 +63,7 @@ pub enum Sign {
 /// What a token is.
 #[derive(Clone, Copy, Debug, PartialEq, Eq)]
 pub enum TokenKind {
-    /// A word that is not reserved: a gate, a process or the specification.
+    /// A word that is no keyword: the name of a gate, a process or the specification.
     Identifier,
     Reserved(Word),
     Sign(Sign),

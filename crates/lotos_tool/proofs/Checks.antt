@@ -1,4 +1,4 @@
--- How the writing of a check ends.
+-- How the output of a check ends.
 use Rattle.std.proofs.Common.{◌≡◌, ℕ, List, [], length, map, Option, None, ◌∙◌, sym, ap, append-nil}
 use Rattle.std.proofs.lemmas.List.{length-map}
 use Rattle.std.specs.Io.KnownBytes.{Appends}

@@ -1,4 +1,4 @@
--- Places of faults.
+-- Positions of faults.
 use Rattle.std.proofs.Common.{◌≡◌, ℕ, ◌⊎◌, inl, inr, List, Some, refl, sym, subst}
 use Rattle.lotos_text.specs.Position.{IsPosition}
 use Rattle.lotos_text.specs.declared.fault.TextFault.{TextFault}

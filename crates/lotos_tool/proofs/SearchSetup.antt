@@ -1,4 +1,4 @@
--- What a listing says of what is asked.
+-- The question of a listing, from the request and the text.
 use Rattle.std.proofs.Common.{◌≡◌, ◌↔◌, ℕ, List, [], Option, false, None, Some, arith, inl, inr, refl, sym, subst, ◌∙◌}
 use Rattle.std.proofs.KnownBytes.{Consumes-nil, Keeps-refl}
 use Rattle.std.specs.declared.string.String.{String}

@@ -6,7 +6,7 @@ use Rattle.lotos_text.specs.declared.ast.Functionality.TheVariants.{Exit, NoExit
 use Rattle.lotos_check.specs.Flat.{FlatProcess, System}
 use Rattle.lotos_search.specs.Order.{Label}
 
--- an item of a listing: a sequence, and its least word
+-- an item of a listing: a sequence, and its least run
 pub record Item : Type 0 where
   pub sequence : List Label
   pub word : List Label
@@ -15,17 +15,17 @@ pub record Item : Type 0 where
 abbrev pub sequences : List Item → List (List Label)
 sequences items = map (λ item. item.sequence) items
 
--- a sequence as text: its labels, separated by one blank
+-- a sequence as text: its labels, separated by one blank each, or `<empty>`
 abbrev pub sequence_text : List Label → List ℕ
 sequence_text [] = codes "<empty>"
 sequence_text (l ∷ rest) = l ++ flat_map (λ m. 32 ∷ m) rest
 
--- what a line says behind its sequence: nothing, or where words are asked for ` : ` and the word
+-- what follows the sequence in a line: nothing, or with `explain` ` : ` and the run
 abbrev pub run_text : (explain : Bool) → List Label → List ℕ
 run_text false word = []
 run_text true word = codes " : " ++ sequence_text word
 
--- the line of an item, which a line feed ends
+-- the line of an item, ended by a line feed
 abbrev pub line_of : (explain : Bool) → Item → List ℕ
 line_of explain item = sequence_text item.sequence ++ run_text explain item.word ++ 10 ∷ []
 

@@ -1,4 +1,4 @@
--- What a run of the command does, and the status that it ends with.
+-- What a run of the program does, and its exit status.
 use Rattle.std.specs.Prelude.{◌≡◌, ℕ, ◌⊎◌, ◌==◌, Bool, List, Option, false, if◌then◌else◌}
 use Rattle.std.specs.Io.KnownBytes.{Appends, Keeps}
 use Rattle.lotos_tool.specs.OutcomeContracts.{SearchOutcome, CheckOutcome, is_input_fault}
@@ -12,67 +12,66 @@ use Rattle.lotos_tool.specs.declared.outcome.Why.TheVariants as why
 use Rattle.lotos_command.specs.declared.command.SearchRequest.{SearchRequest}
 use Rattle.lotos_command.specs.declared.command.Request.TheVariants as asked
 
--- the status of what stopped: 3 at the limit, 4 at a prefix that is over, 5 where memory was wanting, 6 where the output could
--- not be written
+-- the status of a stop: 3 at the limit, 4 at an oversized prefix, 5 out of memory, 6 if the output could not be written
 abbrev pub stop_status_of : Why → ℕ
 stop_status_of why.Limit = 3
 stop_status_of (why.OverTerms prefix) = 4
 stop_status_of why.Memory = 5
 stop_status_of why.Write = 6
 
--- the status of a search: 0 and 1 where it is complete, with lines and with none, and 2 where it is refused
+-- the status of a search: 0 if it is complete with lines, 1 if it is complete without, 2 if it is refused
 abbrev pub status_of : Ended → ℕ
 status_of (Complete lines) = if lines == 0 then 1 else 0
 status_of (Refused cause) = 2
 status_of (Stopped last cause) = stop_status_of cause
 
--- the words ask for a search, its answer is true, and the status is that of the answer
+-- the words ask for a search, its outcome is true, and the status is that of the outcome
 pub record SearchRan (words : List (List ℕ)) (left left' got got' : Option (List ℕ)) (failed : Bool) (status : ℕ) : Type 0 where
   pub request : SearchRequest
   pub asked : RequestOf words (request_view (asked.Search request))
   pub ended : Ended
   pub answered : SearchOutcome request left left' got got' ended
-  -- the reader failed exactly where the answer says so
+  -- the reader failed exactly if the outcome says so
   pub input : failed ≡ is_input_fault ended
   pub status_is : status ≡ status_of ended
 
--- the status of a check: as that of a search, but 0 wherever it is complete
+-- the status of a check: that of a search, but 0 if it is complete
 abbrev pub check_status_of : Ended → ℕ
 check_status_of (Complete lines) = 0
 check_status_of (Refused cause) = 2
 check_status_of (Stopped last cause) = stop_status_of cause
 
--- the words ask for a check, its answer is true, and the status is that of the answer
+-- the words ask for a check, its outcome is true, and the status is that of the outcome
 pub record CheckRan (words : List (List ℕ)) (left left' got got' : Option (List ℕ)) (failed : Bool) (status : ℕ) : Type 0 where
   pub asked : RequestOf words (request_view asked.Check)
   pub ended : Ended
   pub answered : CheckOutcome left left' got got' ended
-  -- the reader failed exactly where the answer says so
+  -- the reader failed exactly if the outcome says so
   pub input : failed ≡ is_input_fault ended
   pub status_is : status ≡ check_status_of ended
 
--- the text was written and the status is 0, or the output failed and the status is 6
+-- the text was written and the status is 0, or the output failed after a prefix of it and the status is 6
 pub data HelpWritten (got got' : Option (List ℕ)) (text : List ℕ) (status : ℕ) : Type 0 where
   written : status ≡ 0 → Appends got got' text → HelpWritten got got' text status
   broken_off : status ≡ 6 → AppendsBeginning got got' text → HelpWritten got got' text status
 
--- what the output got where nothing is searched and nothing checked, by the status
+-- what was written to the output if neither command ran, by the status
 pub data MessageOutput (words : List (List ℕ)) (got got' : Option (List ℕ)) (status : ℕ) : Type 0 where
-  -- help, for which the words ask
+  -- help, if the words ask for it
   helped : AskForHelp words → (text : List ℕ) → HelpWritten got got' text status → MessageOutput words got got' status
-  -- nothing, the words being wrong
+  -- nothing, if the words are wrong
   wrong : AreRejected words → status ≡ 2 → Keeps got got' → MessageOutput words got got' status
-  -- nothing, memory being wanting
+  -- nothing, if memory ran out
   wanting : status ≡ 5 → Keeps got got' → MessageOutput words got got' status
 
--- nothing is searched or checked, nothing is read, and words without a fault are left only for want of memory
+-- neither command ran, nothing was read, and for words that are accepted this means that memory ran out
 pub record NoCommandRan (words : List (List ℕ)) (left left' got got' : Option (List ℕ)) (failed : Bool) (status : ℕ) : Type 0 where
   pub kept : Keeps left left'
   pub unfailed : failed ≡ false
   pub reported : MessageOutput words got got' status
   pub taken : AreAccepted words → status ≡ 5
 
--- what the run of the words did, whether the reader failed, and the status that it ended with
+-- what the program did for the words, whether the reader failed, and the exit status
 abbrev pub Ran : List (List ℕ) → Option (List ℕ) → Option (List ℕ) → Option (List ℕ) → Option (List ℕ) → Bool → ℕ → Type 0
 Ran words left left' got got' failed status =
     SearchRan words left left' got got' failed status ⊎ CheckRan words left left' got got' failed status

@@ -1,4 +1,4 @@
-//! The check from end to end.
+//! The command `check`, from the text to the lines of its processes.
 ghost use Rattle.std.specs.Prelude.{◌≡◌, ◌+◌, ◌≤◌, false};
 ghost use Rattle.lotos_text.specs.Limits.{max_text_length};
 ghost use Rattle.lotos_tool.specs.OutcomeContracts.{CheckOutcome, is_input_fault, is_output_fault};
@@ -10,12 +10,13 @@ use crate::specification_input::{Rejection, read_specification};
 use lotos_device::{DeviceFailed, Sink, Source, write_bytes};
 use std::alloc::Global;
 
-/// Reads a specification, checks it, and writes a line for each of its processes, in the order of their definitions, each
-/// followed at once by its inner ones: its name, how many formal gates it has, and `exit` or `noexit`.
+/// Reads a specification, checks it, and writes a line for each of its processes: its name, the number of its formal
+/// gates, and `exit` or `noexit`. The processes come in the order of their definitions, each followed at once by its
+/// inner ones.
 ///
-/// What is refused is answered with nothing written. All lines are composed before the first byte is written, and where no
-/// fault came the writing ends with one flush. At most one byte more than a text may have is taken from the reader, whatever
-/// it gives. The reader and the writer have not failed yet.
+/// A refusal is returned with nothing written. All lines are composed before the first byte is written; if no write
+/// fails, one flush follows. At most one byte more than a text may have is taken from the reader, whatever it returns.
+/// Neither the reader nor the writer may have failed before.
 pub fn check_text<R: Source, W: Sink>(alloc: Global, reader: &mut R, writer: &mut W) -> Ended
     requires reader { R.has_failed reader.old ≡ false }
     requires writer { W.has_failed writer.old ≡ false }

@@ -1,9 +1,9 @@
-//! The command `lotosseq` as a library: from the words of the command and the bytes of a specification to the lines of a
-//! listing.
+//! The command `lotosseq` as a library: from the words of the command line and the bytes of a specification to the
+//! lines of a listing.
 //!
-//! [`request`] reads the words, [`list`] reads a text and writes the listing, [`check_text`] reads a text and writes its
-//! processes, and [`run`] does what the words ask for and answers the status. Readers and writers are a [`Source`] and a
-//! [`Sink`]; [`FromRead`] and [`FromWrite`] make them of std's.
+//! [`request`] reads the words, [`list`] reads a text and writes the listing, [`check_text`] reads a text and writes
+//! its processes, and [`run`] does what the words ask for and returns the exit status. Readers and writers are a
+//! [`Source`] and a [`Sink`]; [`FromRead`] and [`FromWrite`] make them from std's.
 #![tactic(auto)]
 
 mod check_command;

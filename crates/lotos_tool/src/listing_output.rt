@@ -1,4 +1,4 @@
-//! Writes a listing, item by item as the search finds them.
+//! The output of a listing, item by item as the search finds them.
 ghost use Rattle.std.specs.Prelude.{◌≡◌, ◌⊎◌, ◌≤◌, ℕ, List, IfErr, IfOk, IfSome, IsErrOf, OnOk, Option, false, string_bytes};
 ghost use Rattle.std.specs.Io.KnownBytes.{Appends, Keeps};
 ghost use Rattle.lotos_search.specs.Order.{Label as Text};
@@ -20,7 +20,7 @@ use lotos_search::{Found, Halt, Search};
 use lotos_terms::Label;
 use std::alloc::{AllocError, Global};
 
-/// Writes the lines of what the search finds, as it finds them.
+/// Writes the line of each item as the search finds it, until the listing ends or stops.
 pub fn write_listing<W: Sink>(
     alloc: Global,
     request: &SearchRequest,
@@ -57,7 +57,7 @@ pub fn write_listing<W: Sink>(
     }
 }
 
-/// Writes an item's line, and answers the text of its sequence. The line is whole, and the text is made, before the first byte
+/// Writes an item's line and returns the text of its sequence. The line and the text are complete before the first byte
 /// is written.
 fn write_item<W: Sink>(
     alloc: Global,
@@ -90,7 +90,7 @@ fn write_item<W: Sink>(
     }
 }
 
-/// Whether so many lines are the limit.
+/// Whether the limit is this number of lines.
 fn is_at_limit(lines: u64, limit: Option<u32>) -> bool
     ensures at { result ≡ is_at_limit lines limit }
     ensures small { IsSmall limit }
@@ -101,7 +101,7 @@ fn is_at_limit(lines: u64, limit: Option<u32>) -> bool
     }
 }
 
-/// Why a listing stops where the search, which went on before, was halted.
+/// Why a listing stops, given the halt of a search that was running.
 fn cause_of_halt<W: Sink>(alloc: Global, search: &Search, halt: &Halt, writer: &mut W) -> Why
     requires halt { (cursor : Option (List Text)) × IsHalt search.now.question cursor halt.now }
     requires unfailed { W.has_failed writer.old ≡ false }
@@ -116,7 +116,7 @@ fn cause_of_halt<W: Sink>(alloc: Global, search: &Search, halt: &Halt, writer: &
     }
 }
 
-/// Why a listing stops at this prefix, which reaches too many terms; that is passed on by one flush.
+/// Why a listing stops at an oversized prefix: that prefix, or out of memory for its text, or a failed flush.
 fn oversized_cause<W: Sink>(alloc: Global, search: &Search, prefix: &[Label], writer: &mut W) -> Why
     requires shown { (r : List Text) × ArePrinted search.now.question.names prefix.now r }
     requires unfailed { W.has_failed writer.old ≡ false }

@@ -1,4 +1,4 @@
-//! Messages for standard error. They take no memory, and a writer that fails is let be.
+//! Messages for standard error. They do not allocate, and write errors are ignored.
 
 use crate::outcome::Why;
 use crate::refusal::Refusal;
@@ -6,12 +6,12 @@ use itoa::Buffer;
 use std::fmt;
 use std::io::Write;
 
-/// Says why a search or a check is refused.
+/// Reports why a search or a check is refused.
 pub(crate) fn report_refusal<E: Write>(err: &mut E, refusal: &Refusal) {
     let _ = writeln!(err, "lotosseq: {refusal}");
 }
 
-/// Says after which sequence a search stopped, and why. A prefix could reach so many terms.
+/// Reports after which sequence a search stopped, and why. `terms` is the bound on the terms of a prefix.
 pub(crate) fn report_stop<E: Write>(err: &mut E, last: &Option<String>, why: &Why, terms: usize) {
     let cause = CauseText { why, terms };
     let _ = match last {
@@ -20,17 +20,17 @@ pub(crate) fn report_stop<E: Write>(err: &mut E, last: &Option<String>, why: &Wh
     };
 }
 
-/// Says why a command that lists no sequences failed.
+/// Reports why a command that lists no sequences failed.
 pub(crate) fn report_failure<E: Write>(err: &mut E, why: &Why) {
     let _ = writeln!(err, "lotosseq: {}", CauseText { why, terms: 0 });
 }
 
-/// Passes on a text that has its own line feeds.
+/// Writes a text that has its own line feeds.
 pub(crate) fn report_text<E: Write>(err: &mut E, text: &str) {
     let _ = write!(err, "{text}");
 }
 
-/// Why a search or a check stopped, and how many terms a prefix could reach.
+/// The text of why a search or a check stopped; `terms` is the bound on the terms of a prefix.
 #[derive(Drop)]
 struct CauseText<'a> {
     why: &'a Why,
@@ -61,7 +61,7 @@ impl fmt::Display for NumberText {
     }
 }
 
-/// A line and a column before what is said of them, or nothing.
+/// `line:column: ` before a message, or nothing.
 #[derive(Clone, Copy, Debug)]
 pub(crate) struct PositionText(pub Option<(usize, usize)>);
 

@@ -1,26 +1,26 @@
-//! How a search or a check ended.
+//! The outcome of a search or a check.
 
 use crate::refusal::Refusal;
 
 /// How a search or a check ended.
 #[derive(Debug, Drop)]
 pub enum Ended {
-    /// All was written: so many lines, or the greatest `u64` where there are more.
+    /// Everything was written: `lines` lines, or the greatest `u64` if there are more.
     Complete { lines: u64 },
-    /// Nothing was written, and this is why.
+    /// Nothing was written, for this reason.
     Refused(Refusal),
-    /// It stopped. `last` is the last sequence whose line was written whole; a check has none.
+    /// The output stopped. `last` is the last sequence whose line was written completely; a check has none.
     Stopped { last: Option<String>, why: Why },
 }
 
-/// Why a search or a check stopped. A check has no limit, and no prefixes.
+/// Why a search or a check stopped. A check has no limit and no prefixes.
 #[derive(Debug, Drop)]
 pub enum Why {
-    /// The lines of the limit are written.
+    /// As many lines as the limit were written.
     Limit,
-    /// This prefix, the first that does, can still match and reaches more terms than were allowed.
+    /// The first oversized prefix: it can still match and reaches more terms than the bound.
     OverTerms(String),
-    /// A growth of the heap was refused.
+    /// Out of memory.
     Memory,
     /// The output could not be written.
     Write,

@@ -1,4 +1,4 @@
-//! Ends the writing.
+//! The flush at the end of the output.
 ghost use Rattle.std.specs.Prelude.{◌≡◌, if◌then◌else◌, false};
 ghost use Rattle.std.specs.Io.KnownBytes.{Keeps};
 ghost use Rattle.lotos_tool.specs.OutcomeContracts.{is_output_fault};
@@ -7,7 +7,7 @@ ghost use Rattle.lotos_tool.specs.SearchSetup.{IsFinished};
 use crate::outcome::{Ended, Why};
 use lotos_device::{DeviceFailed, Sink};
 
-/// Ends the writing with one flush.
+/// Flushes the complete output.
 pub fn flush_complete<W: Sink>(writer: &mut W, last: Option<String>, lines: u64) -> Ended
     requires { W.has_failed writer.old ≡ false }
     ensures finished { IsFinished (W.got writer.old) (W.got writer.new) last lines result }
@@ -22,7 +22,7 @@ pub fn flush_complete<W: Sink>(writer: &mut W, last: Option<String>, lines: u64)
     }
 }
 
-/// Ends the writing of what stops with one flush; where that fails, this is the cause.
+/// Flushes output that stopped for this cause. Returns the cause, or `Why::Write` if the flush fails.
 pub fn flush_stopped<W: Sink>(writer: &mut W, why: Why) -> Why
     requires { W.has_failed writer.old ≡ false }
     ensures kept { Keeps (W.got writer.old) (W.got writer.new) }

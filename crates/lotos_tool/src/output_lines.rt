@@ -12,7 +12,8 @@ use lotos_terms::Label;
 use lotos_text::Functionality;
 use std::alloc::{AllocError, Global};
 
-/// A sequence as text: its printed labels, separated by one blank, or `<empty>`. The labels are those of the search.
+/// A sequence as text: its printed labels, separated by one blank each, or `<empty>`. The labels must be those of the
+/// search.
 pub fn format_sequence(
     alloc: Global,
     search: &Search,
@@ -26,7 +27,7 @@ pub fn format_sequence(
         return String::from_str(alloc, "<empty>");
     };
     let mut text = String::from_str(alloc, search.label_text(*first))?;
-    // Room for labels of one letter.
+    // Enough for labels of one letter.
     text.reserve(rest.len().saturating_mul(2))?;
     for label in rest {
         text.push_str(" ")?;
@@ -35,7 +36,7 @@ pub fn format_sequence(
     Ok(text)
 }
 
-/// The line of a sequence with this text, and with this word where words are asked for.
+/// The line of a sequence with this text, followed by its run if `explain` is set.
 pub fn format_line(
     alloc: Global,
     search: &Search,
@@ -56,7 +57,7 @@ pub fn format_line(
     Ok(line)
 }
 
-/// Adds what a line says of a word.
+/// Appends ` : ` and the run.
 fn append_run(
     alloc: Global,
     search: &Search,

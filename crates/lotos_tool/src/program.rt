@@ -1,4 +1,4 @@
-//! The command from its words to its status.
+//! The program, from the words of its command line to its exit status.
 ghost use Rattle.std.specs.Prelude.{◌≡◌, ◌+◌, ◌≤◌, ◌==◌, false, OnOk, OnErr, is_err};
 ghost use Rattle.std.specs.Io.KnownBytes.{Appends};
 ghost use Rattle.lotos_text.specs.Limits.{max_text_length};
@@ -16,11 +16,11 @@ use lotos_device::{DeviceFailed, Sink, Source, write_bytes};
 use std::alloc::Global;
 use std::io::Write;
 
-/// Runs the command and answers its status.
+/// Runs the command and returns its exit status.
 ///
-/// The first of the words is the program's own name. The listing, or the help where the words ask for it, goes to `out`, and
-/// every message to `err`, whose faults change no status. At most one byte more than a text may have is taken from the reader,
-/// whatever it gives. The reader and the output have not failed yet.
+/// The first of the words is the program's own name. The listing, or the help if the words ask for it, goes to `out`,
+/// and every message to `err`; errors of `err` change no status. At most one byte more than a text may have is taken
+/// from the reader, whatever it returns. Neither the reader nor `out` may have failed before.
 pub fn run<R: Source, W: Sink, E: Write>(
     alloc: Global,
     words: &[&str],
@@ -54,7 +54,7 @@ pub fn run<R: Source, W: Sink, E: Write>(
     }
 }
 
-/// Tells of a search that is not complete, and answers its status. A prefix could reach so many terms.
+/// Reports a search that is not complete, and returns its status. `terms` is the bound on the terms of a prefix.
 fn report_search<E: Write>(ended: &Ended, terms: usize, err: &mut E) -> u8
     ensures status { result ≡ status_of ended.now }
     ensures output { is_output_fault ended.now ≡ (result == 6) }
@@ -73,7 +73,7 @@ fn report_search<E: Write>(ended: &Ended, terms: usize, err: &mut E) -> u8
     }
 }
 
-/// Tells of a check that is not complete, and answers its status.
+/// Reports a check that is not complete, and returns its status.
 fn report_check<E: Write>(ended: &Ended, err: &mut E) -> u8
     ensures status { result ≡ check_status_of ended.now }
     ensures output { is_output_fault ended.now ≡ (result == 6) }
@@ -91,7 +91,7 @@ fn report_check<E: Write>(ended: &Ended, err: &mut E) -> u8
     }
 }
 
-/// The status of what stopped for this cause.
+/// The status of a command that stopped for this cause.
 fn stop_status(why: &Why) -> u8
     ensures status { result ≡ stop_status_of why.now }
     ensures output { is_output_cause why.now ≡ (result == 6) }
@@ -104,7 +104,7 @@ fn stop_status(why: &Why) -> u8
     }
 }
 
-/// Writes the help, and answers the status.
+/// Writes the help and returns the status.
 fn write_help<W: Sink, E: Write>(text: &str, out: &mut W, err: &mut E) -> u8
     requires { W.has_failed out.old ≡ false }
     ensures shown { HelpWritten (W.got out.old) (W.got out.new) text.now result }

@@ -7,26 +7,27 @@ use lotos_search::MarkFault;
 use lotos_text::TextFault;
 use thiserror::Error;
 
-/// Why nothing is searched or listed. Lines and columns are counted from 1, columns in bytes.
+/// Why nothing is listed. Lines and columns are counted from 1, columns in bytes.
 #[derive(Debug, Drop, Error)]
 pub enum Refusal {
-    /// The text spells no specification. The place is that of the fault's offset; E03 has none. No fault here is E99.
+    /// The text spells no specification. `place` is the position of the fault's offset; E03 has none. The fault is
+    /// never E99.
     #[error("{}{}", PositionText(*.place), .fault)]
     Text {
         fault: TextFault,
         place: Option<(usize, usize)>,
     },
-    /// The specification breaks a static rule. The place is that of the fault's offset. No fault here is E99.
+    /// The specification breaks a static rule. Line and column are those of the fault's offset. The fault is never E99.
     #[error("{}{}", PositionText(Some((*.line, *.column))), .fault)]
     Check {
         fault: CheckFault,
         line: usize,
         column: usize,
     },
-    /// The words of the pattern spell none. No fault here is E99.
+    /// The words spell no pattern. The fault is never E99.
     #[error(transparent)]
     Pattern(PatternFault),
-    /// The line of the mark is none of a listing. No fault here is E99.
+    /// The line of the mark is not one of a listing. The fault is never E99.
     #[error(transparent)]
     Mark(MarkFault),
     /// The input cannot be read.

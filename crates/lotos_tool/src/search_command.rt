@@ -1,4 +1,4 @@
-//! The search from end to end.
+//! The command `search`, from the text to the lines of the listing.
 ghost use Rattle.std.specs.Prelude.{◌≡◌, ◌+◌, ◌≤◌, IfErr, IfOk, None, Some, false, map, string_bytes};
 ghost use Rattle.lotos_text.specs.Limits.{max_text_length};
 ghost use Rattle.lotos_check.specs.CheckedView.{system_of};
@@ -23,15 +23,16 @@ use lotos_terms::Table;
 use std::alloc::{AllocError, Global};
 
 /// Reads a specification and writes the listing of its sequences that match the request's pattern: those that some
-/// derivation of at most the request's depth of steps yields, each once, shorter first, then in the order of their labels.
-/// With a mark only those behind it are written.
+/// derivation of at most the request's depth of steps yields, each once, shorter first, then in the order of their
+/// labels. With a mark only those after it are written.
 ///
-/// The words of the pattern are read first, then the mark, then the text, whose specification is checked. What is refused
-/// first is answered, with nothing written, and for the words and the mark with nothing read. A line is composed whole before
-/// its first byte is written. The listing stops when the limit's lines are written, at the first prefix that reaches more
-/// terms than the request allows, for want of memory, and where the output cannot be written. A complete listing, and one that
-/// stops at the limit or at such a prefix, ends with one flush. At most one byte more than a text may have is taken from the
-/// reader, whatever it gives. The reader and the writer have not failed yet.
+/// The words of the pattern are read first, then the mark, then the text, whose specification is checked. The first of
+/// these to be refused is returned with nothing written, and the words and the mark are refused with nothing read. A
+/// line is composed completely before its first byte is written. The listing stops when as many lines as the limit are
+/// written, at the first prefix that reaches more terms than the request allows, when memory runs out, and when the
+/// output cannot be written. A complete listing, and one that stops at the limit or at such a prefix, ends with one
+/// flush. At most one byte more than a text may have is taken from the reader, whatever it returns. Neither the reader
+/// nor the writer may have failed before.
 pub fn list<R: Source, W: Sink>(
     alloc: Global,
     request: &SearchRequest,
@@ -75,7 +76,7 @@ fn read_pattern(alloc: Global, request: &SearchRequest) -> Result<Pattern, Patte
     Pattern::read(alloc, texts.as_slice(), request.strong)
 }
 
-/// The words, lent.
+/// The words as borrowed texts.
 fn borrow_texts<'a>(alloc: Global, words: &'a [String]) -> Result<Vec<&'a str>, AllocError>
     ensures { IfOk result (λ v. texts_of v.items ≡ map string_bytes words.now) }
 {
@@ -86,7 +87,7 @@ fn borrow_texts<'a>(alloc: Global, words: &'a [String]) -> Result<Vec<&'a str>, 
     Ok(texts)
 }
 
-/// The mark of the line, if one is given.
+/// The mark that the line names, if one is given.
 fn read_mark(alloc: Global, request: &SearchRequest) -> Result<Option<Mark>, MarkFault>
     ensures mark { IfOk result (IsMarkOf request.now.strong request.now.after) }
     ensures fault { IfErr result (IsFaultOfMark request.now.strong request.now.after) }
@@ -97,7 +98,7 @@ fn read_mark(alloc: Global, request: &SearchRequest) -> Result<Option<Mark>, Mar
     }
 }
 
-/// The search for what the request asks of a specification.
+/// Begins the search that the request asks for in a specification.
 fn begin_search(
     alloc: Global,
     request: &SearchRequest,
@@ -109,12 +110,12 @@ fn begin_search(
     ensures { IfOk result (IsSearchFor request.now (system_of found) pattern mark) }
 {
     let table = Table::new(alloc, found)?;
-    // Its start tells that the table is sound.
+    // The contract of `start`: the table is sound.
     let _ = table.start();
     Search::begin(alloc, table, pattern, request.depth, mark, request.terms)
 }
 
-/// How a search ends whose words spell no pattern, for this fault.
+/// The outcome of a search whose words spell no pattern.
 fn pattern_refusal(fault: PatternFault) -> Ended
     ensures { IsPatternOutcome fault result }
 {
@@ -129,7 +130,7 @@ fn pattern_refusal(fault: PatternFault) -> Ended
     }
 }
 
-/// How a search ends whose mark is none, for this fault.
+/// The outcome of a search whose line is no mark.
 fn mark_refusal(fault: MarkFault) -> Ended
     ensures { IsMarkOutcome fault result }
 {
@@ -139,7 +140,7 @@ fn mark_refusal(fault: MarkFault) -> Ended
     }
 }
 
-/// How a search ends for which memory was wanting before any line.
+/// The outcome of a search for which memory ran out before any line.
 fn out_of_memory() -> Ended
     ensures { result ≡ Stopped None Memory }
 {

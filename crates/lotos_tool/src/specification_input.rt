@@ -1,4 +1,4 @@
-//! Reads a text and accepts its specification, or says why not.
+//! The input: reads a text, parses it and checks the specification.
 ghost use Rattle.std.specs.Prelude.{◌≡◌, ◌+◌, ◌≤◌, IfOk, IfErr, false, length};
 ghost use Rattle.lotos_text.specs.OffsetsInside.{IsFaultInside};
 ghost use Rattle.lotos_text.specs.Limits.{max_text_length};
@@ -22,8 +22,8 @@ pub enum Rejection {
     Memory,
 }
 
-/// Reads a whole text and answers the specification that it is accepted as. At most one byte more than a text may have is
-/// taken from the reader, whatever it gives.
+/// Reads a whole text and returns its specification if it is accepted. At most one byte more than a text may have is
+/// taken from the reader, whatever it returns.
 pub fn read_specification<R: Source>(alloc: Global, reader: &mut R) -> Result<Checked, Rejection>
     requires { R.has_failed reader.old ≡ false }
     ensures accepted { IfOk result (λ found. ReadsAccepted (R.left reader.old) (R.left reader.new) (system_of found)) }
@@ -45,7 +45,7 @@ pub fn read_specification<R: Source>(alloc: Global, reader: &mut R) -> Result<Ch
     accept_text(alloc, text.as_slice())
 }
 
-/// The specification that a text is accepted as.
+/// The specification of a text, if it is accepted.
 fn accept_text(alloc: Global, text: &[u8]) -> Result<Checked, Rejection>
     requires { length text.now ≤ max_text_length }
     ensures accepted { IfOk result (λ found. Accepted text.now (system_of found)) }
@@ -61,7 +61,7 @@ fn accept_text(alloc: Global, text: &[u8]) -> Result<Checked, Rejection>
     }
 }
 
-/// Why a text is not accepted, from the fault that the check of its specification answered.
+/// The rejection for a fault of the static check.
 fn reject_check(text: &[u8], fault: CheckFault) -> Rejection
     requires broken { IsCheckFaultOfText text.now fault }
     requires inside { IsOffsetWithin (length text.now) fault }
@@ -80,7 +80,7 @@ fn reject_check(text: &[u8], fault: CheckFault) -> Rejection
     }
 }
 
-/// Why a text is not accepted, from the fault that its parse answered.
+/// The rejection for a fault of the parse.
 fn reject_text(text: &[u8], fault: TextFault) -> Rejection
     requires refused { IsFaultOfText text.now fault }
     requires nothing { SpellsNoSpecification text.now fault }
@@ -100,7 +100,7 @@ fn is_memory_fault(fault: &TextFault) -> bool
     matches!(fault, TextFault::E99(_))
 }
 
-/// The line and column of a fault, where it has an offset.
+/// The line and column of a fault, if it has an offset.
 fn position_of(text: &[u8], fault: &TextFault) -> Option<(usize, usize)>
     requires { IsFaultInside (length text.now) fault.now }
     ensures { IsPositionOf text.now fault.now result }

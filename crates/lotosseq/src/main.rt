@@ -1,4 +1,4 @@
-//! The program `lotosseq`: hands its words and its standard streams to the library, and ends with the status.
+//! The program `lotosseq`: passes its words and its standard streams to the library, and exits with the status.
 #![tactic(auto)]
 
 use lotos_tool::{FromRead, FromWrite, run};
@@ -39,7 +39,7 @@ fn texts_of<'a>(alloc: Global, words: &'a [String]) -> Result<Vec<&'a str>, Allo
     Ok(texts)
 }
 
-/// Ends as a command that could not be read for memory.
+/// Reports that memory ran out before the words could be read, and returns the status.
 fn no_words(rt: &impl Eprint) -> ExitCode {
     let _ = eprintln!(rt; "lotosseq: E99 out of memory");
     ExitCode::from(5)

@@ -1,4 +1,4 @@
-//! Calls behind the end and behind a halt, and the order of sequences.
+//! Calls after the end and after a halt, and the order of sequences.
 use super::listing_run::{Asked, begin};
 use lotos_search::{Halt, compare};
 use std::test::Fail;

@@ -1,6 +1,7 @@
-//! Tests of the search through what its crate makes public: worked rows, marks, and small specifications beside two slow searches.
+//! Tests of the search through its crate's public items: worked rows, marks, and small specifications against two
+//! oracles.
 //!
-//! They stand in a crate of their own, since what is tested is proved once below it.
+//! They are a crate of their own, because a crate with tests inside is proved twice.
 #![tactic(auto)]
 
 #[cfg(test)]

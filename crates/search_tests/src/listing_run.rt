@@ -1,4 +1,4 @@
-//! What is asked of a search, and what it gives.
+//! A search and all that it returns.
 ghost use Rattle.lotos_check.specs.NameLists.{In};
 ghost use Rattle.lotos_terms.specs.TableView.{IsPrintedAs};
 ghost use Rattle.lotos_terms.specs.declared.label.Label.{Label as TermLabel};
@@ -12,7 +12,7 @@ use lotos_text::parse;
 use std::alloc::{AllocError, Global};
 use std::test::Fail;
 
-/// All labels that the specifications here show, in order.
+/// All labels of the specifications here, in order.
 pub const LABELS: [&str; 6] = ["A", "A1", "B", "C", "exit", "i"];
 
 /// More items than any listing here has.
@@ -21,7 +21,8 @@ const MOST_ITEMS: usize = 10_000;
 /// What is searched for.
 #[derive(Clone, Copy)]
 pub struct Asked<'a> {
-    /// The functionality and the behaviour of a specification with the gates `a`, `a1`, `b` and `c`, and what stands behind it.
+    /// The functionality and the behaviour of a specification with the gates `a`, `a1`, `b` and `c`, and what follows
+    /// them.
     pub behaviour: &'a str,
     pub words: &'a [&'a str],
     pub strong: bool,
@@ -41,7 +42,7 @@ pub struct Item {
 #[derive(Drop)]
 pub enum Ending {
     Complete,
-    /// This prefix is over.
+    /// This prefix is oversized.
     Over(Vec<&'static str>),
 }
 
@@ -74,7 +75,7 @@ pub fn begin(alloc: Global, asked: Asked) -> Result<Search, Fail> {
     Ok(search)
 }
 
-/// What the search gives, from its first item to its last.
+/// What the search returns, from its first item to its end.
 pub fn run(alloc: Global, asked: Asked) -> Result<Listing, Fail> {
     let mut search = begin(alloc, asked)?;
     let mut items = Vec::new(alloc);
@@ -87,7 +88,7 @@ pub fn run(alloc: Global, asked: Asked) -> Result<Listing, Fail> {
     Err("a listing without end")?
 }
 
-/// What one call gives.
+/// What one call returns.
 enum Step {
     Item(Item),
     End(Ending),
@@ -120,7 +121,7 @@ fn texts(alloc: Global, search: &Search, labels: &[Label]) -> Result<Vec<&'stati
     Ok(texts)
 }
 
-/// The one of the labels with this text.
+/// The one of the labels that has this text.
 pub fn known(text: &str) -> Option<&'static str> {
     for label in LABELS {
         if label == text {
@@ -130,7 +131,7 @@ pub fn known(text: &str) -> Option<&'static str> {
     None
 }
 
-/// A listing as text: its items, each with its word where that is not the sequence, and how it ends.
+/// A listing as text: its items, each with its run if that is not the sequence, and how it ends.
 pub fn text_of(alloc: Global, listing: &Listing) -> Result<String, AllocError> {
     text_from(alloc, listing, 0)
 }
@@ -147,7 +148,7 @@ pub fn text_from(alloc: Global, listing: &Listing, first: usize) -> Result<Strin
     Ok(out)
 }
 
-/// Adds an item, with its word where that is not the sequence.
+/// Appends an item, with its run if that is not the sequence.
 pub fn add_item(out: &mut String, sequence: &[&str], word: &[&str]) -> Result<(), AllocError> {
     spell(out, sequence)?;
     if sequence != word {
@@ -167,7 +168,7 @@ pub fn add_ending(out: &mut String, ending: &Ending) -> Result<(), AllocError> {
     }
 }
 
-/// Adds the labels with blanks between them.
+/// Appends the labels, separated by one blank each.
 pub fn spell(out: &mut String, labels: &[&str]) -> Result<(), AllocError> {
     let Some((first, others)) = labels.split_first() else {
         return out.push_str("<empty>");

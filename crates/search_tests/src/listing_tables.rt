@@ -1,4 +1,4 @@
-//! Worked rows: what searches give, worked out by hand.
+//! Worked rows: what searches return, worked out by hand.
 use super::listing_run::{Asked, run, text_of};
 use std::alloc::Global;
 use std::process::Abort;
@@ -7,7 +7,7 @@ use std::test::Fail;
 /// More terms than any prefix here reaches.
 const ALL: usize = 1000;
 
-/// A row: depth, words, and what is given: the items, each with its word where that is not the sequence, and how it ends.
+/// A row: depth, words, and the listing: the items, each with its run if that is not the sequence, and how it ends.
 type Plain = (u8, &'static [&'static str], &'static str);
 
 const ACTIONS: &[(&str, &[Plain])] = &[
@@ -145,7 +145,7 @@ const SHOWN: &[(&str, &[Plain])] = &[
     ),
 ];
 
-/// Compares what is given without a mark and a bound.
+/// Compares listings without a mark and a bound.
 fn expect(
     rt: &impl Abort,
     alloc: Global,
@@ -190,7 +190,7 @@ fn lists_internal_steps(rt: HostRuntime) -> Result<(), Fail> {
     expect(&rt, rt.alloc(), SHOWN, true)
 }
 
-/// Marks before, between, at and behind the items `B`, `A B` and `A exit`, and what stands behind them.
+/// Marks before, between, at and after the items `B`, `A B` and `A exit`, and what comes after them.
 const MARKS: &[(&str, &str)] = &[
     ("<empty>", "B; A B; A exit; end"),
     ("A", "B; A B; A exit; end"),
@@ -221,7 +221,7 @@ fn goes_on_behind_marks(rt: HostRuntime) -> Result<(), Fail> {
     Ok(())
 }
 
-/// Whether internal steps are shown, a mark, and what stands behind it.
+/// Whether internal steps are observed, a mark, and what comes after it.
 const WORD_MARKS: &[(bool, &str, &str)] = &[
     (false, "A : i A", "A B; end"),
     (false, "A", "A B; end"),
@@ -255,7 +255,7 @@ const THREE: &str = "noexit behaviour a; stop [] b; stop";
 
 const HIDDEN: &str = "noexit behaviour i; a; stop";
 
-/// A behaviour, a depth, the words, a mark, the most terms of a prefix, and what is given.
+/// A behaviour, a depth, the words, a mark, the bound on the terms of a prefix, and the listing.
 const BOUNDS: &[(&str, u8, &[&str], Option<&str>, usize, &str)] = &[
     (ONE, 2, &["<any>"], None, 1, "over A"),
     (TWO, 1, &["<any>"], None, 1, "A; over B"),

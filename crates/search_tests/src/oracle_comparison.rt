@@ -1,4 +1,4 @@
-//! Searches of small specifications beside two slow ones.
+//! Searches of small specifications against the two oracles.
 use super::derivation_oracle::{Derivation, derivations, listing_by_derivations};
 use super::graph::Graph;
 use super::length_oracle::{Question, add_count, listing_by_length};
@@ -15,15 +15,15 @@ use std::test::Fail;
 /// More terms than any prefix here reaches.
 const ALL: usize = 1000;
 
-/// The most terms of a prefix.
+/// The bounds on the terms of a prefix.
 const BOUNDS: [usize; 3] = [1, 3, ALL];
 
-/// A specification, and what is known of it up to a depth.
+/// A specification, and its terms and derivations up to a depth.
 #[derive(Drop)]
 struct Sample {
     behaviour: &'static str,
     depth: u8,
-    /// Which quarter of the patterns it takes.
+    /// The quarter of the patterns that it is searched for.
     turn: usize,
     graph: Graph,
     derivations: Vec<Derivation>,
@@ -69,7 +69,7 @@ fn recursions(rt: HostRuntime) -> Result<(), Fail> {
     compare(&rt, rt.alloc(), RECURSIONS, 5)
 }
 
-/// Compares the searches of specifications, each with a quarter of the patterns.
+/// Compares the searches of specifications, each for a quarter of the patterns.
 fn compare(
     rt: &impl Abort,
     alloc: Global,
@@ -110,7 +110,7 @@ fn compare_patterns(
     Ok(())
 }
 
-/// Compares without a bound in all depths, and in the greatest with bounds and behind a mark.
+/// Compares at all depths without a bound, and at the greatest depth with bounds and after a mark.
 fn compare_depths(
     rt: &impl Abort,
     alloc: Global,
@@ -137,7 +137,7 @@ fn compare_depths(
     Ok(())
 }
 
-/// Compares one search, and answers what it gave.
+/// Compares one search, and returns its listing.
 fn compare_run(
     rt: &impl Abort,
     alloc: Global,
@@ -173,7 +173,7 @@ fn compare_run(
     Ok(listing)
 }
 
-/// Compares what is behind the item in the middle.
+/// Compares what comes after the item in the middle.
 fn compare_behind_mark(
     rt: &impl Abort,
     alloc: Global,

@@ -82,7 +82,7 @@ pub const OPERATORS: &[&str] = &[
     "exit behaviour (exit [> a; exit) ||| b; exit",
 ];
 
-/// Calls, with gates changed.
+/// Calls that rename gates.
 pub const CALLS: &[&str] = &[
     "noexit behaviour P[a,a] where process P [x,y] : noexit := x; stop |[x]| y; x; stop endproc",
     "noexit behaviour P[a]||Q[a] where process P [x] : noexit := x; stop endproc process Q [x] : noexit := x; stop endproc",
@@ -138,7 +138,7 @@ pub const SECOND_PATTERNS: &[Words] = &[
     &["<while>", "B", "<until>", "<deadlock>"],
 ];
 
-/// Patterns with `i`, for internal steps shown.
+/// Patterns with `i`, for searches in which internal steps are observed.
 pub const THIRD_PATTERNS: &[Words] = &[
     &["i"],
     &["<until>", "i"],

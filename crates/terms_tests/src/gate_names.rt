@@ -1,9 +1,9 @@
-//! The names of the gates that stand in a specification.
+//! The names of the gates that occur in a specification.
 use lotos_check::{Checked, Code};
 use lotos_text::Name;
 use std::alloc::{AllocError, Global};
 
-/// The names of the gates of a specification, in their order, each once.
+/// The names of the gates of a specification, in order and each once.
 pub fn names_of(alloc: Global, checked: &Checked) -> Result<Vec<String>, AllocError> {
     let mut names = Vec::new(alloc);
     add_names(alloc, &mut names, checked.gates())?;
@@ -24,7 +24,7 @@ fn add_names(alloc: Global, into: &mut Vec<String>, names: &[Name]) -> Result<()
     Ok(())
 }
 
-/// Adds the names of the gates that stand in a behaviour.
+/// Appends the names of the gates that occur in a behaviour.
 fn add_gates(alloc: Global, into: &mut Vec<String>, code: &Code) -> Result<(), AllocError> {
     match code {
         Code::Stop | Code::Exit => {}

@@ -1,7 +1,7 @@
-//! Tests of the steps of terms through what their crate makes public: worked rows, and the steps of a table beside a slow
-//! reading of the inference rules over terms of its own.
+//! Tests of the steps of terms through their crate's public items: worked rows, and the steps of a table against an
+//! oracle, a slow reading of the inference rules over terms of its own.
 //!
-//! They stand in a crate of their own, since what is tested is proved once below it.
+//! They are a crate of their own, because a crate with tests inside is proved twice.
 #![tactic(auto)]
 
 #[cfg(test)]

@@ -1,4 +1,4 @@
-//! Tokens of texts, their places, and what begins no token.
+//! Tokens of texts with their offsets, and bytes that begin no token.
 use lotos_text::{Sign, TextFault, TokenKind, Word, tokens};
 use std::alloc::Global;
 use std::test::Fail;

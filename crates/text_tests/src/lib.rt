@@ -1,7 +1,7 @@
-//! Tests of the lexer and parser through what their crate makes public: texts with their tokens, the trees that they spell
-//! or the faults that they give, each worked out by hand.
+//! Tests of the lexer and the parser through their crate's public items: texts with their tokens, their ASTs or their
+//! faults, each worked out by hand.
 //!
-//! They stand in a crate of their own, since what is tested is proved once below it.
+//! They are a crate of their own, because a crate with tests inside is proved twice.
 #![tactic(auto)]
 
 #[cfg(test)]

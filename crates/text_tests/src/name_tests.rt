@@ -1,10 +1,10 @@
-//! Names, each read as that of a specification.
+//! Names, each parsed as that of a specification.
 use lotos_text::{Name, TextFault, parse};
 use std::alloc::Global;
 use std::cmp::Ordering;
 use std::test::Fail;
 
-/// The name that a word of a text is.
+/// The name that a word spells.
 fn name_of(alloc: Global, word: &str) -> Result<Name, TextFault> {
     let text = format!(in alloc; "specification {word} : noexit behaviour stop endspec")?;
     let tree = parse(alloc, text.as_bytes())?;

@@ -7,7 +7,7 @@ use std::test::Fail;
 /// A text up to its behaviour expression, which begins at offset 39.
 const FRONT: &str = "specification S [a] : noexit behaviour ";
 
-/// A piece, so many times.
+/// A piece of text, repeated.
 fn repeated(alloc: Global, piece: &str, count: usize) -> Result<String, AllocError> {
     let mut text = String::new(alloc);
     for _ in 0..count {
@@ -16,7 +16,7 @@ fn repeated(alloc: Global, piece: &str, count: usize) -> Result<String, AllocErr
     Ok(text)
 }
 
-/// A text whose behaviour expression is so many of a piece, the middle, and as many of another piece.
+/// A text whose behaviour expression is a piece repeated, the middle, and another piece repeated as often.
 fn nested(
     alloc: Global,
     piece: &str,
@@ -29,7 +29,7 @@ fn nested(
     format!(in alloc; "{FRONT}{before}{middle}{behind} endspec")
 }
 
-/// Each construct 200 deep is accepted, and 201 deep refused at the token that opens the last one.
+/// Each construct nested 200 deep is accepted, and nested 201 deep is refused at the token that opens the last one.
 #[test]
 fn limits_each_construct(rt: HostRuntime) -> Result<(), Fail> {
     let rows = [
@@ -71,7 +71,7 @@ fn limits_each_construct(rt: HostRuntime) -> Result<(), Fail> {
     Ok(())
 }
 
-/// What stands inside 200 prefixes `a;`, the first of its tokens at offset 439.
+/// What may be inside 200 prefixes `a;`. Its first token is at offset 439.
 #[test]
 fn limits_what_stands_inside(rt: HostRuntime) -> Result<(), Fail> {
     let rows = [
@@ -105,7 +105,7 @@ fn limits_what_stands_inside(rt: HostRuntime) -> Result<(), Fail> {
     Ok(())
 }
 
-/// Inside 200 open constructs an opening token is refused, whatever stands behind it.
+/// Inside 200 open constructs a token that opens another is refused, whatever follows it.
 #[test]
 fn limits_openings_before_a_misfit(rt: HostRuntime) -> Result<(), Fail> {
     let process = "stop where process P:noexit:=";
@@ -133,7 +133,7 @@ fn limits_openings_before_a_misfit(rt: HostRuntime) -> Result<(), Fail> {
     Ok(())
 }
 
-/// How the constructs of one text add up.
+/// How the constructs of a text add up.
 #[test]
 fn counts_nested_constructs(rt: HostRuntime) -> Result<(), Fail> {
     let opened = repeated(rt.alloc(), "(", 199)?;

@@ -1,4 +1,4 @@
-//! Trees and faults in a form that tables can hold.
+//! ASTs and faults in a form that fits in tables.
 use lotos_text::{
     Action, Behaviour, Definition, Functionality, Placed, Specification, SyncSet, TextFault,
 };
@@ -7,7 +7,7 @@ use std::alloc::{AllocError, Global};
 /// A text up to its behaviour expression, which begins at offset 35.
 pub const FRONT: &str = "specification S : noexit behaviour ";
 
-/// The number of the fault and its offset; 0 where there is none.
+/// The number of the fault and its offset; 0 if it has none.
 pub fn fault_of(answer: Result<Specification, TextFault>) -> (u8, usize) {
     match answer {
         Ok(_) => (0, 0),
@@ -43,7 +43,7 @@ pub fn write_definition(
     Ok(())
 }
 
-/// Writes a behaviour expression with every parenthesis, and its names with their offsets.
+/// Writes a behaviour expression with every parenthesis, and with the offsets of its names.
 pub fn write_tree(alloc: Global, out: &mut String, tree: &Behaviour) -> Result<(), AllocError> {
     match tree {
         Behaviour::Stop => out.push_str("stop")?,
@@ -118,7 +118,7 @@ fn write_sync(alloc: Global, out: &mut String, sync: &SyncSet) -> Result<(), All
     }
 }
 
-/// Names in brackets, or nothing for none.
+/// Writes names in brackets, or nothing if there are none.
 fn write_list(alloc: Global, out: &mut String, names: &[Placed]) -> Result<(), AllocError> {
     if names.is_empty() {
         return Ok(());

@@ -1,4 +1,4 @@
-//! Texts that are refused, and at which offset.
+//! Texts that are refused, with the offsets of their faults.
 use super::table_texts::{FRONT, fault_of};
 use lotos_text::{TEXT_LIMIT, parse};
 use std::test::Fail;
@@ -154,7 +154,7 @@ fn refuses_behaviour_expressions(rt: HostRuntime) -> Result<(), Fail> {
     Ok(())
 }
 
-/// What stands behind `where`, which begins at offset 46.
+/// What follows `where`, which begins at offset 46.
 #[test]
 fn refuses_definitions(rt: HostRuntime) -> Result<(), Fail> {
     let rows = [
@@ -262,7 +262,7 @@ fn refuses_words_of_full_lotos(rt: HostRuntime) -> Result<(), Fail> {
     Ok(())
 }
 
-/// Whole texts of comments, of words and of marks.
+/// Complete texts: of comments, of words and of signs.
 #[test]
 fn refuses_whole_texts(rt: HostRuntime) {
     let rows = [

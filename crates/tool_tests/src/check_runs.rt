@@ -1,4 +1,4 @@
-//! Whole runs of `check`: the lines of the processes, and the faults of specifications, which a search names too.
+//! Complete runs of `check`: the lines of the processes, and the faults of specifications, which a search reports too.
 
 use super::memory_devices::{ArrayWriter, SliceReader, WhenFull, run_on};
 

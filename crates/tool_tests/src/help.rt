@@ -2,7 +2,7 @@
 
 use super::memory_devices::{ArrayWriter, SliceReader, WhenFull, run_on};
 
-/// Words that ask for help, and the line with which that help begins.
+/// Words that ask for help, and the first line of that help.
 const ROWS: &[(&[&str], &[u8])] = &[
     (
         &["lotosseq", "check", "--help"],

@@ -1,4 +1,4 @@
-//! Whole runs over texts, words and devices that are as bad as they can be.
+//! Complete runs over texts, words and devices that are as bad as they can be.
 
 mod failing_messages;
 mod foreign_bytes;
@@ -16,7 +16,7 @@ const CHECK: &[&str] = &["lotosseq", "check"];
 
 const NOTHING: &[u8] = b"";
 
-/// What a run writes, what it says, and how it ends.
+/// The output of a run, its message, and its status.
 #[derive(Drop)]
 struct Answer<'a> {
     output: &'a [u8],
@@ -24,7 +24,7 @@ struct Answer<'a> {
     status: u8,
 }
 
-/// Runs the words on the text, and expects the answer.
+/// Runs the words on the text, and expects this answer.
 fn expect(
     rt: &impl Abort,
     alloc: Global,
@@ -43,7 +43,7 @@ fn expect(
     assert_eq!(rt; out.flushes, usize::from(answer.status < 2), "{name}");
 }
 
-/// Searches and checks the text, and expects that both refuse it with the message.
+/// Searches and checks the text, and expects both to refuse it with the message.
 fn expect_refused(rt: &impl Abort, alloc: Global, name: &str, text: &[u8], message: &[u8]) {
     let answer = Answer {
         output: NOTHING,

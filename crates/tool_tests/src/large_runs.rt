@@ -3,19 +3,19 @@
 use super::memory_devices::{ArrayWriter, Comparer, SliceReader, run_on};
 use std::alloc::AllocError;
 
-/// Which lines a run has to write.
+/// The lines that a run has to write.
 #[derive(Clone, Copy, Debug)]
 pub enum Awaited {
-    /// All rows of twelve labels `A` or `B`, ascending.
+    /// All sequences of twelve labels `A` or `B`, ascending.
     TwoGates,
-    /// A row of 255 labels `A`.
+    /// A sequence of 255 labels `A`.
     OneGate,
-    /// One label, the long name.
+    /// One label with the long name.
     LongName,
 }
 
 impl Awaited {
-    /// The byte of a line, by the number of the line and the place in it.
+    /// The byte at an index of a line.
     pub fn byte(self, line: usize, place: usize) -> u8 {
         match self {
             Awaited::TwoGates => two_gates(line, place),
@@ -25,7 +25,7 @@ impl Awaited {
     }
 }
 
-/// The byte of the line of twelve labels `A` or `B` that stands so far behind the first, ascending.
+/// The byte at an index of a line of twelve labels `A` or `B`; the lines ascend from number 0.
 fn two_gates(line: usize, place: usize) -> u8 {
     if place == 23 {
         return b'\n';
@@ -62,7 +62,7 @@ fn all_lines_of_twelve_labels(rt: HostRuntime) {
     assert_eq!(rt; status, 0);
 }
 
-/// The byte of a line of labels `A`.
+/// The byte at an index of a line of labels `A`.
 fn one_gate(place: usize) -> u8 {
     if place == 509 {
         b'\n'
@@ -95,10 +95,10 @@ fn a_line_of_255_labels(rt: HostRuntime) -> Result<(), AllocError> {
     Ok(())
 }
 
-/// How long the gate's name is.
+/// The length of the gate's name, in bytes.
 const LONG: usize = 5000;
 
-/// The byte of a line of one label of the long name.
+/// The byte at an index of a line of one label with the long name.
 fn long_name(place: usize) -> u8 {
     if place == LONG { b'\n' } else { b'A' }
 }

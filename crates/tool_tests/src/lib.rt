@@ -1,6 +1,6 @@
-//! Tests of the command over readers and writers in memory, through what its crates make public.
+//! Tests of the command over readers and writers in memory, through its crates' public items.
 //!
-//! They stand in a crate of their own, since what is tested is proved once below it.
+//! They are a crate of their own, because a crate with tests inside is proved twice.
 #![tactic(auto)]
 
 #[cfg(test)]

@@ -1,4 +1,4 @@
-//! Readers and writers in memory, which move a few bytes a call, count their calls, and fail where they are told to.
+//! Readers and writers in memory, which move a few bytes per call, count their calls, and fail on demand.
 ghost use Rattle.std.specs.Prelude.{◌≡◌, ◌≤◌, Some, take};
 
 use super::large_runs::Awaited;
@@ -8,16 +8,16 @@ use std::alloc::Global;
 use std::io;
 use std::io::{Error, ErrorKind, Read, Write};
 
-/// Gives the bytes of a slice.
+/// A reader of the bytes of a slice.
 #[derive(Drop)]
 pub struct SliceReader<'a> {
     /// The bytes that are left.
     pub rest: &'a [u8],
-    /// The most bytes that a read gives; at least one.
+    /// The most bytes that a read moves; at least one.
     pub piece: usize,
     /// The number of the read that fails, counted from 1.
     pub fails_at: Option<usize>,
-    /// The calls so far.
+    /// The number of reads so far.
     pub reads: usize,
 }
 
@@ -49,10 +49,10 @@ impl Read for SliceReader<'_> {
     }
 }
 
-/// Gives one blank a read, and never ends.
+/// A reader that gives one blank per read, and never ends.
 #[derive(Drop)]
 pub struct Blanks {
-    /// The calls so far.
+    /// The number of reads so far.
     pub reads: usize,
 }
 
@@ -78,24 +78,24 @@ pub enum WhenFull {
     TakesNothing,
 }
 
-/// Keeps the bytes that it takes.
+/// A writer that keeps the bytes that it takes.
 #[derive(Drop)]
 pub struct ArrayWriter {
     bytes: [u8; ROOM],
     len: usize,
     /// The most bytes that a write takes.
     pub piece: usize,
-    /// The bytes after which it is full; it never keeps more than 8192.
+    /// The number of bytes after which it is full; it never keeps more than 8192.
     pub most: usize,
     pub when_full: WhenFull,
     pub flush_fails: bool,
-    /// The calls of `flush` so far.
+    /// The number of flushes so far.
     pub flushes: usize,
     ghost within: { len ≤ 8192 },
 }
 
 impl ArrayWriter {
-    /// An empty writer that does not fail before 8192 bytes.
+    /// An empty writer that is full after 8192 bytes.
     pub fn new(piece: usize) -> ArrayWriter {
         ArrayWriter {
             bytes: [0; ROOM],
@@ -143,18 +143,18 @@ impl Write for ArrayWriter {
     }
 }
 
-/// Takes all that it is given and compares it with lines of one length that are awaited.
+/// A writer that takes everything and compares it with expected lines of one length.
 #[derive(Drop)]
 pub struct Comparer {
-    /// The lines that are awaited.
+    /// The lines that are expected.
     pub awaited: Awaited,
-    /// The bytes of a line, its line feed included; at least one.
+    /// The length of a line in bytes, its line feed included; at least one.
     pub length: usize,
-    /// The bytes so far.
+    /// The number of bytes so far.
     pub got: usize,
-    /// The bytes so far that are other than those awaited.
+    /// The number of bytes so far that are not as expected.
     pub others: usize,
-    /// The most bytes of one write.
+    /// The most bytes of a write so far.
     pub largest: usize,
 }
 
@@ -190,7 +190,7 @@ impl Write for Comparer {
     }
 }
 
-/// Runs the command on the devices, and hands them back beside the status.
+/// Runs the command on the devices, and returns the status and the devices.
 pub fn run_on<R: Read, W: Write>(
     alloc: Global,
     words: &[&str],

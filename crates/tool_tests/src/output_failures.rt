@@ -1,4 +1,4 @@
-//! Searches whose output fails within a listing, or cannot be passed on at its end.
+//! Searches whose output fails within a listing, or cannot be flushed at its end.
 
 use super::memory_devices::{ArrayWriter, SliceReader, WhenFull, run_on};
 use std::process::Abort;
@@ -16,7 +16,7 @@ const WORDS: &[&str] = &[
 
 const LISTING: &[u8] = b"B\nA B\nA exit\n";
 
-/// After how many bytes the output fails, and what is said then.
+/// The number of bytes after which the output fails, and the message.
 const BROKEN: &[(usize, usize, &[u8])] = &[
     (
         0,
@@ -54,7 +54,7 @@ fn the_output_fails_within_each_line(rt: HostRuntime) {
     }
 }
 
-/// Lists to an output that is full after so many bytes, and expects what is said.
+/// Lists to an output that is full after `most` bytes, and expects the message.
 fn break_off(
     rt: &impl Abort,
     alloc: std::alloc::Global,

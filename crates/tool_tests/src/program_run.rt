@@ -1,4 +1,4 @@
-//! Whole runs.
+//! Complete runs of the program.
 
 use super::memory_devices::{ArrayWriter, SliceReader, run_on};
 

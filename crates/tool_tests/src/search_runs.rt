@@ -1,4 +1,4 @@
-//! Whole runs of searches over all forms, with every option: what is written, what is said, and the status.
+//! Complete runs of searches over all operators, with every option: the output, the message, and the status.
 
 mod bounds;
 mod deadlocks_and_elements;
@@ -23,7 +23,7 @@ struct Row {
     status: u8,
 }
 
-/// Makes the search, and expects what is written, what is said, the status, and one flush.
+/// Makes the search, and expects the output, the message, the status, and one flush.
 fn expect(rt: &impl Abort, alloc: Global, row: &Row) {
     let name = row.name;
     let reader = SliceReader::new(row.text, 4096);

@@ -1,8 +1,8 @@
-//! Whole runs of one search each: what is written, what is said, and the status.
+//! Complete runs of one search each: the output, the message, and the status.
 
 use super::memory_devices::{ArrayWriter, SliceReader, WhenFull, run_on};
 
-/// A search of a text by the words behind `search --depth`.
+/// A search of a text by the words after `search --depth`.
 struct Row {
     name: &'static str,
     text: &'static [u8],
@@ -192,7 +192,7 @@ fn searches(rt: HostRuntime) {
     }
 }
 
-/// Words behind `search --depth 1` that are refused before anything is read, and what is said of them.
+/// Words after `search --depth 1` that are refused before anything is read, and the message.
 const PATTERNS: &[(&[&str], &[u8])] = &[
     (
         &["lotosseq", "search", "--depth", "1", "I"],
@@ -278,7 +278,7 @@ fn patterns_that_are_refused_before_anything_is_read(rt: HostRuntime) {
     }
 }
 
-/// Lines behind `--after` that are none of a listing.
+/// Lines after `--after` that are not lines of a listing.
 const NO_LINES: &[&str] = &[
     "",
     " ",

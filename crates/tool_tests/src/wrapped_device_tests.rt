@@ -1,4 +1,4 @@
-//! What the wrappers of std's readers and writers remember.
+//! The failures that the wrappers of std's readers and writers remember.
 
 use super::memory_devices::{ArrayWriter, SliceReader};
 use lotos_device::{DeviceFailed, FromRead, FromWrite, Sink, Source};

@@ -1,4 +1,4 @@
--- What the first calls of a search answer.
+-- What the first calls of a search return.
 use Rattle.std.proofs.Common.{◌≡◌, ℕ, List, Option, Some, Result, Ok, Err, inl, inr, refl, sym, subst}
 use Rattle.std.specs.Prelude.{None}
 use Rattle.lotos_terms.specs.TableView.{TableView}

@@ -1,4 +1,4 @@
--- Where a text has a fault.
+-- The position of a text's fault.
 use Rattle.std.specs.Prelude.{◌≡◌, ℕ, ◌<◌, List, Option, Some, None, length}
 use Rattle.lotos_text.specs.Position.{IsPosition}
 use Rattle.lotos_text.specs.Limits.{max_text_length}
@@ -21,7 +21,7 @@ pub record IsAcceptedText (text : List ℕ) : Type 0 where
   pub spelled : Spelled text whole
   pub accepted : IsAccepted whole system
 
--- the offset that a fault of a text carries; a text that is too long and want of memory have none
+-- the offset of a fault of a text; E03 and E99 have none
 abbrev pub text_offset : TextFault → Option ℕ
 text_offset (E01 at) = Some at
 text_offset (E02 at) = Some at
@@ -40,22 +40,22 @@ pub record BreaksStaticRules (text : List ℕ) (fault : CheckFault) : Type 0 whe
   pub faulty : IsStaticFault whole fault
   pub refused : IsNotAccepted whole fault
 
--- at the offset stands a fault of the text: it spells no specification, or the one that it spells breaks a static rule
+-- the text has a fault at the offset: it spells no specification, or the one that it spells breaks a static rule
 pub data HasFaultAt (text : List ℕ) (at : ℕ) : Type 0 where
   of_text : (fault : TextFault) → IsFaultOfText text fault → text_offset fault ≡ Some at → HasFaultAt text at
   of_rules : (fault : CheckFault) → BreaksStaticRules text fault → offset_of fault ≡ Some at → HasFaultAt text at
 
--- the line and the column are those of an offset at which a fault stands
+-- the line and the column are those of the offset of a fault
 pub record IsFaultPosition (text : List ℕ) (line column : ℕ) : Type 0 where
   pub at : ℕ
   pub fault : HasFaultAt text at
   pub place : IsPosition text at line column
 
--- what is found of a text
+-- what each verdict means
 abbrev pub IsVerdict : List ℕ → Verdict → Type 0
 -- it spells a specification that meets the static rules
 IsVerdict text Accepted = IsAcceptedText text
--- it does not, since it is too long
+-- it does not, because it is too long
 IsVerdict text TooLong = (max_text_length < length text) × (IsAcceptedText text → ⊥)
--- it does not, and here its fault stands
+-- it does not, and has a fault here
 IsVerdict text (Faulty line column) = IsFaultPosition text line column × (IsAcceptedText text → ⊥)

@@ -6,8 +6,8 @@ use Rattle.lotos_pattern.specs.Places.{Accepts}
 use Rattle.lotos_pattern.specs.Spelling.{PatternOf, Text}
 use Rattle.lotos_pattern.specs.declared.place.End.{End}
 
--- The words spell one pattern, where internal steps are not shown, and the answer is that of the sequence: the pattern's
--- language has it and no deadlock is demanded; or it has it and its end must be a deadlock; or it does not have it.
+-- the words spell one pattern, in which internal steps are not observed, and the result says whether the pattern
+-- matches the sequence, and whether the sequence must then end in a deadlock
 pub record IsAnswer (words : List Text) (sequence : List Label) (answer : End) : Type 0 where
   pub pattern : Pattern
   pub spelled : PatternOf false words pattern

@@ -5,7 +5,7 @@ use Rattle.lotos_terms.specs.Steps.{Step}
 use Rattle.lotos_terms.specs.Terms.{Term}
 use Rattle.lotos_terms.specs.declared.label.Label.{Label}
 
--- a step of the table: its label, and the number of the term that it leads to, from the term with the number `here`
+-- a step of the table from the term with the number `here`: its label, and the number of the term that it leads to
 pub record IsStep (table : TableView) (here : ℕ) (step : Label × ℕ) : Type 0 where
   pub label : IsLabel table step.0
   pub from : Term
@@ -20,17 +20,18 @@ pub record IsDeadlock (table : TableView) (here : ℕ) : Type 0 where
   pub stands : slice_get table.terms here ≡ Some term
   pub none : (k : Label) (t : Term) → Step table.processes term k t → ⊥
 
--- a step of the table, or none where the term has no step at all
+-- a step of the term, or none if it has no step at all
 abbrev pub IsStepIfAny : TableView → ℕ → Option (Label × ℕ) → Type 0
 IsStepIfAny table here None = IsDeadlock table here
 IsStepIfAny table here (Some step) = IsStep table here step
 
--- each step begins where the one before it leads to: the first at one number, and the last leads to the other
+-- the steps lead from one number to the other, each from where the one before it leads to
 abbrev pub RunTo : TableView → ℕ → List (Label × ℕ) → ℕ → Type 0
 RunTo table here [] end = here ≡ end
 RunTo table here (step ∷ steps) end = IsStep table here step × RunTo table step.1 steps end
 
--- a run of at most so many steps from the term with the number `start`; where it has fewer, its last term has no step at all
+-- a run of at most `depth` steps from the term with the number `start`; if it has fewer, its last term has no step at
+-- all
 pub record IsRunOf (table : TableView) (start : ℕ) (steps : List (Label × ℕ)) (depth : ℕ) : Type 0 where
   pub end : ℕ
   pub run : RunTo table start steps end

@@ -1,4 +1,4 @@
-//! Where a text has a fault, by `lotos_text` and `lotos_check`.
+//! The position of a text's fault, by `lotos_text` and `lotos_check`.
 ghost use Rattle.std.specs.Prelude.{◌≡◌, ◌≤◌, IfOk, length};
 ghost use Rattle.lotos_text.specs.OffsetsInside.{IsFaultInside};
 ghost use Rattle.lotos_text.specs.TextFaults.{IsFaultOfText, SpellsNoSpecification};
@@ -9,23 +9,23 @@ use lotos_check::{CheckFault, check};
 use lotos_text::{TextFault, line_column, parse};
 use std::alloc::{AllocError, Global};
 
-/// What is found of a text.
+/// Whether a text is accepted, and if not, where its fault is.
 #[derive(Clone, Copy, Debug, PartialEq, Eq)]
 pub enum Verdict {
     /// It spells a specification that meets the static rules.
     Accepted,
-    /// It is longer than a text may be, which is a fault without a place.
+    /// It is longer than a text may be, a fault without a position.
     TooLong,
-    /// A fault stands at this line and column, each counted from 1; the column counts bytes.
+    /// It has a fault at this line and column, each counted from 1; the column counts bytes.
     Faulty { line: usize, column: usize },
 }
 
-/// Whether a text is accepted, and else where its fault stands: the one that [`parse`] answers, or where that answers a tree the
-/// one that [`check`] does.
+/// Whether a text is accepted, and if not, where its fault is: the one that [`parse`] returns, or else the one that
+/// [`check`] does.
 ///
 /// # Errors
 ///
-/// A growth of the heap was refused.
+/// An allocation fails.
 pub fn find_fault(alloc: Global, text: &[u8]) -> Result<Verdict, AllocError>
     ensures { IfOk result (IsVerdict text.now) }
 {
@@ -39,7 +39,7 @@ pub fn find_fault(alloc: Global, text: &[u8]) -> Result<Verdict, AllocError>
     }
 }
 
-/// Where the fault stands that the reading of a text answered.
+/// The verdict for a fault of the parse.
 fn text_verdict(text: &[u8], fault: TextFault) -> Result<Verdict, AllocError>
     requires refused { IsFaultOfText text.now fault }
     requires nothing { SpellsNoSpecification text.now fault }
@@ -55,8 +55,7 @@ fn text_verdict(text: &[u8], fault: TextFault) -> Result<Verdict, AllocError>
     }
 }
 
-/// The offset that a fault of a text carries, in bytes from the start of the text; none where the text is too long, and for want
-/// of memory.
+/// The offset of a fault of a text, in bytes from its start; `None` for E03 and E99.
 fn fault_offset(fault: &TextFault) -> Option<usize>
     ensures { result ≡ text_offset fault.now }
 {
@@ -71,7 +70,7 @@ fn fault_offset(fault: &TextFault) -> Option<usize>
     }
 }
 
-/// Where the fault stands that the check of a text's specification answered.
+/// The verdict for a fault of the static check.
 fn check_verdict(text: &[u8], fault: CheckFault) -> Result<Verdict, AllocError>
     requires broken { BreaksStaticRules text.now fault }
     requires inside { IsOffsetWithin (length text.now) fault }
@@ -83,7 +82,7 @@ fn check_verdict(text: &[u8], fault: CheckFault) -> Result<Verdict, AllocError>
     }
 }
 
-/// The line and the column of an offset at which a fault stands.
+/// The verdict for a fault at an offset.
 fn verdict_at(text: &[u8], at: usize) -> Verdict
     requires inside { at ≤ length text.now }
     requires fault { HasFaultAt text.now at }

@@ -1,7 +1,7 @@
-//! How each library is used, by one function or two for each.
+//! How each library is used, by one or two functions for each.
 //!
-//! Every function stands on the public items and the public clauses of the libraries that it calls, and on their laws. The
-//! definitions that the contracts cite stand in `specs/`.
+//! Every function and its proof need only the public items, the public clauses and the laws of the libraries. The
+//! definitions that the contracts cite are in `specs/`.
 #![tactic(auto)]
 
 mod fault_position;

@@ -10,15 +10,16 @@ use lotos_pattern::laws::one_pattern;
 use lotos_pattern::{End, Pattern, PatternFault, Place};
 use std::alloc::Global;
 
-/// Whether the pattern that the words spell matches the sequence, given by the printed texts of its labels. Internal steps are
-/// not shown, so no sequence with the label `i` is matched.
+/// Whether the pattern that the words spell matches the sequence, given by the printed texts of its labels. Internal
+/// steps are not observed, so no sequence with the label `i` is matched.
 ///
-/// [`End::IfDead`] says that the pattern matches the sequence and demands a deadlock: the sequence counts only where it ends in a
-/// term without any step, which is no matter of the labels. Without such a demand the answer is [`End::Yes`] or [`End::No`].
+/// [`End::IfDead`] means that the pattern matches the sequence and demands a deadlock: the sequence counts only if it
+/// ends in a term without any step, which its labels do not tell. Without such a demand the result is [`End::Yes`] or
+/// [`End::No`].
 ///
 /// # Errors
 ///
-/// The first fault of the words where they spell no pattern, and E99 where a growth of the heap was refused.
+/// The first fault of the words if they spell no pattern, and E99 if an allocation fails.
 pub fn matches(alloc: Global, words: &[&str], sequence: &[&str]) -> Result<End, PatternFault>
     ensures answer { IfOk result (IsAnswer (texts_of words.now) (texts_of sequence.now)) }
     ensures cause { IfErr result (IsCause false (texts_of words.now)) }
@@ -32,7 +33,7 @@ pub fn matches(alloc: Global, words: &[&str], sequence: &[&str]) -> Result<End, 
     })
 }
 
-/// The place of the sequence in the pattern; none where the pattern matches no sequence that begins so.
+/// The place of the sequence in the pattern; `None` if the pattern matches no sequence that starts with it.
 fn place_of(pattern: &Pattern, sequence: &[&str]) -> Option<Place>
     ensures { MatchOption result (Viable pattern.now (texts_of sequence.now) → ⊥)
         (IsPlaceOf pattern.now (texts_of sequence.now)) }

@@ -1,4 +1,4 @@
-//! Items of a listing, by `lotos_search`.
+//! Single items of a listing, by `lotos_search`.
 ghost use Rattle.std.specs.Prelude.{◌≤◌, IfErr, IfOk};
 ghost use Rattle.uses.specs.ResumedListings.{IsItemAfter, IsFirstItem, IsSecondItem, IsHaltOf, IsItemFault, IsSecondHalt};
 
@@ -7,12 +7,12 @@ use lotos_search::{Found, Halt, Mark, MarkFault, Search};
 use lotos_terms::Table;
 use std::alloc::{AllocError, Global};
 
-/// Why no item was answered.
+/// Why no item was returned.
 #[derive(Debug, Drop)]
 pub enum ItemFault {
-    /// The line is none that a listing has.
+    /// The line is not one of a listing.
     Line,
-    /// The search was stopped.
+    /// The search halted.
     Halt(Halt),
 }
 
@@ -27,12 +27,12 @@ impl From<Halt> for ItemFault {
     }
 }
 
-/// The first item of the listing behind the one of a line, with the search that gave it, which goes on behind the item; none where
-/// nothing stands behind the line. The line need not be in the listing.
+/// The first item of the listing after a line, if there is one, with the search that returned it, which goes on after
+/// the item. The line need not be in the listing.
 ///
 /// # Errors
 ///
-/// The line is none that a listing has; a prefix reaches more than `terms` terms; or a growth of the heap was refused.
+/// The line is not one of a listing; a prefix reaches more than `terms` terms; or an allocation fails.
 pub fn item_after(
     alloc: Global,
     table: Table,
@@ -53,11 +53,11 @@ pub fn item_after(
     Ok(first_item(alloc, table, pattern, depth, Some(mark), terms)?)
 }
 
-/// The second item of the whole listing, with the search that gave it; none where there are less than two.
+/// The second item of the whole listing, if there are two, with the search that returned it.
 ///
 /// # Errors
 ///
-/// A prefix reaches more than `terms` terms, or a growth of the heap was refused.
+/// A prefix reaches more than `terms` terms, or an allocation fails.
 pub fn second_item(
     alloc: Global,
     table: Table,
@@ -79,7 +79,7 @@ pub fn second_item(
     }
 }
 
-/// The first item behind the mark, if one is given, with the search that gave it.
+/// The first item after the mark, if one is given, with the search that returned it.
 fn first_item(
     alloc: Global,
     table: Table,

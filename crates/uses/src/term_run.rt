@@ -6,13 +6,13 @@ ghost use Rattle.uses.specs.TermRuns.{IsRunOf, IsStepIfAny};
 use lotos_terms::{Label, Table, Term};
 use std::alloc::{AllocError, Global};
 
-/// Follows the first step of each term from the start, at most `depth` steps: a run of the specification, with each label and the
-/// term that its step leads to. It ends early only at a deadlock. Internal steps and `exit` count. That it is the first step of
-/// each term which is followed, the contract does not say.
+/// Follows the first step of each term from the start, for at most `depth` steps, and returns each label with the term
+/// that its step leads to: a run of the specification. It ends early only at a deadlock. Internal steps and `exit`
+/// count. The contract does not say that the first steps are taken.
 ///
 /// # Errors
 ///
-/// A growth of the heap was refused. The table may have grown then too.
+/// An allocation fails. Even then the table may have grown.
 pub fn first_run(
     alloc: Global,
     table: &mut Table,
@@ -38,7 +38,7 @@ pub fn first_run(
     Ok(run)
 }
 
-/// The first step of a term; none at a deadlock.
+/// The first step of a term; `None` at a deadlock.
 fn first_step(table: &mut Table, here: Term) -> Result<Option<(Label, Term)>, AllocError>
     requires { here < length table.old.terms }
     ensures grows { Grows table.old table.new }

@@ -1,10 +1,10 @@
-//! Places of sequences, and which of these a pattern matches.
+//! Places of sequences, and whether a pattern accepts there.
 use super::Pattern;
 use crate::place::End;
 use std::alloc::{AllocError, Global};
 use std::test::Fail;
 
-/// Whether internal steps are shown, a pattern, labels, and whether the sequence of them may end; nothing where it has no place.
+/// Whether internal steps are observed, a pattern, labels, and whether their sequence may end; none if it has no place.
 const PLACES: &[(bool, &[&str], &[&str], Option<End>)] = &[
     (false, &["<until>", "B"], &[], Some(End::No)),
     (false, &["<until>", "B"], &["B"], Some(End::Yes)),
@@ -112,7 +112,7 @@ const PLACES: &[(bool, &[&str], &[&str], Option<End>)] = &[
     (true, &["<until>", "<deadlock>"], &["i"], Some(End::IfDead)),
 ];
 
-/// An element as the definition has it.
+/// An element, as the definition has it.
 enum Part {
     One(&'static str),
     Any,
@@ -123,13 +123,14 @@ enum Part {
     UntilDeadlock,
 }
 
-/// Internal steps hidden, and shown.
+/// Internal steps hidden, and observed.
 const BOTH: &[bool] = &[false, true];
 
-/// Internal steps shown.
+/// Internal steps observed.
 const SHOWN: &[bool] = &[true];
 
-/// Small patterns: their words, their elements, and whether internal steps are shown. At most two of the elements want a label.
+/// Small patterns: their words, their elements, and whether internal steps are observed. At most two elements need a
+/// label.
 const SMALL: &[(&[&str], &[Part], &[bool])] = &[
     (&[], &[], BOTH),
     (&["A"], &[Part::One("A")], BOTH),
@@ -314,10 +315,10 @@ const SMALL: &[(&[&str], &[Part], &[bool])] = &[
 
 const LABELS: [&str; 4] = ["A", "B", "exit", "i"];
 
-/// How many sequences of these labels have so many.
+/// Lengths, with the number of sequences of that length.
 const COUNTS: [(usize, usize); 5] = [(0, 1), (1, 4), (2, 16), (3, 64), (4, 256)];
 
-/// The most labels that complete a sequence: as many as elements of a small pattern want one.
+/// The most labels that complete a sequence: no small pattern has more elements that need one.
 const MOST_MORE: usize = 2;
 
 #[test]
@@ -336,8 +337,8 @@ fn finds_places(rt: HostRuntime) -> Result<(), Fail> {
     Ok(())
 }
 
-/// Each sequence of up to four labels beside the definition: it has a place exactly where it and up to two labels more are
-/// matched, and may end exactly where it is matched itself.
+/// Compares each sequence of up to four labels with the definition: it has a place exactly if it or an extension by up
+/// to two labels is matched, and may end exactly if it is matched itself.
 #[test]
 fn matches_as_defined(rt: HostRuntime) -> Result<(), Fail> {
     let all = sequences(rt.alloc())?;
@@ -365,7 +366,7 @@ fn matches_as_defined(rt: HostRuntime) -> Result<(), Fail> {
     Ok(())
 }
 
-/// A pattern of 256 elements is passed over to its end, and matched to its end.
+/// A pattern of 256 elements is skipped to its end, and matched to its end.
 #[test]
 fn holds_the_last_position(rt: HostRuntime) -> Result<(), Fail> {
     let words = repeated(rt.alloc(), &["<while>", "A"], 256)?;
@@ -384,10 +385,10 @@ fn holds_the_last_position(rt: HostRuntime) -> Result<(), Fail> {
     Ok(())
 }
 
-/// How many elements stand before the last: the positions behind them are about the ends of the words of a place.
+/// How many elements come before the last: the states after them are around the ends of a place's words.
 const BEFORE: [usize; 8] = [1, 62, 63, 64, 65, 127, 128, 255];
 
-/// Behind many elements the last is found, whether they are done one after another or passed over.
+/// The last element is found after many others, whether these are done one by one or skipped.
 #[test]
 fn holds_positions_of_each_word(rt: HostRuntime) -> Result<(), Fail> {
     for count in BEFORE {
@@ -440,7 +441,7 @@ fn holds_positions_of_each_word(rt: HostRuntime) -> Result<(), Fail> {
     Ok(())
 }
 
-/// The words a number of times.
+/// The words, repeated a number of times.
 fn repeated(
     alloc: Global,
     words: &[&'static str],
@@ -453,7 +454,7 @@ fn repeated(
     Ok(all)
 }
 
-/// Whether the sequence may end, at the place that the pattern gives it; nothing where it gives none.
+/// Whether the sequence may end at its place in the pattern; none if it has no place.
 fn end_behind(pattern: &Pattern, labels: &[&str]) -> Option<End> {
     let mut place = pattern.begin();
     for label in labels {
@@ -462,7 +463,7 @@ fn end_behind(pattern: &Pattern, labels: &[&str]) -> Option<End> {
     Some(pattern.accepts(place))
 }
 
-/// The sequences that a pattern matches, by the definition.
+/// The language of a pattern, by the definition.
 #[derive(Clone, Copy)]
 struct Language<'p> {
     parts: &'p [Part],
@@ -470,7 +471,7 @@ struct Language<'p> {
 }
 
 impl<'p> Language<'p> {
-    /// Whether the sequence may end; nothing where neither it nor it and a few more of the sequences are matched.
+    /// Whether the sequence may end; none if neither it nor an extension of it is matched.
     fn end_behind(
         self,
         alloc: Global,
@@ -507,7 +508,7 @@ impl<'p> Language<'p> {
     }
 }
 
-/// Whether some cut of the labels has a segment for each of the parts.
+/// Whether the labels can be split into a segment for each of the parts in turn.
 fn is_matched(parts: &[Part], labels: &[&str]) -> bool {
     let Some((first, others)) = parts.split_first() else {
         return labels.is_empty();
@@ -546,7 +547,7 @@ fn sequences(alloc: Global) -> Result<Vec<Vec<&'static str>>, AllocError> {
     Ok(all)
 }
 
-/// The sequence of so many labels whose numbers are the digits of the number in base 4, the least first.
+/// The sequence of this length whose labels are the digits of the number in base 4, the least first.
 fn sequence(alloc: Global, length: usize, number: usize) -> Result<Vec<&'static str>, AllocError> {
     let mut labels = Vec::new(alloc);
     let mut left = number;

@@ -5,7 +5,7 @@ use crate::fault::PatternFault;
 use std::alloc::{AllocError, Global};
 use std::test::Fail;
 
-/// What the words are, whether internal steps are shown, the words, and the elements that they spell.
+/// What is tried, whether internal steps are observed, the words, and the elements that they spell.
 const SPELLED: &[(&str, bool, &[&str], &str)] = &[
     ("no word", false, &[], ""),
     ("a gate's name in lower case", false, &["a"], "A;"),
@@ -114,7 +114,7 @@ const SPELLED: &[(&str, bool, &[&str], &str)] = &[
     ),
 ];
 
-/// What the words are, whether internal steps are shown, the words, and why they are refused.
+/// What is tried, whether internal steps are observed, the words, and their fault.
 const REFUSED: &[(&str, bool, &[&str], PatternFault)] = &[
     ("a digit first", false, &["1a"], PatternFault::E41(1)),
     ("an underscore first", false, &["_a"], PatternFault::E41(1)),
@@ -277,7 +277,7 @@ const REFUSED: &[(&str, bool, &[&str], PatternFault)] = &[
     ),
 ];
 
-/// Words a number of times, then others, and the answer.
+/// What is tried, words repeated a number of times, the words after them, and their fault, if any.
 const LONG: &[(&str, &[&str], usize, &[&str], Option<PatternFault>)] = &[
     ("256 labels", &["A"], 256, &[], None),
     ("257 labels", &["A"], 257, &[], Some(PatternFault::E44(257))),
@@ -425,7 +425,7 @@ fn tells_faults(rt: HostRuntime) -> Result<(), Fail> {
     Ok(())
 }
 
-/// The fault that the words are refused with, if they are.
+/// The fault of the words, if they have one.
 fn fault_of(alloc: Global, words: &[&str], strong: bool) -> Option<PatternFault> {
     match parse_elements(alloc, words, strong) {
         Ok(_) => None,
@@ -433,7 +433,7 @@ fn fault_of(alloc: Global, words: &[&str], strong: bool) -> Option<PatternFault>
     }
 }
 
-/// The elements, a semicolon behind each.
+/// The elements, each followed by a semicolon.
 fn shown(alloc: Global, elements: &[Element]) -> Result<String, AllocError> {
     let mut text = String::new(alloc);
     for element in elements {

@@ -1,10 +1,10 @@
-//! Messages that cannot be written: they change neither what is written nor the status.
+//! Messages that cannot be written: they change neither the output nor the status.
 
 use super::super::memory_devices::{ArrayWriter, SliceReader, WhenFull, run_on};
 
 const TEXT: &[u8] = b"specification S [a,b] : exit behaviour a; exit [> b; stop endspec";
 
-/// A run that says something.
+/// A run with a message.
 struct Row {
     name: &'static str,
     text: &'static [u8],

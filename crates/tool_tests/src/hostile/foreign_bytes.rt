@@ -1,11 +1,11 @@
-//! Bytes that are no ASCII or begin no token, in texts, in comments, in patterns and in marks.
+//! Bytes that are not ASCII or begin no token, in texts, in comments, in patterns and in marks.
 
 use super::super::memory_devices::{ArrayWriter, SliceReader, run_on};
 use super::{Answer, NOTHING, SEARCH, expect, expect_refused};
 use std::alloc::{AllocError, Global};
 use std::process::Abort;
 
-/// What is said of a text of one byte.
+/// The message for a text of one byte.
 fn refusal(byte: u8) -> &'static [u8] {
     match byte {
         b'\n' => b"lotosseq: 2:1: E06 text ends too early\n",
@@ -66,7 +66,7 @@ fn bytes_that_are_no_ascii_begin_no_token(rt: HostRuntime) -> Result<(), AllocEr
     Ok(())
 }
 
-/// Names with letters that are no ASCII, some of which have a case in ASCII.
+/// Names with letters that are not ASCII, some of which have a case variant in ASCII.
 const STRANGERS: &[&str] = &[
     "\u{e4}",
     "A\u{e9}",
@@ -126,7 +126,7 @@ fn letters_that_are_no_ascii_are_no_lines_of_a_listing(rt: HostRuntime) {
     }
 }
 
-/// Runs the words, and expects that they are refused before anything is read.
+/// Runs the words, and expects them to be refused before anything is read.
 fn expect_unread(rt: &impl Abort, alloc: Global, name: &str, words: &[&str], message: &[u8]) {
     let reader = SliceReader::new(b"specification", 1);
     let out = ArrayWriter::new(4096);

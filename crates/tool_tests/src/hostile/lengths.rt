@@ -1,4 +1,4 @@
-//! Texts as long as they may be, longer by a byte, and without an end.
+//! Texts of the greatest length, one byte longer, and without an end.
 
 use super::super::memory_devices::{ArrayWriter, Blanks, SliceReader, run_on};
 use super::{Answer, CHECK, NOTHING, SEARCH, expect, expect_refused};
@@ -11,7 +11,7 @@ const TOO_LONG: &[u8] = b"lotosseq: E03 text is longer than 1048576 bytes\n";
 
 const NO_TOKEN: &[u8] = b"lotosseq: 1:1: E01 byte begins no token\n";
 
-/// The text, followed by so many bytes that it has the length.
+/// The text, padded with the byte to the length.
 fn filled(alloc: Global, text: &[u8], byte: u8, length: usize) -> Result<Vec<u8>, AllocError> {
     let mut filled = Vec::from_slice(alloc, text)?;
     for _byte in text.len()..length {

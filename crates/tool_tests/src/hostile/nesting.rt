@@ -1,4 +1,4 @@
-//! Each construct nested as deep as it may be, and once more.
+//! Each construct nested as deep as it may be, and one deeper.
 
 use super::{Answer, NOTHING, SEARCH, expect, expect_refused};
 use std::alloc::{AllocError, Global};
@@ -10,9 +10,9 @@ struct Row {
     name: &'static str,
     opening: &'static [u8],
     closing: &'static [u8],
-    /// What a search at depth 1 for `A` writes where it is nested 200 times.
+    /// The output of a search at depth 1 for `A` if it is nested 200 times.
     output: &'static [u8],
-    /// What is said where it is nested 201 times.
+    /// The message if it is nested 201 times.
     message: &'static [u8],
 }
 
@@ -126,7 +126,7 @@ fn constructs_nest_no_deeper(rt: HostRuntime) -> Result<(), AllocError> {
     Ok(())
 }
 
-/// The text in which the construct is nested so often.
+/// The text with the construct nested `count` times.
 fn text_of(alloc: Global, row: &Row, count: usize) -> Result<Vec<u8>, AllocError> {
     let mut text = Vec::from_slice(alloc, FRONT)?;
     for _construct in 0..count {

@@ -1,11 +1,11 @@
-//! Every beginning of a text that is accepted.
+//! Every proper prefix of a text that is accepted.
 
 use super::expect_refused;
 
 const TEXT: &[u8] = b"specification S [a,b] : exit behaviour a; b; exit endspec";
 
-/// Beginnings from one length to another, and what is said of each: a word that is cut short is another word, and else the text
-/// ends where more is wanted.
+/// Prefixes from one length to another, and their message: a keyword that is cut short is another word, and otherwise
+/// the text ends where more is needed.
 const ROWS: &[(usize, usize, &[u8])] = &[
     (0, 0, b"lotosseq: 1:1: E06 text ends too early\n"),
     (1, 12, b"lotosseq: 1:1: E04 token is not expected\n"),

@@ -1,4 +1,4 @@
-//! Rows of prefixes that reach more terms than are allowed.
+//! Rows of prefixes that reach more terms than the bound.
 
 use super::{Row, expect};
 

@@ -1,4 +1,4 @@
-//! Rows of limits of lines.
+//! Rows of limits on the number of lines.
 
 use super::{Row, expect};
 

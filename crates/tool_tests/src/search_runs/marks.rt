@@ -1,4 +1,4 @@
-//! Rows of listings behind a mark.
+//! Rows of listings after a mark.
 
 use super::{Row, expect};
 

@@ -1,4 +1,4 @@
-//! Rows of the forms of behaviour.
+//! Rows of the forms of behaviour expressions.
 
 use super::{Row, expect};
 

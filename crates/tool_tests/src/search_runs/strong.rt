@@ -1,4 +1,4 @@
-//! Rows in which internal steps are shown.
+//! Rows in which internal steps are observed.
 
 use super::{Row, expect};
 

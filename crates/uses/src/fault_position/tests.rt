@@ -1,8 +1,8 @@
-//! Texts with the places of their faults.
+//! Texts with the positions of their faults.
 use super::{Verdict, find_fault};
 use std::test::Fail;
 
-/// A text, and the line and the column of its fault; nothing where it is accepted.
+/// A text, and the line and the column of its fault; none if it is accepted.
 const TEXTS: &[(&str, Option<(usize, usize)>)] = &[
     ("specification S [a] : exit behaviour a; exit endspec", None),
     // A byte that begins no token.

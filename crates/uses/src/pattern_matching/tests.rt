@@ -1,9 +1,9 @@
-//! Sequences with their answers.
+//! Sequences, and whether patterns match them.
 use super::matches;
 use lotos_pattern::{End, PatternFault};
 use std::test::Fail;
 
-/// A pattern, the labels of a sequence, and the answer.
+/// A pattern, the labels of a sequence, and the result.
 const ANSWERS: &[(&[&str], &[&str], End)] = &[
     (&[], &[], End::Yes),
     (&[], &["A"], End::No),

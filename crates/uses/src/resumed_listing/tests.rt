@@ -1,4 +1,4 @@
-//! Items behind a line, and second items.
+//! Items after a line, and second items.
 use super::{ItemFault, item_after, second_item};
 use lotos_check::check;
 use lotos_pattern::Pattern;
@@ -8,12 +8,12 @@ use lotos_text::parse;
 use std::alloc::Global;
 use std::test::Fail;
 
-/// The depth of the searches, and more terms than a prefix reaches.
+/// The depth of the searches, and a bound that no prefix exceeds.
 const DEPTH: u8 = 3;
 
 const TERMS: usize = 100;
 
-/// A specification of which the sequences are `<empty>`, `A`, `B`, `A exit`, `B A`, `B A exit`.
+/// A specification with the sequences `<empty>`, `A`, `B`, `A exit`, `B A`, `B A exit`.
 const TEXT: &str = "specification S [a,b] : exit behaviour a; exit [] b; a; exit endspec";
 
 fn table_of(alloc: Global, text: &str) -> Result<Table, Fail> {
@@ -28,7 +28,7 @@ const A: Label = Label::Gate(0);
 
 const B: Label = Label::Gate(1);
 
-/// A line, and the sequence of the first item behind it; none where nothing stands there.
+/// A line, and the sequence of the first item after it, if there is one.
 const LINES: &[(&str, Option<&[Label]>)] = &[
     ("<empty>", Some(&[A])),
     ("A", Some(&[B])),

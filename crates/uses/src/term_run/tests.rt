@@ -10,7 +10,8 @@ const A: Label = Label::Gate(0);
 
 const B: Label = Label::Gate(1);
 
-/// The functionality and the behaviour of a specification with the gates `a` and `b`, a depth, and the labels of its run.
+/// The functionality and the behaviour of a specification with the gates `a` and `b`, a depth, and the labels of its
+/// first run.
 const RUNS: &[(&str, usize, &[Label])] = &[
     ("noexit behaviour stop", 3, &[]),
     ("noexit behaviour a; b; stop", 0, &[]),
@@ -18,7 +19,7 @@ const RUNS: &[(&str, usize, &[Label])] = &[
     ("noexit behaviour a; b; stop", 2, &[A, B]),
     // A deadlock after two steps.
     ("noexit behaviour a; b; stop", 5, &[A, B]),
-    // The term behind a termination has no step.
+    // The term after termination has no step.
     (
         "exit behaviour b; i; exit",
         9,
