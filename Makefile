@@ -1,28 +1,42 @@
 # The program is proved and built by the launcher ./lotosseq, and kept up to date by it.
 PREFIX = /usr/local
-PROGRAM = crates/lotosseq/out/lotosseq
+BIN = $(DESTDIR)$(PREFIX)/bin
+MAN = $(DESTDIR)$(PREFIX)/share/man/man1
+COMPLETIONS = $(DESTDIR)$(PREFIX)/share/bash-completion/completions
 
-all:
+help: ## lists these targets
+	@sed -n 's/^\([a-z]*\):.*## /\1: /p' Makefile | awk -F ': ' '{ printf "make %-10s %s\n", $$1, $$2 }'
+
+build: ## proves and builds the program if a source has changed
 	./lotosseq --help >/dev/null
 
-test:
+test: ## runs the gate, rt ci
 	rt ci
 
-docs: all
+install: build ## installs programs, manual page and completion below PREFIX (/usr/local)
+	install -D -m 755 crates/lotosseq/out/lotosseq $(BIN)/lotosseq
+	install -D -m 755 share/lotosseq-chart $(BIN)/lotosseq-chart
+	install -D -m 644 docs/lotosseq.1 $(MAN)/lotosseq.1
+	install -D -m 644 share/bash-completion/completions/lotosseq $(COMPLETIONS)/lotosseq
+
+uninstall: ## removes what install has put there
+	rm -f $(BIN)/lotosseq $(BIN)/lotosseq-chart $(MAN)/lotosseq.1 $(COMPLETIONS)/lotosseq
+
+clean: ## removes all that was proved and built; the next build proves everything
+	rm -rf crates/*/out
+
+docs: build ## runs the commands of README.md and the tutorial and compares
 	tools/run-docs ./lotosseq
 
-examples: all
+examples: build ## asks the questions of the examples and compares
 	examples/run
 
-bench: all
+bench: build ## measures time and memory
 	bench/check
 	bench/terms
 	bench/search
 
-install: all
-	install -D -m 755 $(PROGRAM) $(DESTDIR)$(PREFIX)/bin/lotosseq
-	install -D -m 644 docs/lotosseq.1 $(DESTDIR)$(PREFIX)/share/man/man1/lotosseq.1
-	install -D -m 644 share/bash-completion/completions/lotosseq \
-		$(DESTDIR)$(PREFIX)/share/bash-completion/completions/lotosseq
+extra: build ## runs every tool that is not part of the gate
+	tools/extra
 
-.PHONY: all test docs examples bench install
+.PHONY: help build test install uninstall clean docs examples bench extra
