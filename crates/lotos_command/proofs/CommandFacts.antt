@@ -1,10 +1,10 @@
--- The command line is one that clap's contracts cover, and what it makes of some words.
+-- clap's contracts cover the command line, and the requests and faults of some words, computed.
 use Rattle.std.proofs.Common.{◌≡◌, refl, true, false, codes, List, [], ◌∷◌, Some, None}
 use Rattle.clap.specs.Words.{Text, fault_of, is_simple, is_simple_and_free, takes}
 use Rattle.clap.specs.declared.error.kind.ErrorKind.TheVariants.{UnknownArgument, ValueValidation}
 use Rattle.clap.proofs.OnLiterals.{clap_on_literals}
 use Rattle.lotos_command.specs.CommandRules.{lotosseq}
-use Rattle.lotos_command.specs.Request.{RequestOf, check, search}
+use Rattle.lotos_command.specs.Request.{RequestOf, check, ever, search}
 
 pub simple_and_free : is_simple_and_free lotosseq ≡ true
 simple_and_free = refl
@@ -82,3 +82,31 @@ no_line = refl
 too_many_terms : fault_of lotosseq (codes "lotosseq" ∷ codes "search" ∷ codes "--depth=1" ∷ codes "--terms=1000001" ∷ []) ≡ ValueValidation ∷ []
 unfolding clap_on_literals
 too_many_terms = refl
+
+bare_ever_asks : RequestOf (codes "lotosseq" ∷ codes "ever" ∷ []) (ever (record { states = 1000000; explain = false; strong = false; words = [] }))
+unfolding clap_on_literals
+bare_ever_asks = record { faultless = refl; reads = refl }
+
+abbrev ever_row : List Text
+ever_row = codes "lotosseq" ∷ codes "ever" ∷ codes "--strong" ∷ codes "A" ∷ codes "--states=100000000" ∷ codes "--explain" ∷ codes "<deadlock>" ∷ []
+
+ever_asks : RequestOf ever_row (ever (record {
+  states = 100000000;
+  explain = true;
+  strong = true;
+  words = codes "A" ∷ codes "<deadlock>" ∷ [];
+}))
+unfolding clap_on_literals
+ever_asks = record { faultless = refl; reads = refl }
+
+no_state : fault_of lotosseq (codes "lotosseq" ∷ codes "ever" ∷ codes "--states" ∷ codes "0" ∷ []) ≡ ValueValidation ∷ []
+unfolding clap_on_literals
+no_state = refl
+
+too_many_states : fault_of lotosseq (codes "lotosseq" ∷ codes "ever" ∷ codes "--states=100000001" ∷ []) ≡ ValueValidation ∷ []
+unfolding clap_on_literals
+too_many_states = refl
+
+ever_has_no_depth : fault_of lotosseq (codes "lotosseq" ∷ codes "ever" ∷ codes "--depth=1" ∷ []) ≡ UnknownArgument ∷ []
+unfolding clap_on_literals
+ever_has_no_depth = refl

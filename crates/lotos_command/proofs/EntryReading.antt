@@ -10,36 +10,36 @@ use Rattle.clap.specs.Matches.{ReadsOne}
 use Rattle.lotos_command.specs.EntryRules.{IsNumberIn, IsTruthText}
 use Rattle.lotos_command.specs.Request.{number}
 
--- the number of an entry that is a number is there
+-- the getter of an entry that is a number returns a number
 pub number_is_there : (low high : ℕ) (entry : Option Text) (r : Option ℕ) → IsSomeAnd entry (IsNumberIn low high)
     → r ≡ option_map number entry → IsSome r
 number_is_there low high (Some t) r within e = rw e refl
 number_is_there low high None r within e = absurd within
 
--- an entry that is there and can be read can be read if it is there
+-- an entry that exists and can be read can be read if it exists
 pub read_if_there : (low high : ℕ) (entry : Option Text) → IsSomeAnd entry (IsNumberIn low high) → IfSome entry (IsNumberIn low high)
 read_if_there low high (Some t) within = within
 read_if_there low high None within = absurd within
 
--- `G` reads texts as numbers below `2 ^ k`, among which are those of the bounds
+-- `G` reads texts as numbers below `2 ^ k`, and the upper bound is below `2 ^ k`
 module _ (E : Type 0) (G : Text → Result ℕ E → Type 0) (k low high : ℕ)
     (parses : (t : Text) (r : Result ℕ E) → G t r → ParsesUnsigned k 10 t r) (fits : high < 2 ^ k) where
   text_reads : (t : Text) (r : Option ℕ) → ReadsOne G t r → IsNumberIn low high t → r ≡ Some (number t)
   text_reads t (Some n) reads within = ap Some (parses t (Ok n) reads).1
   text_reads t None reads within = absurd (parses t (Err reads.0) reads.1 (within.numeral, omega (arith, within.most)))
 
-  -- the getter answers the number of the entry, if there is one
+  -- the getter returns the number of the entry, if there is one
   pub entry_reads : (read entry : Option Text) (r : Option ℕ) → read ≡ entry → ((t : Text) → read ≡ Some t → ReadsOne G t r)
       → (read ≡ None → r ≡ None) → IfSome entry (IsNumberIn low high) → r ≡ option_map number entry
   entry_reads read (Some t) r is reads none within = text_reads t r (reads t is) within
   entry_reads read None r is reads none within = none is
 
--- the number of the entry, or another
+-- the number of the entry, or the default
 pub number_or : (entry : Option Text) (other : ℕ) → unwrap_or (option_map number entry) other ≡ option_map_or number entry other
 number_or None other = refl
 number_or (Some t) other = refl
 
--- the getter answers whether the flag was given
+-- the getter returns whether the flag is set
 pub flag_reads : (entry : Option Text) (r : Bool) → (entry ≡ None → r ≡ false) → (entry ≡ Some (codes "true") → r ≡ true)
     → (entry ≡ Some (codes "false") → r ≡ false) → IfSome entry IsTruthText → r ≡ option_map_or (bytes_eq (codes "true")) entry false
 flag_reads None r none given not_given is = none refl

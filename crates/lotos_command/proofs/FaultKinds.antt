@@ -1,4 +1,4 @@
--- The fault that the command makes of a clap fault.
+-- The fault that `request` returns for a clap fault.
 use Rattle.std.proofs.Common.{◌≡◌, ◌∙◌, List, inl, inr, refl, sym, subst}
 use Rattle.clap.specs.Words.{HasKind, IsAmong, Text, fault_of, kind_of}
 use Rattle.clap.specs.declared.error.Error.{Error}
@@ -9,13 +9,13 @@ use Rattle.lotos_command.specs.CommandFaults.{IsFaultOfKind, IsFaultOf}
 use Rattle.lotos_command.specs.declared.command.CommandFault.{CommandFault}
 use Rattle.lotos_command.specs.declared.command.CommandFault.TheVariants.{Help, Memory, Wrong}
 
--- a fault for want of memory is one
+-- for a clap fault of the kind `OutOfMemory` the fault is `Memory`
 pub memory_known : (k : ErrorKind) (fault : CommandFault) → k ≡ kind.OutOfMemory → IsFaultOfKind k fault → fault ≡ Memory
 memory_known k (Help text) memory is = absurd (let e : kind.OutOfMemory ≡ kind.DisplayHelp = sym memory ∙ is in cc)
 memory_known k (Wrong text) memory is = absurd (is.1 memory)
 memory_known k Memory memory is = refl
 
--- the words have the fault that clap found in them
+-- the words have the fault that is returned for clap's
 pub fault_known : (words : List Text) (error : Error) (fault : CommandFault) → HasKind (fault_of lotosseq words) error
     → IsFaultOfKind (kind_of error) fault → IsFaultOf words fault
 fault_known words error (Help text) (inl memory) is = absurd (let e : kind.OutOfMemory ≡ kind.DisplayHelp = sym memory ∙ is in cc)

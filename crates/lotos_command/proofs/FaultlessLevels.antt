@@ -1,4 +1,4 @@
--- One level of a parse without a fault leaves rows that can be read.
+-- One level of a parse without a fault leaves ready rows.
 use Rattle.std.proofs.Common.{◌≡◌, ◌&&◌, ◌||◌, ℕ, Bool, cond, true, false, not, refl, sym, subst, arith, List, [], ◌∷◌, Option, Some, None, codes, is_some, fold}
 use Rattle.std.specs.Prelude.{IfSome}
 use Rattle.std.specs.Option.{option_map_or}
@@ -44,13 +44,13 @@ flag_names_none rules None waiting word h = go (short_of word)
     go None = plain_names_none rules waiting word h
     go (Some flags) = after_names_none rules waiting word _ _
 
--- ---- the walk
+-- ---- the words of a level, one after the other
 
 module _ (s : Shape) (names : Names) (ordinary : Each (IsOrdinary s.rules) s.rules) where
   abbrev Ready : List Row → Type 0
   Ready = Each (IsReady s.rules)
 
-  -- the name is not that of the subcommand `help`, which answers with help
+  -- the name is not that of clap's own subcommand `help`
   abbrev pub AsksNoHelp : Text → Type 0
   AsksNoHelp name = (bytes_eq name (codes "help") && not s.disable_help_subcommand) ≡ false
 
@@ -166,7 +166,8 @@ module _ (s : Shape) (names : Names) (ordinary : Each (IsOrdinary s.rules) s.rul
 
   -- ---- a level
 
-  -- what a level without a fault leaves: the rows, the subcommand, and no fault below or in the last checks
+  -- what follows if a level has no fault: its rows are ready, its subcommand is not `help`, and there is no fault below
+  -- nor in the checks at the end
   pub record Leaves (words : List Text) (has_subcommand : Bool) (below : Kinds) : Type 0 where
     pub ready : Ready (finished s.rules (walk s.rules names nothing_held words).held)
     pub stops : StopsWell (walk s.rules names nothing_held words).stopped

@@ -1,4 +1,4 @@
--- A use of an argument without a fault leaves rows that can be read.
+-- A use of an argument leaves ready rows, if it has no fault.
 use Rattle.std.proofs.Common.{◌≡◌, ◌≤◌, ℕ, Bool, false, refl, arith, List, [], ◌∷◌, length, Option, Some, None, find, lt-ltb}
 use Rattle.std.specs.Option.{option_map_or}
 use Rattle.clap.specs.Facts.{unwrap_or_range}
@@ -11,7 +11,7 @@ use Rattle.clap.specs.declared.parser.matches.ValueSource.TheVariants.{CommandLi
 use Rattle.lotos_command.proofs.KindsAbsent.{both_empty, not_empty}
 use Rattle.lotos_command.proofs.ReadyArguments.{Each, IsFilled, IsOrdinary, IsReady, counts, each_found, values_keep, without_keeps}
 
--- a use with as many values as are wanted has one, where one is wanted
+-- a use whose number of values is within the range has a value, if one is required
 use_is_filled : (least most : ℕ) (values : List Text) (a : Rule) → range_kinds least most (length values) ≡ [] → 1 ≤ least
     → 1 ≤ length (values_or_missing a values)
 use_is_filled least most (v ∷ vs) a e wanted = omega arith
@@ -51,7 +51,7 @@ module _ (rules : List Rule) (again : Bool) (ordinary : Each (IsOrdinary rules) 
       action_keeps (action_of a) a (values_or_missing a values) rows mine.own mine.no_count parts.1
       (λ wanted. use_is_filled least (most_values a) values a parts.0 wanted) all
 
-  -- an argument that was found is an ordinary one
+  -- an argument that `find` returns is ordinary
   pub found_is_ordinary : (test : Rule → Bool) (a : Rule) → find test rules ≡ Some a → IsOrdinary rules a
   found_is_ordinary test a e = (each_found (IsOrdinary rules) test rules a ordinary e).0
 
@@ -66,11 +66,11 @@ module _ (rules : List Rule) (again : Bool) (ordinary : Each (IsOrdinary rules) 
       go None is none = all
       go (Some a) is none = use_keeps a p.1 rows (found_is_ordinary _ a is) none all
 
-  -- the use of what was pending
+  -- the pending argument is used
   pub settled_keeps : (h : Held) → settle_fault rules again h ≡ [] → Ready h.rows → Ready (settled rules h).rows
   settled_keeps h e all = settled_rows_keep h.pending h.rows e all
 
-  -- the use of what was pending, and then of this argument
+  -- the pending argument is used, and then this one
   pub reacted_keeps : (a : Rule) (values : List Text) (h : Held) → IsOrdinary rules a → react_fault rules again a values h ≡ []
       → Ready h.rows → Ready (reacted rules a values h).rows
   reacted_keeps a values h mine e all =

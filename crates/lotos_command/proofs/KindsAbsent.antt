@@ -1,20 +1,20 @@
--- Kinds of faults that clap does not find.
+-- Lists of kinds of faults that are empty.
 use Rattle.std.proofs.Common.{◌≡◌, ◌∙◌, Bool, refl, ap, List, [], ◌∷◌, ◌++◌}
 use Rattle.clap.specs.Kinds.{Kinds, or_else, value_kinds, values_kinds}
 use Rattle.clap.specs.Walk.{Text}
 use Rattle.clap.specs.declared.builder.value_parser.ValueParser.{ValueParser}
 use Rattle.clap.specs.declared.error.kind.ErrorKind.{ErrorKind}
 
--- a fault is some fault
+-- a list with a kind is not empty
 pub not_empty : (k : ErrorKind) (ks : Kinds) → k ∷ ks ≡ [] → ⊥
 not_empty k ks e = cc
 
--- no fault in one or else the other is none in either
+-- if the first non-empty one of two lists is empty, both are
 pub both_empty : (one other : Kinds) → or_else one other ≡ [] → (one ≡ []) × (other ≡ [])
 both_empty [] other e = (refl, e)
 both_empty (k ∷ ks) other e = cc
 
--- values that pass a parser, and further ones that do
+-- if the values of two lists pass a parser, so do those of both together
 pub values_join : (ignore : Bool) (parser : ValueParser) (xs ys : List Text) → values_kinds ignore parser xs ≡ []
     → values_kinds ignore parser ys ≡ [] → values_kinds ignore parser (xs ++ ys) ≡ []
 values_join ignore parser [] ys passed more = more

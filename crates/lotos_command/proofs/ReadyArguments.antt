@@ -1,4 +1,4 @@
--- Rows that can be read, and the changes of rows that keep them so.
+-- clap's rows whose values passed their parsers, and the changes of rows that keep them so.
 use Rattle.std.proofs.Common.{◌≡◌, ◌∙◌, ◌≤◌, Bool, cond, true, false, refl, sym, ap, subst, arith, List, [], ◌∷◌, ◌++◌, length, Some, None, find, length-append}
 use Rattle.std.specs.Prelude.{⊤}
 use Rattle.std.specs.Str.{bytes_eq}
@@ -11,7 +11,7 @@ use Rattle.clap.specs.declared.builder.action.ArgAction.TheVariants as action
 use Rattle.clap.specs.declared.parser.matches.ValueSource.{ValueSource}
 use Rattle.lotos_command.proofs.KindsAbsent.{values_join}
 
--- ---- all the items of a list
+-- ---- properties of each item of a list
 
 abbrev pub Each : {X : Type 0} → (X → Type 0) → List X → Type 0
 Each P [] = ⊤
@@ -21,7 +21,7 @@ each_join : (P : Row → Type 0) (xs ys : List Row) → Each P xs → Each P ys 
 each_join P [] ys here there = there
 each_join P (x ∷ xs) ys here there = (here.0, each_join P xs ys here.1 there)
 
--- an item that was found has what each has
+-- an item that `find` returns has the property that each has, and passes the test
 pub each_found : {X : Type 0} (P : X → Type 0) (test : X → Bool) (xs : List X) (x : X) → Each P xs → find test xs ≡ Some x
     → P x × (test x ≡ true)
 each_found P test [] x all e = cc
@@ -40,18 +40,18 @@ abbrev pub counts : ArgAction → Bool
 counts action.Count = true
 counts _ = false
 
--- the argument is the one that its id finds, and does not count its uses
+-- the argument is the first with its id, and does not count its uses
 pub record IsOrdinary (rules : List Rule) (rule : Rule) : Type 0 where
   pub own : arg_by_id rules rule.id ≡ Some rule
   pub no_count : counts (action_of rule) ≡ false
 
--- a use of the argument has a value, where one is wanted
+-- a use of the argument has a value, if the argument requires one
 abbrev pub IsFilled : Rule → List Text → Type 0
 IsFilled rule values = 1 ≤ (unwrap_or_range rule.range).start_inclusive → 1 ≤ length values
 
 -- ---- rows
 
--- the row is that of an argument, and its values passed the argument's parser
+-- the row is that of an argument, its values passed the argument's parser, and it has one if one is required
 pub record IsReady (rules : List Rule) (row : Row) : Type 0 where
   pub rule : Rule
   pub is : arg_by_id rules row.id ≡ Some rule
@@ -59,7 +59,7 @@ pub record IsReady (rules : List Rule) (row : Row) : Type 0 where
   pub passed : values_fault rule row.values ≡ []
   pub filled : IsFilled rule row.values
 
--- a change at one row keeps what the changed row and the missing one keep
+-- after a change at one row each row has a property that each had, if the changed and the added rows have it
 at_row_keeps : (P : Row → Type 0) (id : Text) (change : Row → List Row) (missing rows : List Row)
     → ((r : Row) → bytes_eq r.id id ≡ true → P r → Each P (change r)) → Each P missing → Each P rows
     → Each P (at_row id change missing rows)
@@ -99,7 +99,7 @@ module _ (rules : List Rule) where
         tt,
       )
 
-  -- values that passed, put into the argument's row
+  -- values that passed may be put into their argument's row
   pub values_keep : (a : Rule) (source : ValueSource) (values : List Text) (rows : List Row) → arg_by_id rules a.id ≡ Some a
       → values_fault a values ≡ [] → IsFilled a values → Ready rows
       → Ready (with_values a.id (reading_by a) source values rows)
@@ -107,6 +107,6 @@ module _ (rules : List Rule) where
       at_row_keeps (IsReady rules) a.id (more_values source values) _ rows
       (λ r same ready. grown_row a source values r own passed same ready) (new_row a source values own passed filled) all
 
-  -- a row taken out
+  -- a row may be removed
   pub without_keeps : (id : Text) (rows : List Row) → Ready rows → Ready (without id rows)
   without_keeps id rows all = at_row_keeps (IsReady rules) id (λ _. []) [] rows (λ r same ready. tt) tt all

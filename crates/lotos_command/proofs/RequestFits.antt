@@ -1,4 +1,4 @@
--- Words without a fault name `check`, or a search whose entries can be read.
+-- Words without a fault name `check`, or `search` or `ever` with entries that can be read.
 use Rattle.std.proofs.Common.{◌≡◌, ◌∙◌, ◌≤◌, ◌||◌, ◌==◌, ℕ, Bool, cond, true, false, not, refl, sym, ap, subst, arith, List, [], ◌∷◌, length, Option, Some, None, codes, drop, find, is_some, inl, inr}
 use Rattle.std.specs.Prelude.{IfSome, IsSomeAnd, slice_get, pos, unwrap_or}
 use Rattle.std.specs.Option.{option_map, option_map_or, option_and_then}
@@ -20,7 +20,7 @@ use Rattle.clap.specs.Kinds.{value_kinds}
 use Rattle.clap.specs.Faults.{check_fault, entered_fault, fault_of, level_fault, values_fault}
 use Rattle.clap.specs.declared.error.kind.ErrorKind.TheVariants as kind
 use Rattle.lotos_command.specs.CommandRules.{lotosseq}
-use Rattle.lotos_command.specs.EntryRules.{FitsRequest, FitsSearch, IsNumberIn, IsTruthText}
+use Rattle.lotos_command.specs.EntryRules.{FitsEver, FitsRequest, FitsSearch, IsNumberIn, IsTruthText}
 use Rattle.lotos_command.specs.Request.{number}
 use Rattle.lotos_command.proofs.KindsAbsent.{both_empty, not_empty}
 use Rattle.lotos_command.proofs.ReadyArguments.{Each, IsOrdinary, IsReady, counts, each_found}
@@ -28,7 +28,7 @@ use Rattle.lotos_command.proofs.FaultlessLevels.{AsksNoHelp, StopsWell, level_le
 
 -- ---- an entry
 
--- the text is what is read of a value that the argument's parser accepts
+-- the text is read of a value that the argument's parser accepts
 pub record IsReadFrom (a : Rule) (t : Text) : Type 0 where
   pub value : Text
   pub is : t ≡ read_as (reading_by a) value
@@ -50,7 +50,7 @@ module _ (rules : List Rule) (rows : List Row) (all : Each (IsReady rules) rows)
       let some : Some ready.rule ≡ Some a = sym ready.is ∙ ap (arg_by_id rules) here ∙ is in
       cc
 
-  -- the first of the values that passed
+  -- the first of the values is one that the parser accepts
   first_reads : (r : Row) (ready : IsReady rules r) → ready.rule ≡ a → (v : Text) (vs : List Text) → values_fault ready.rule (v ∷ vs) ≡ []
       → IsReadFrom a (read_as r.reading v)
   first_reads r ready same v vs none =
@@ -67,7 +67,7 @@ module _ (rules : List Rule) (rows : List Row) (all : Each (IsReady rules) rows)
       go [] none = tt
       go (v ∷ vs) none = first_reads r ready same v vs none
 
-  -- an entry of the argument is one that its parser accepts
+  -- if the argument has an entry, its parser accepts it
   entry_fits : IfSome (one_of id rows) (IsReadFrom a)
   entry_fits = go (find (λ x. bytes_eq x.id id) rows) refl
     where
@@ -89,7 +89,7 @@ module _ (rules : List Rule) (rows : List Row) (all : Each (IsReady rules) rows)
       go [] none one = absurd (omega arith)
       go (v ∷ vs) none one = first_reads r ready same v vs none
 
-  -- an argument that was given, and wants a value, has an entry that its parser accepts
+  -- an argument that requires a value and was given has an entry, and its parser accepts it
   given_fits : 1 ≤ (unwrap_or_range a.range).start_inclusive → is_given id rows ≡ true → IsSomeAnd (one_of id rows) (IsReadFrom a)
   given_fits wanted given = go (find (λ x. bytes_eq x.id id) rows) refl given
     where
@@ -110,14 +110,14 @@ without_minus-cond (x ∷ xs) = go (x == 45)
     go true = refl
     go false = refl
 
--- a numeral opens with no plus sign
+-- a numeral does not begin with a plus sign
 numeral_has_no_plus : (ds : Text) → IsNumeral 10 ds → without_leading_plus ds ≡ ds
 numeral_has_no_plus [] h = refl
 numeral_has_no_plus (d ∷ ds) h =
     let other : (d == 43) ≡ false = ne_eqb _ _ (λ e. omega (arith, digit_from_value d h.1.0)) in
     ap (λ (b : Bool). drop (cond b 1 0) (d ∷ ds)) other
 
--- what the parser of the bounds accepts is read as a number in them, `-0` too
+-- what the signed parser with these bounds accepts, `-0` included, is read as a number within them
 signed_is_within : (low high : ℕ) (t : Text) → IsSignedIn (pos low) (pos high) t → IsNumberIn low high (without_minus t)
 signed_is_within low high t accepted = subst (IsNumberIn low high) (sym (without_minus-cond t)) (go (starts_with_minus t) refl)
   where
@@ -147,7 +147,7 @@ if_some_more : (P Q : Text → Type 0) (o : Option Text) → ((t : Text) → P t
 if_some_more P Q None more h = tt
 if_some_more P Q (Some t) more h = more t h
 
--- ---- the command line, built
+-- ---- the command line as clap builds it
 
 abbrev whole : App
 whole = built lotosseq
@@ -166,8 +166,11 @@ search_shape = first whole.subs
 abbrev check_shape : Shape
 check_shape = first (others whole.subs)
 
+abbrev ever_shape : Shape
+ever_shape = first (others (others whole.subs))
+
 abbrev help_shape : Shape
-help_shape = first (others (others whole.subs))
+help_shape = first (others (others (others whole.subs)))
 
 top_is_ordinary : Each (IsOrdinary whole.top.rules) whole.top.rules
 top_is_ordinary = (record { own = refl; no_count = refl }, tt)
@@ -187,6 +190,18 @@ search_is_ordinary = (
         (is_ordinary_here _ refl refl, (is_ordinary_here _ refl refl, (is_ordinary_here _ refl refl, (is_ordinary_here _ refl refl, tt)))),
       ),
     ),
+  ),
+)
+
+ever_is_ordinary_here : (rule : Rule) → arg_by_id ever_shape.rules rule.id ≡ Some rule → counts (action_of rule) ≡ false → IsOrdinary ever_shape.rules rule
+ever_is_ordinary_here rule own once = record { own = own; no_count = once }
+
+ever_is_ordinary : Each (IsOrdinary ever_shape.rules) ever_shape.rules
+ever_is_ordinary = (
+  ever_is_ordinary_here _ refl refl,
+  (
+    ever_is_ordinary_here _ refl refl,
+    (ever_is_ordinary_here _ refl refl, (ever_is_ordinary_here _ refl refl, (ever_is_ordinary_here _ refl refl, tt))),
   ),
 )
 
@@ -217,31 +232,49 @@ search_fits rows all e = record {
       (entry_fits search_shape.rules rows all (codes "strong") _ refl);
 }
 
--- the subcommand that a word names, by whether it is `search`, whether it is `check` and whether it is `help`
-abbrev named : Bool → Bool → Bool → Option Shape
-named is_search is_check is_help =
+ever_fits : (rows : List Row) → Each (IsReady ever_shape.rules) rows → FitsEver rows
+ever_fits rows all = record {
+  states = if_some_more _ (IsNumberIn 1 100000000) (one_of (codes "states") rows)
+      (λ t read. subst (IsNumberIn 1 100000000) (sym read.is)
+      (record { numeral = read.accepted.0; least = read.accepted.2; most = read.accepted.3 }))
+      (entry_fits ever_shape.rules rows all (codes "states") _ refl);
+  explain = if_some_more _ IsTruthText (one_of (codes "explain") rows)
+      (λ t read. subst IsTruthText (sym read.is) read.accepted)
+      (entry_fits ever_shape.rules rows all (codes "explain") _ refl);
+  strong = if_some_more _ IsTruthText (one_of (codes "strong") rows)
+      (λ t read. subst IsTruthText (sym read.is) read.accepted)
+      (entry_fits ever_shape.rules rows all (codes "strong") _ refl);
+}
+
+-- the subcommand that a word names, given whether it is `search`, `check`, `ever` or `help`
+abbrev named : Bool → Bool → Bool → Bool → Option Shape
+named is_search is_check is_ever is_help =
     cond (is_search || false) (Some search_shape)
-    (cond (is_check || false) (Some check_shape) (cond (is_help || false) (Some help_shape) None))
+    (cond (is_check || false) (Some check_shape)
+    (cond (is_ever || false) (Some ever_shape) (cond (is_help || false) (Some help_shape) None)))
 
 stop_fits : (rows : List Row) (stop : Option (Text × List Text)) → StopsWell whole.top (names_of whole) top_is_ordinary stop
     → entered_fault whole stop ≡ [] → check_fault whole.top rows (is_some (entered whole stop)) ≡ [] → FitsRequest (entered whole stop)
 stop_fits rows None well below check = absurd (not_empty _ _ check)
 stop_fits rows (Some p) well below check =
-    go (bytes_eq (codes "search") p.0) (bytes_eq (codes "check") p.0) (bytes_eq (codes "help") p.0) refl below check
+    go (bytes_eq (codes "search") p.0) (bytes_eq (codes "check") p.0) (bytes_eq (codes "ever") p.0) (bytes_eq (codes "help") p.0) refl below check
   where
-    go : (is_search is_check is_help : Bool) → bytes_eq (codes "help") p.0 ≡ is_help
-        → option_map_or (λ s. level_fault s [] nothing_held p.1 false []) (named is_search is_check is_help) [] ≡ []
-        → check_fault whole.top rows (is_some (option_map (λ s. rows_at s p.1) (named is_search is_check is_help))) ≡ []
-        → FitsRequest (option_map (λ s. rows_at s p.1) (named is_search is_check is_help))
-    go true is_check is_help e under check =
+    go : (is_search is_check is_ever is_help : Bool) → bytes_eq (codes "help") p.0 ≡ is_help
+        → option_map_or (λ s. level_fault s [] nothing_held p.1 false []) (named is_search is_check is_ever is_help) [] ≡ []
+        → check_fault whole.top rows (is_some (option_map (λ s. rows_at s p.1) (named is_search is_check is_ever is_help))) ≡ []
+        → FitsRequest (option_map (λ s. rows_at s p.1) (named is_search is_check is_ever is_help))
+    go true is_check is_ever is_help e under check =
         let left = level_leaves search_shape [] search_is_ordinary p.1 false [] under in
         inl (refl, search_fits _ left.ready left.checked)
-    go false true is_help e under check = inr refl
-    go false false true e under check =
+    go false true is_ever is_help e under check = inr (inl refl)
+    go false false true is_help e under check =
+        let left = level_leaves ever_shape [] ever_is_ordinary p.1 false [] under in
+        inr (inr (refl, ever_fits _ left.ready))
+    go false false false true e under check =
         let name : codes "help" ≡ p.0 = (bytes_eq-Decides (codes "help") p.0).0 e in
         let bad : true ≡ false = subst (AsksNoHelp whole.top (names_of whole) top_is_ordinary) (sym name) well in
         cc
-    go false false false e under check = absurd (not_empty _ _ check)
+    go false false false false e under check = absurd (not_empty _ _ check)
 
 pub request_fits : (words : List Text) → fault_of lotosseq words ≡ [] → FitsRequest (subcommand_of lotosseq words)
 request_fits words e =

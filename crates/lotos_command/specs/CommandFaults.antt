@@ -1,4 +1,4 @@
--- Why words are no request, by the kinds of the faults that clap finds in them.
+-- Why words make no request, by the kinds of the faults that clap may report for them.
 use Rattle.std.specs.Prelude.{◌≡◌, ◌≢◌, true, List, ⊤}
 use Rattle.clap.specs.Words.{IsAmong, Text, fault_of, takes}
 use Rattle.clap.specs.declared.error.kind.ErrorKind.{ErrorKind}
@@ -7,25 +7,25 @@ use Rattle.lotos_command.specs.CommandRules.{lotosseq}
 use Rattle.lotos_command.specs.declared.command.CommandFault.{CommandFault}
 use Rattle.lotos_command.specs.declared.command.CommandFault.TheVariants.{Help, Memory, Wrong}
 
--- clap accepts the words as a request
+-- clap accepts the words: its parse fails only if memory runs out
 abbrev pub AreAccepted : List Text → Type 0
 AreAccepted words = takes lotosseq words ≡ true
 
--- the words ask for help
+-- the words ask for help: this is one of the kinds of fault that clap may report for them
 abbrev pub AskForHelp : List Text → Type 0
 AskForHelp words = IsAmong kind.DisplayHelp (fault_of lotosseq words)
 
--- clap finds a fault in the words that does not ask for help
+-- clap may report a fault of the words whose kind is not that of a request for help
 abbrev pub AreRejected : List Text → Type 0
 AreRejected words = (k : ErrorKind) × IsAmong k (fault_of lotosseq words) × (k ≢ kind.DisplayHelp)
 
--- the words have this fault; memory can run out for any words
+-- the words may have this fault; memory can run out for any words
 abbrev pub IsFaultOf : List Text → CommandFault → Type 0
 IsFaultOf words (Help text) = AskForHelp words
 IsFaultOf words (Wrong text) = AreRejected words
 IsFaultOf words Memory = ⊤
 
--- the fault that the command makes of a clap fault of this kind
+-- a fault that `request` may return for a clap fault of this kind
 abbrev pub IsFaultOfKind : ErrorKind → CommandFault → Type 0
 IsFaultOfKind k (Help text) = k ≡ kind.DisplayHelp
 IsFaultOfKind k (Wrong text) = (k ≢ kind.DisplayHelp) × (k ≢ kind.OutOfMemory)

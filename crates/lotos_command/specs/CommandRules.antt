@@ -1,4 +1,4 @@
--- The command line of the program, as clap reads it.
+-- The command line of the program, in clap's definitions.
 use Rattle.std.specs.Prelude.{true, codes, pos, Some, [], ◌∷◌}
 use Rattle.clap.specs.Words.{App, Rule, new_app, new_rule, with_rule, with_subcommand}
 use Rattle.clap.specs.Lexer.{usize_max}
@@ -57,7 +57,7 @@ strong_rule = record (new_rule (codes "strong")) {
   action = Some SetTrue;
 }
 
--- `WORD ..`, all words that are no option, in order
+-- `WORD ..`, any number of words that are no option, in order
 abbrev pub words_rule : Rule
 words_rule = record (new_rule (codes "words")) {
   action = Some Append;
@@ -71,6 +71,21 @@ search_app =
     with_rule (with_rule (with_rule (with_rule (with_rule (with_rule (with_rule (new_app (codes "search"))
     depth_rule) limit_rule) terms_rule) after_rule) explain_rule) strong_rule) words_rule
 
+-- `--states N`, with a number from 1 to 100,000,000; 1,000,000 if it is not given
+abbrev pub states_rule : Rule
+states_rule = record (new_rule (codes "states")) {
+  long = Some (codes "states");
+  action = Some Set;
+  value_names = 1;
+  parser = Some (Unsigned 1 100000000);
+  defaults = codes "1000000" ∷ [];
+}
+
+-- `ever [--states N] [--explain] [--strong] [WORD ..]`
+abbrev pub ever_app : App
+ever_app =
+    with_rule (with_rule (with_rule (with_rule (new_app (codes "ever")) states_rule) explain_rule) strong_rule) words_rule
+
 -- `check`
 abbrev pub check_app : App
 check_app = new_app (codes "check")
@@ -79,5 +94,6 @@ check_app = new_app (codes "check")
 abbrev pub lotosseq : App
 lotosseq =
     with_subcommand
+    (with_subcommand
     (with_subcommand (on_top (λ s. record s { subcommand_required = true }) (new_app (codes "lotosseq"))) search_app.top)
-    check_app.top
+    check_app.top) ever_app.top

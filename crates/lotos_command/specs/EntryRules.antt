@@ -1,21 +1,21 @@
--- Entries of a command line that can be read.
+-- Which entries that clap finds in a command line can be read.
 use Rattle.std.specs.Prelude.{◌≡◌, ◌⊎◌, ◌≤◌, ◌||◌, ℕ, true, List, Option, Some, None, codes, IfSome, IsSomeAnd}
 use Rattle.std.specs.Str.{bytes_eq}
 use Rattle.std.specs.Str.Parse.{IsNumeral, without_leading_plus}
 use Rattle.clap.specs.Words.{Row, Text, one_of}
 use Rattle.lotos_command.specs.Request.{number}
 
--- a decimal numeral within the bounds, perhaps after a plus sign
+-- a decimal numeral, perhaps after a plus sign, of a number within the bounds
 pub record IsNumberIn (low high : ℕ) (text : Text) : Type 0 where
   pub numeral : IsNumeral 10 (without_leading_plus text)
   pub least : low ≤ number text
   pub most : number text ≤ high
 
--- the text of a truth value
+-- the text of a flag: `true` or `false`
 abbrev pub IsTruthText : Text → Type 0
 IsTruthText text = (bytes_eq text (codes "true") || bytes_eq text (codes "false")) ≡ true
 
--- the entries of `search` have a depth, and their numbers and flags can be read
+-- the entries of `search` have a depth; their numbers are within their bounds, and their flags can be read
 pub record FitsSearch (rows : List Row) : Type 0 where
   pub depth : IsSomeAnd (one_of (codes "depth") rows) (IsNumberIn 0 255)
   pub limit : IfSome (one_of (codes "limit") rows) (IsNumberIn 1 1000000000)
@@ -23,7 +23,13 @@ pub record FitsSearch (rows : List Row) : Type 0 where
   pub explain : IfSome (one_of (codes "explain") rows) IsTruthText
   pub strong : IfSome (one_of (codes "strong") rows) IsTruthText
 
--- a subcommand was given, and its entries can be read
+-- the number among the entries of `ever` is within its bounds, and the flags can be read
+pub record FitsEver (rows : List Row) : Type 0 where
+  pub states : IfSome (one_of (codes "states") rows) (IsNumberIn 1 100000000)
+  pub explain : IfSome (one_of (codes "explain") rows) IsTruthText
+  pub strong : IfSome (one_of (codes "strong") rows) IsTruthText
+
+-- `search`, `check` or `ever` was given, and its entries can be read
 abbrev pub FitsRequest : Option (Text × List Row) → Type 0
 FitsRequest None = ⊥
-FitsRequest (Some p) = ((p.0 ≡ codes "search") × FitsSearch p.1) ⊎ (p.0 ≡ codes "check")
+FitsRequest (Some p) = ((p.0 ≡ codes "search") × FitsSearch p.1) ⊎ ((p.0 ≡ codes "check") ⊎ ((p.0 ≡ codes "ever") × FitsEver p.1))

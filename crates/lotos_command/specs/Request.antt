@@ -9,12 +9,13 @@ use Rattle.lotos_command.specs.CommandRules.{lotosseq}
 use Rattle.lotos_command.specs.declared.command.Request.{Request}
 use Rattle.lotos_command.specs.declared.command.Request.TheVariants as asked
 use Rattle.lotos_command.specs.declared.command.SearchRequest.{SearchRequest}
+use Rattle.lotos_command.specs.declared.command.EverRequest.{EverRequest}
 
--- the texts of the words
+-- the words as texts
 abbrev pub texts_of : List (Bor Text) → List Text
 texts_of words = map (λ word. word.now) words
 
--- a search, with texts for strings
+-- the view of a search: texts for strings
 pub record SearchView : Type 0 where
   pub depth : ℕ
   pub limit : Option ℕ
@@ -24,12 +25,20 @@ pub record SearchView : Type 0 where
   pub strong : Bool
   pub words : List Text
 
--- a request, with texts for strings
+-- the view of a search for a match of any length: texts for strings
+pub record EverView : Type 0 where
+  pub states : ℕ
+  pub explain : Bool
+  pub strong : Bool
+  pub words : List Text
+
+-- the view of a request: texts for strings
 pub data RequestView : Type 0 where
   check : RequestView
   search : SearchView → RequestView
+  ever : EverView → RequestView
 
--- the view of a search
+-- the view of this search
 abbrev pub search_view : SearchRequest → SearchView
 search_view request = record {
   depth = request.depth;
@@ -41,20 +50,30 @@ search_view request = record {
   words = map string_bytes request.words.items;
 }
 
--- the view of a request
+-- the view of this search for a match of any length
+abbrev pub ever_view : EverRequest → EverView
+ever_view request = record {
+  states = request.states;
+  explain = request.explain;
+  strong = request.strong;
+  words = map string_bytes request.words.items;
+}
+
+-- the view of this request
 abbrev pub request_view : Request → RequestView
 request_view asked.Check = check
 request_view (asked.Search request) = search (search_view request)
+request_view (asked.Ever request) = ever (ever_view request)
 
 -- the number of a decimal numeral, perhaps after a plus sign
 abbrev pub number : Text → ℕ
 number text = digits_value 10 (without_leading_plus text)
 
--- whether the flag with this name was given
+-- whether the flag with this name is set
 abbrev pub flag : Text → List Row → Bool
 flag name rows = option_map_or (bytes_eq (codes "true")) (one_of name rows) false
 
--- the search that the entries of the subcommand `search` make
+-- the search that the entries of the subcommand `search` make, if they have a depth
 abbrev pub search_from : List Row → Option SearchView
 search_from rows = option_map (λ depth. record {
   depth = number depth;
@@ -66,21 +85,32 @@ search_from rows = option_map (λ depth. record {
   words = unwrap_or (all_of (codes "words") rows) [];
 }) (one_of (codes "depth") rows)
 
--- the request that a subcommand of this name with these entries makes
+-- the search for a match that the entries of the subcommand `ever` make
+abbrev pub ever_from : List Row → EverView
+ever_from rows = record {
+  states = option_map_or number (one_of (codes "states") rows) 1000000;
+  explain = flag (codes "explain") rows;
+  strong = flag (codes "strong") rows;
+  words = unwrap_or (all_of (codes "words") rows) [];
+}
+
+-- the request that a subcommand of this name with these entries makes, if it makes one
 abbrev pub request_named : Text → List Row → Option RequestView
 request_named name rows =
     if bytes_eq name (codes "search") then option_map search (search_from rows)
-    else (if bytes_eq name (codes "check") then Some check else None)
+    else (if bytes_eq name (codes "check") then Some check
+    else (if bytes_eq name (codes "ever") then Some (ever (ever_from rows)) else None))
 
--- the request that the subcommand with its entries makes, if there is one
+-- the request that the given subcommand with its entries makes, if one was given
 abbrev pub request_from : Option (Text × List Row) → Option RequestView
 request_from given = option_and_then (λ p. request_named p.0 p.1) given
 
--- the request that the entries make which clap finds in the words
+-- the request that the words make by the subcommand and the entries that clap finds in them
 abbrev pub request_of : List Text → Option RequestView
 request_of words = request_from (subcommand_of lotosseq words)
 
--- the words, the program's own name first, make the request: clap finds no fault in them, and its entries read as it
+-- the words, the program's own name first, make this request: clap finds no fault in them, and the entries that it
+-- finds make the request
 pub record RequestOf (words : List Text) (request : RequestView) : Type 0 where
   pub faultless : fault_of lotosseq words ≡ []
   pub reads : request_of words ≡ Some request
@@ -90,7 +120,8 @@ pub record HasSearchBounds (request : SearchRequest) : Type 0 where
   pub terms : 1 ≤ request.terms
   pub limit : IfSome request.limit (λ n. 1 ≤ n)
 
--- these bounds, if the request is a search
+-- the bounds of a search, if the request is one; at least one state, if it is a search for a match of any length
 abbrev pub HasBounds : Request → Type 0
 HasBounds asked.Check = ⊤
 HasBounds (asked.Search request) = HasSearchBounds request
+HasBounds (asked.Ever request) = 1 ≤ request.states

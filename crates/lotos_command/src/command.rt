@@ -9,28 +9,44 @@ pub enum Request {
     Check,
     /// List the sequences that match a pattern.
     Search(SearchRequest),
+    /// Find a shortest match of a pattern, of any length.
+    Ever(EverRequest),
 }
 
-/// A search.
+/// A request for a listing. Words and lines are as the command line has them, not yet read as a pattern and a mark.
 #[derive(Debug, Drop)]
 pub struct SearchRequest {
     /// The most steps of a derivation, internal ones included.
     pub depth: u8,
-    /// The most lines that are written, at least 1.
+    /// The most lines that are written, at least 1; `None` for no limit.
     pub limit: Option<u32>,
-    /// The most terms that a prefix may reach, at least 1.
+    /// The most terms that a prefix of a sequence may reach, at least 1.
     pub terms: usize,
-    /// A line of a listing: only what comes after its sequence is listed.
+    /// A line of a listing: only what comes after its sequence is listed. `None` for the whole listing.
     pub after: Option<String>,
-    /// Whether each line has the least run of its sequence too.
+    /// Whether each line has the least run of its sequence after the sequence.
     pub explain: bool,
-    /// Whether the internal action is a label like others.
+    /// Whether internal steps are observed: `i` is then a label like others.
     pub strong: bool,
     /// The words of the pattern.
     pub words: Vec<String>,
 }
 
-/// Why the words are no request.
+/// A request for a shortest match, of any length. The words are as the command line has them, not yet read as a
+/// pattern.
+#[derive(Debug, Drop)]
+pub struct EverRequest {
+    /// The most product states, each a term and a place in the pattern, that may be stored; at least 1.
+    pub states: usize,
+    /// Whether the line has the run of the match after its sequence.
+    pub explain: bool,
+    /// Whether internal steps are observed: `i` is then a label like others.
+    pub strong: bool,
+    /// The words of the pattern.
+    pub words: Vec<String>,
+}
+
+/// Why the words make no request.
 #[derive(Debug, Drop)]
 pub enum CommandFault {
     /// The words ask for help, and this is its text.

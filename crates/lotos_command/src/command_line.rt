@@ -1,19 +1,21 @@
 //! The command line, read by clap.
-ghost use Rattle.std.specs.Prelude.{◌≡◌, IfErr, IfOk, IfSome, IsSomeAnd, Some, true, false, map, [], codes, option_map, string_bytes, unwrap_or};
+ghost use Rattle.std.specs.Prelude.{◌≡◌, ◌≤◌, IfErr, IfOk, IfSome, IsSomeAnd, Some, true, false, map, [], codes, option_map, string_bytes, unwrap_or};
 ghost use Rattle.std.specs.Option.{option_map_or};
 ghost use Rattle.clap.specs.Words.{all_of, app_of, first_of, found_of, kind_of, new_app, one_of, rows_of, rule_of, subcommand_rows_of};
 ghost use Rattle.clap.specs.declared.builder.command.Command.TheViews.{out-Command as fields_of};
-ghost use Rattle.lotos_command.specs.CommandRules.{after_rule, check_app, depth_rule, explain_rule, limit_rule, lotosseq, search_app, strong_rule, terms_rule, words_rule};
+ghost use Rattle.lotos_command.specs.CommandRules.{after_rule, check_app, depth_rule, ever_app, explain_rule, limit_rule, lotosseq, search_app, states_rule, strong_rule, terms_rule, words_rule};
 ghost use Rattle.lotos_command.specs.CommandFaults.{AreAccepted, IsFaultOfKind, IsFaultOf};
-ghost use Rattle.lotos_command.specs.EntryRules.{FitsRequest, FitsSearch, IsNumberIn, IsTruthText};
-ghost use Rattle.lotos_command.specs.Request.{HasBounds, HasSearchBounds, RequestOf, flag, number, request_from, request_view, search_from, search_view, texts_of};
+ghost use Rattle.lotos_command.specs.EntryRules.{FitsEver, FitsRequest, FitsSearch, IsNumberIn, IsTruthText};
+ghost use Rattle.lotos_command.specs.Request.{HasBounds, HasSearchBounds, RequestOf, ever_from, ever_view, flag, number, request_from, request_view, search_from, search_view, texts_of};
 
-use crate::command::{CommandFault, Request, SearchRequest};
+use crate::command::{CommandFault, EverRequest, Request, SearchRequest};
 use crate::help::{
     ABOUT, AFTER_HELP, AFTER_LONG_HELP, CHECK_ABOUT, CHECK_LONG_ABOUT, CHECK_STATUSES, DEPTH_HELP,
-    DEPTH_LONG_HELP, EXPLAIN_HELP, EXPLAIN_LONG_HELP, LIMIT_HELP, LIMIT_LONG_HELP, LONG_ABOUT,
-    SEARCH_ABOUT, SEARCH_LONG_ABOUT, SEARCH_STATUSES, STATUSES, STRONG_HELP, STRONG_LONG_HELP,
-    TERMS_HELP, TERMS_LONG_HELP, WORDS_HELP, WORDS_LONG_HELP,
+    DEPTH_LONG_HELP, EVER_ABOUT, EVER_EXPLAIN_HELP, EVER_EXPLAIN_LONG_HELP, EVER_LONG_ABOUT,
+    EVER_STATUSES, EVER_STRONG_LONG_HELP, EVER_WORDS_LONG_HELP, EXPLAIN_HELP, EXPLAIN_LONG_HELP,
+    LIMIT_HELP, LIMIT_LONG_HELP, LONG_ABOUT, SEARCH_ABOUT, SEARCH_LONG_ABOUT, SEARCH_STATUSES,
+    STATES_HELP, STATES_LONG_HELP, STATUSES, STRONG_HELP, STRONG_LONG_HELP, TERMS_HELP,
+    TERMS_LONG_HELP, WORDS_HELP, WORDS_LONG_HELP,
 };
 use clap::error::ErrorKind;
 use clap::{Arg, ArgAction, ArgMatches, Command, Error, value_parser};
@@ -22,12 +24,16 @@ use std::alloc::{AllocError, Global};
 /// The most terms that a prefix may reach unless `--terms` is given.
 const DEFAULT_TERMS: usize = 100_000;
 
-/// The request that the words make. The first of them is the program's own name.
+/// The most product states that may be stored unless `--states` is given.
+const DEFAULT_STATES: usize = 1_000_000;
+
+/// The request that the words of a command line make. The first word is the program's own name.
 ///
 /// # Errors
 ///
 /// [`CommandFault::Help`] if the words ask for help, [`CommandFault::Wrong`] if they fit no command, and
-/// [`CommandFault::Memory`] if an allocation fails, whatever the words are.
+/// [`CommandFault::Memory`] if an allocation fails, whatever the words are. Words that clap accepts fail with
+/// [`CommandFault::Memory`] alone.
 pub fn request(alloc: Global, words: &[&str]) -> Result<Request, CommandFault>
     ensures is { IfOk result (λ r. RequestOf (texts_of words.now) (request_view r)) }
     ensures bounds { IfOk result HasBounds }
@@ -40,7 +46,7 @@ pub fn request(alloc: Global, words: &[&str]) -> Result<Request, CommandFault>
     }
 }
 
-// ---- the command line
+// ---- the command line for clap
 
 fn lotosseq_command<'a>(alloc: Global) -> Result<Command<'a>, AllocError>
     ensures { IfOk result (λ c. app_of c ≡ lotosseq) }
@@ -51,7 +57,8 @@ fn lotosseq_command<'a>(alloc: Global) -> Result<Command<'a>, AllocError>
         .after_help(STATUSES)
         .subcommand_required(true)
         .subcommand(search_command(alloc)?)?
-        .subcommand(check_command(alloc))
+        .subcommand(check_command(alloc))?
+        .subcommand(ever_command(alloc)?)
 }
 
 fn search_command<'a>(alloc: Global) -> Result<Command<'a>, AllocError>
@@ -63,9 +70,9 @@ fn search_command<'a>(alloc: Global) -> Result<Command<'a>, AllocError>
         .arg(limit_arg(alloc))?
         .arg(terms_arg(alloc))?
         .arg(after_arg(alloc))?
-        .arg(explain_arg(alloc))?
-        .arg(strong_arg(alloc))?
-        .arg(words_arg(alloc))
+        .arg(explain_arg(alloc, EXPLAIN_HELP, EXPLAIN_LONG_HELP))?
+        .arg(strong_arg(alloc, STRONG_LONG_HELP))?
+        .arg(words_arg(alloc, WORDS_LONG_HELP))
 }
 
 fn bare_search_command<'a>(alloc: Global) -> Command<'a>
@@ -86,6 +93,27 @@ fn check_command<'a>(alloc: Global) -> Command<'a>
         .about(CHECK_ABOUT)
         .long_about(CHECK_LONG_ABOUT)
         .after_help(CHECK_STATUSES)
+}
+
+fn ever_command<'a>(alloc: Global) -> Result<Command<'a>, AllocError>
+    ensures app { IfOk result (λ c. app_of c ≡ ever_app) }
+    ensures local { IfOk result (λ c. (fields_of c).has_globals ≡ false) }
+{
+    bare_ever_command(alloc)
+        .arg(states_arg(alloc))?
+        .arg(explain_arg(alloc, EVER_EXPLAIN_HELP, EVER_EXPLAIN_LONG_HELP))?
+        .arg(strong_arg(alloc, EVER_STRONG_LONG_HELP))?
+        .arg(words_arg(alloc, EVER_WORDS_LONG_HELP))
+}
+
+fn bare_ever_command<'a>(alloc: Global) -> Command<'a>
+    ensures app { app_of result ≡ new_app (codes "ever") }
+    ensures local { (fields_of result).has_globals ≡ false }
+{
+    Command::new(alloc, "ever")
+        .about(EVER_ABOUT)
+        .long_about(EVER_LONG_ABOUT)
+        .after_help(EVER_STATUSES)
 }
 
 fn depth_arg<'a>(alloc: Global) -> Arg<'a>
@@ -129,6 +157,20 @@ fn terms_arg<'a>(alloc: Global) -> Arg<'a>
         .long_help(TERMS_LONG_HELP)
 }
 
+fn states_arg<'a>(alloc: Global) -> Arg<'a>
+    ensures rule { rule_of result ≡ states_rule }
+    ensures local { result.global ≡ false }
+{
+    Arg::new(alloc, "states")
+        .long("states")
+        .action(ArgAction::Set)
+        .value_name("N")
+        .value_parser(value_parser!(usize).range(1..=100000000))
+        .default_value("1000000")
+        .help(STATES_HELP)
+        .long_help(STATES_LONG_HELP)
+}
+
 fn after_arg<'a>(alloc: Global) -> Arg<'a>
     ensures rule { rule_of result ≡ after_rule }
     ensures local { result.global ≡ false }
@@ -141,18 +183,18 @@ fn after_arg<'a>(alloc: Global) -> Arg<'a>
         .long_help(AFTER_LONG_HELP)
 }
 
-fn explain_arg<'a>(alloc: Global) -> Arg<'a>
+fn explain_arg<'a>(alloc: Global, help: &'a str, long_help: &'a str) -> Arg<'a>
     ensures rule { rule_of result ≡ explain_rule }
     ensures local { result.global ≡ false }
 {
     Arg::new(alloc, "explain")
         .long("explain")
         .action(ArgAction::SetTrue)
-        .help(EXPLAIN_HELP)
-        .long_help(EXPLAIN_LONG_HELP)
+        .help(help)
+        .long_help(long_help)
 }
 
-fn strong_arg<'a>(alloc: Global) -> Arg<'a>
+fn strong_arg<'a>(alloc: Global, long_help: &'a str) -> Arg<'a>
     ensures rule { rule_of result ≡ strong_rule }
     ensures local { result.global ≡ false }
 {
@@ -160,10 +202,10 @@ fn strong_arg<'a>(alloc: Global) -> Arg<'a>
         .long("strong")
         .action(ArgAction::SetTrue)
         .help(STRONG_HELP)
-        .long_help(STRONG_LONG_HELP)
+        .long_help(long_help)
 }
 
-fn words_arg<'a>(alloc: Global) -> Arg<'a>
+fn words_arg<'a>(alloc: Global, long_help: &'a str) -> Arg<'a>
     ensures rule { rule_of result ≡ words_rule }
     ensures local { result.global ≡ false }
 {
@@ -172,10 +214,10 @@ fn words_arg<'a>(alloc: Global) -> Arg<'a>
         .num_args(0..)
         .value_name("WORD")
         .help(WORDS_HELP)
-        .long_help(WORDS_LONG_HELP)
+        .long_help(long_help)
 }
 
-// ---- what was matched
+// ---- the request in clap's matches
 
 fn read_request(alloc: Global, found: &ArgMatches<'_>) -> Result<Request, AllocError>
     requires { FitsRequest (subcommand_rows_of found.now) }
@@ -185,6 +227,8 @@ fn read_request(alloc: Global, found: &ArgMatches<'_>) -> Result<Request, AllocE
     let (name, given) = found.subcommand().unwrap();
     if name == "search" {
         Ok(Request::Search(read_search_request(alloc, given)?))
+    } else if name == "ever" {
+        Ok(Request::Ever(read_ever_request(alloc, given)?))
     } else {
         Ok(Request::Check)
     }
@@ -202,6 +246,21 @@ fn read_search_request(alloc: Global, found: &ArgMatches<'_>) -> Result<SearchRe
         after: read_after(alloc, found)?,
         explain: read_explain(found),
         strong: read_strong(found),
+        words: read_words(alloc, found)?,
+    })
+}
+
+fn read_ever_request(alloc: Global, found: &ArgMatches<'_>) -> Result<EverRequest, AllocError>
+    requires { FitsEver (rows_of (found_of found.now)) }
+    ensures is { IfOk result (λ r. ever_from (rows_of (found_of found.now)) ≡ ever_view r) }
+    ensures bounds { IfOk result (λ r. 1 ≤ r.states) }
+{
+    let explain = read_explain(found);
+    let strong = read_strong(found);
+    Ok(EverRequest {
+        states: read_states(found),
+        explain,
+        strong,
         words: read_words(alloc, found)?,
     })
 }
@@ -225,6 +284,13 @@ fn read_terms(found: &ArgMatches<'_>) -> usize
     ensures { result ≡ option_map_or number (one_of (codes "terms") (rows_of (found_of found.now))) 100000 }
 {
     found.get_one::<usize>("terms").unwrap_or(DEFAULT_TERMS)
+}
+
+fn read_states(found: &ArgMatches<'_>) -> usize
+    requires { IfSome (one_of (codes "states") (rows_of (found_of found.now))) (IsNumberIn 1 100000000) }
+    ensures { result ≡ option_map_or number (one_of (codes "states") (rows_of (found_of found.now))) 1000000 }
+{
+    found.get_one::<usize>("states").unwrap_or(DEFAULT_STATES)
 }
 
 fn read_after(alloc: Global, found: &ArgMatches<'_>) -> Result<Option<String>, AllocError>

@@ -1,4 +1,4 @@
-//! The texts of help.
+//! The help texts.
 
 pub(crate) const ABOUT: &str =
     "Checks a basic LOTOS specification, and lists its observable action sequences";
@@ -9,16 +9,18 @@ pub(crate) const LONG_ABOUT: &str =
 The specification is read from standard input, and what is asked of it is written to
 standard output. A file is given by `< FILE`, as in
   lotosseq check < ring.lotos
-`lotosseq check --help` tells of the static rules, and `lotosseq search --help` of the
-listing, its options and the words of a pattern.";
+`lotosseq check --help` tells of the static rules, `lotosseq search --help` of the
+listing, its options and the words of a pattern, and `lotosseq ever --help` of matches
+of any length.";
 
 pub(crate) const STATUSES: &str = "Statuses:
-  0  the specification is accepted, or the listing is complete and has lines
-  1  the listing is complete and has none
+  0  the specification is accepted, the listing is complete and has lines, or there is
+     a match
+  1  the listing is complete and has none, or there is no match
   2  the command, the pattern, the mark or the specification is refused, or cannot
      be read
   3  the limit of lines is reached
-  4  a prefix reaches too many terms
+  4  a prefix reaches too many terms, or there are too many states
   5  memory was wanting
   6  the output cannot be written";
 
@@ -148,3 +150,78 @@ pub(crate) const SEARCH_STATUSES: &str = "Statuses:
   4  a prefix reaches too many terms
   5  memory was wanting
   6  the output cannot be written";
+
+pub(crate) const EVER_ABOUT: &str = "Finds a shortest match, of any length";
+
+pub(crate) const EVER_LONG_ABOUT: &str = "Finds a shortest match, of any length
+
+Reads a specification in basic LOTOS from standard input (a file is given by `< FILE`)
+and looks for a derivation, of any number of steps, whose sequence matches the pattern.
+If there is one, the sequence of one with the fewest steps is written to standard
+output. If there is none at any depth, nothing is written there, and the status is 1.
+
+For example, with the specification
+  specification S [a,b] : noexit behaviour P[a,b]
+  where process P [x,y] : noexit := x; y; P[x,y] endproc endspec
+the command `lotosseq ever '<while>' '<any>' B B` tells that it happens at no depth,
+and `lotosseq ever '<until>' B` writes
+  A B";
+
+pub(crate) const EVER_STATUSES: &str = "Statuses:
+  0  there is a match
+  1  there is none, of any length
+  2  the command, the pattern or the specification is refused, or cannot be read
+  4  there are too many states
+  5  memory was wanting
+  6  the output cannot be written";
+
+pub(crate) const STATES_HELP: &str = "The most states that may be reached, 1 to 100000000";
+
+pub(crate) const STATES_LONG_HELP: &str = "The most states that may be reached, 1 to 100000000
+
+A state is one of the specification and of the pattern together: a term that can be
+reached, and how much of the pattern the labels on the way match. If more of them are
+reached before a match is found, the search stops with status 4. Each takes some 3
+KiB of memory. For example, for `a; b; stop` and the pattern `A B` the search stops
+with `--states 1`.";
+
+pub(crate) const EVER_EXPLAIN_HELP: &str = "Writes the word of the derivation too";
+
+pub(crate) const EVER_EXPLAIN_LONG_HELP: &str = "Writes the word of the derivation too
+
+The line is then the sequence, ` : ` and a word: the labels of the derivation, internal
+steps included. For example, `i; i; a; stop` with `--explain A` gives
+  A : i i A";
+
+pub(crate) const EVER_STRONG_LONG_HELP: &str = "Makes the internal action `i` a label like others
+
+Sequences then show internal steps, `i` may be a word of the pattern, and elements
+match it like other labels. For example, `i; i; a; stop` with `--strong i i A` gives
+  i i A";
+
+pub(crate) const EVER_WORDS_LONG_HELP: &str = "The words of the pattern
+
+A pattern is a row of at most 256 elements, and matches the sequences that are made of
+one part for each of them, in this order. With no word it matches the empty sequence
+alone. Words are read in upper or lower case. In a shell those with `<` are quoted, as
+in `'<any>'`.
+
+  A              that one label: the name of a gate, or `exit` for successful
+                 termination. For example, `A B` matches `A B`.
+  <any>          any one label. `A <any>` matches `A B`.
+  <until> A      any number of labels other than A, and then A. `<until> B` matches
+                 `B` and `A A B`.
+  <while> A      any number of labels A. `A <while> B` matches `A` and `A B B`.
+  <while> <any>  any number of labels. `<while> <any> B` matches all that ends in `B`.
+  <deadlock>     nothing, where the end is a deadlock. `A <deadlock>` matches `A`,
+                 where nothing can follow.
+  <until> <deadlock>
+                 any number of labels, where the end is a deadlock.
+
+A deadlock is a term that has no step at all, not even an internal one. These last two
+may stand only at the end. `i` is a word of a pattern only with `--strong`, as the
+internal action cannot be observed. A word that is neither an element nor `exit` nor `i`
+names a gate of the specification's own list. Where the list does not have it, the word
+is refused with E49 and status 2, as no sequence could show it. For example, `C` is
+refused for
+  specification S [a,b] : noexit behaviour a; b; stop endspec";

@@ -1,7 +1,7 @@
 //! The command line of `lotosseq`.
 //!
-//! [`request`] reads the words by clap. It returns a [`Request`], or the text of help, or why the words fit no command.
-//! The command line in clap's own definitions is `specs/CommandRules.antt`.
+//! [`request`] reads the words with clap. It returns a [`Request`], or the help that they ask for, or why they fit no
+//! command, or that memory ran out. `specs/CommandRules.antt` describes the command line in clap's own definitions.
 #![tactic(auto)]
 
 mod command;
@@ -10,5 +10,5 @@ mod help;
 #[cfg(test)]
 mod tests;
 
-pub use command::{CommandFault, Request, SearchRequest};
+pub use command::{CommandFault, EverRequest, Request, SearchRequest};
 pub use command_line::request;

@@ -1,4 +1,4 @@
-//! Requests of words, with enough memory.
+//! Which requests and faults words make, as long as memory lasts.
 
 use crate::{CommandFault, Request, request};
 use std::alloc::Global;
@@ -49,12 +49,35 @@ fn reads_a_search(rt: HostRuntime) {
 }
 
 #[test]
+fn reads_a_question(rt: HostRuntime) {
+    let words = &["lotosseq", "ever", "A", "--states", "7", "--explain", "B"];
+    let Ok(Request::Ever(asked)) = request(rt.alloc(), words) else {
+        assert!(rt; false);
+        return;
+    };
+    assert_eq!(rt; asked.states, 7);
+    assert!(rt; asked.explain);
+    assert!(rt; !asked.strong);
+    assert_eq!(rt; asked.words.len(), 2);
+    let Ok(Request::Ever(asked)) = request(rt.alloc(), &["lotosseq", "ever"]) else {
+        assert!(rt; false);
+        return;
+    };
+    assert_eq!(rt; asked.states, 1_000_000);
+    assert!(rt; !asked.explain);
+    assert_eq!(rt; asked.words.len(), 0);
+}
+
+#[test]
 fn tells_help_from_faults(rt: HostRuntime) {
     let alloc = rt.alloc();
     assert!(rt; is_help(alloc, &["lotosseq", "--help"]));
     assert!(rt; is_help(alloc, &["lotosseq", "help", "search"]));
     assert!(rt; is_help(alloc, &["lotosseq", "check", "-h"]));
+    assert!(rt; is_help(alloc, &["lotosseq", "ever", "--help"]));
     assert!(rt; is_wrong(alloc, &["lotosseq"]));
+    assert!(rt; is_wrong(alloc, &["lotosseq", "ever", "--states", "0"]));
+    assert!(rt; is_wrong(alloc, &["lotosseq", "ever", "--depth", "3"]));
     assert!(rt; is_wrong(alloc, &["lotosseq", "search", "A"]));
     assert!(rt; is_wrong(alloc, &["lotosseq", "search", "--depth", "256"]));
     assert!(rt; is_wrong(alloc, &["lotosseq", "search", "--depth=1", "--limit=0"]));

@@ -1,4 +1,4 @@
--- How the output of a check ends.
+-- The outcome of a check.
 use Rattle.std.proofs.Common.{◌≡◌, ℕ, List, [], length, map, Option, None, ◌∙◌, sym, ap, append-nil}
 use Rattle.std.proofs.lemmas.List.{length-map}
 use Rattle.std.specs.Io.KnownBytes.{Appends}
@@ -13,7 +13,7 @@ use Rattle.lotos_tool.specs.declared.outcome.Ended.{Ended}
 use Rattle.lotos_tool.specs.declared.outcome.Ended.TheVariants.{Complete, Refused, Stopped}
 use Rattle.lotos_tool.specs.declared.outcome.Why.TheVariants as why
 
--- after all lines, the flush decides the answer
+-- all lines were written, and the flush decides
 pub check_ended : (left left' got mid got' : Option (List ℕ)) (system : System) (lines : ℕ) (ended : Ended) → ReadsAccepted left left' system →
     Appends got mid (check_lines system) → lines ≡ length system.processes → IsFinished mid got' None lines ended →
     CheckOutcome left left' got got' ended
@@ -43,6 +43,6 @@ check_ended left left' got mid got' system lines (Stopped kept why.Write) read f
   no_line = h.0;
 }
 
--- how many processes the program keeps
+-- a list of processes is as long as its view
 pub process_count : (processes : List Process) (shown : List FlatProcess) → map process_of processes ≡ shown → length processes ≡ length shown
 process_count processes shown e = sym (length-map processes process_of) ∙ ap length e

@@ -5,7 +5,7 @@ use Rattle.lotos_text.specs.declared.fault.TextFault.{TextFault}
 use Rattle.lotos_text.specs.declared.fault.TextFault.TheVariants.{E01, E02, E04, E05, E06, E07}
 use Rattle.lotos_tool.specs.OutcomeContracts.{IsPositionOf}
 
--- a fault with an offset has a place
+-- the position of a fault's offset is the position of the fault
 pub place_known : (text : List ℕ) (fault : TextFault) (at : ℕ) (place : ℕ × ℕ) →
     (fault ≡ E01 at) ⊎ ((fault ≡ E02 at) ⊎ ((fault ≡ E04 at) ⊎
     ((fault ≡ E05 at) ⊎ ((fault ≡ E06 at) ⊎ (fault ≡ E07 at))))) →

@@ -1,14 +1,20 @@
--- Labels as they are printed, and the text of a sequence of them.
-use Rattle.std.proofs.Common.{◌≡◌, ℕ, ◌≤◌, List, [], ◌∷◌, ◌++◌, length, refl, sym, subst, ap, ◌∙◌, drop, Some, append_assoc, append-nil}
+-- Printed labels, and the text of a sequence of them.
+use Rattle.std.proofs.Common.{◌≡◌, ℕ, ◌<◌, ◌≤◌, zero, suc, arith, slice_get, codes, List, [], ◌∷◌, ◌++◌, length, refl, sym, subst, ap, ◌∙◌, drop, Some, append_assoc, append-nil}
 use Rattle.std.specs.List.{flat_map}
 use Rattle.std.proofs.Math.ListN.{drop_of_length-le}
 use Rattle.lotos_check.specs.NameLists.{Name}
-use Rattle.lotos_terms.specs.TableView.{IsPrintedAs}
+use Rattle.lotos_terms.specs.TableView.{TableView, IsLabel, IsPrintedAs}
 use Rattle.lotos_terms.specs.declared.label.Label.{Label as TermLabel}
 use Rattle.lotos_terms.specs.declared.label.Label.TheVariants as l
 use Rattle.lotos_search.specs.Order.{Label}
 use Rattle.lotos_search.specs.Question.{ArePrinted, none_printed, more_printed}
 use Rattle.lotos_tool.specs.OutputLines.{sequence_text}
+
+-- the index of an item is below the length
+get_below : {A : Type 0} (xs : List A) (n : ℕ) (x : A) → slice_get xs n ≡ Some x → n < length xs
+get_below [] n x h = cc
+get_below (y ∷ ys) zero x h = omega arith
+get_below (y ∷ ys) (suc n) x h = let b = get_below ys n x h in omega arith
 
 -- a label has one text
 pub shows_one : (names : List Name) (k : TermLabel) (t u : List ℕ) → IsPrintedAs names k t → IsPrintedAs names k u → t ≡ u
@@ -16,7 +22,13 @@ shows_one names l.Exit t u h g = h ∙ sym g
 shows_one names l.Internal t u h g = h ∙ sym g
 shows_one names (l.Gate n) t u h g = let e : Some t ≡ Some u = sym h ∙ g in cc
 
--- the first label and the others, with their texts
+-- a label with a printed text is a label of the table
+pub label_known : (held : TableView) (k : TermLabel) (t : List ℕ) → IsPrintedAs held.names k t → IsLabel held k
+label_known held l.Exit t h = tt
+label_known held l.Internal t h = tt
+label_known held (l.Gate n) t h = get_below held.names n t h
+
+-- the texts of a list of labels: that of the first label, and those of the others
 pub record AreCut (names : List Name) (k : TermLabel) (ks : List TermLabel) (s : List Label) : Type 0 where
   pub first : Label
   pub others : List Label
@@ -30,11 +42,18 @@ cut_first names k ks _ (more_printed h hs) = record { first = _; others = _; sho
 nothing_shown : (names : List Name) (s : List Label) → ArePrinted names [] s → s ≡ []
 nothing_shown names _ none_printed = refl
 
--- the text so far and a blank and a label for each one that is left spell the sequence
+-- the text of the empty sequence
+pub none_spelled : (names : List Name) (labels : List TermLabel) (text : List ℕ) → labels ≡ [] → text ≡ codes "<empty>" →
+    (s : List Label) → ArePrinted names labels s → text ≡ sequence_text s
+none_spelled names labels text without written s all =
+    let e = nothing_shown names s (subst (λ ls. ArePrinted names ls s) without all) in
+    written ∙ sym (ap sequence_text e)
+
+-- the text so far, and a blank and the printed text of each label that is left, make up the text of the sequence
 abbrev pub IsLeft : List Name → List TermLabel → List ℕ → List Label → Type 0
 IsLeft names rest text s = (left : List Label) × ArePrinted names rest left × (text ++ flat_map (λ m. 32 ∷ m) left ≡ sequence_text s)
 
--- where the first label is written
+-- the first label is written
 pub left_at_first : (names : List Name) (labels rest : List TermLabel) (first : TermLabel) (shown text : List ℕ) → labels ≡ first ∷ rest →
     IsPrintedAs names first shown → text ≡ shown → (s : List Label) → ArePrinted names labels s → IsLeft names rest text s
 left_at_first names labels rest first shown text e h written s all =
@@ -42,7 +61,7 @@ left_at_first names labels rest first shown text e h written s all =
     let same = written ∙ shows_one names first shown cut.first h cut.shown in
     (cut.others, cut.all, ap (λ x. x ++ flat_map (λ m. 32 ∷ m) cut.others) same ∙ sym (ap sequence_text cut.joined))
 
--- one label more
+-- one more label is written
 pub left_behind : (names : List Name) (rest later : List TermLabel) (label : TermLabel) (text shown text' : List ℕ) (s : List Label) →
     rest ≡ label ∷ later → IsPrintedAs names label shown → text' ≡ (text ++ 32 ∷ []) ++ shown → IsLeft names rest text s → IsLeft names later text' s
 left_behind names rest later label text shown text' s e h written (left, all, whole) =
@@ -53,13 +72,13 @@ left_behind names rest later label text shown text' s e h written (left, all, wh
     let others = flat_map (λ m. 32 ∷ m) cut.others in
     (cut.others, cut.all, ap (λ x. x ++ others) grown ∙ append_assoc text (32 ∷ cut.first) others ∙ whole')
 
--- a label that is left has a text
+-- a label that is left has a printed text
 pub left_shown : (names : List Name) (rest later : List TermLabel) (label : TermLabel) (text : List ℕ) (s : List Label) → rest ≡ label ∷ later →
     IsLeft names rest text s → (t : List ℕ) × IsPrintedAs names label t
 left_shown names rest later label text s e (left, all, whole) =
     let cut = cut_first names label later left (subst (λ ls. ArePrinted names ls left) e all) in (cut.first, cut.shown)
 
--- where none is left the sequence is spelled
+-- if no label is left, the text is that of the sequence
 pub left_none : (names : List Name) (rest : List TermLabel) (i : ℕ) (text : List ℕ) (s : List Label) → length rest ≤ i →
     IsLeft names (drop i rest) text s → text ≡ sequence_text s
 left_none names rest i text s passed (left, all, whole) =

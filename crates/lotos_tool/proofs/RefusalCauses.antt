@@ -1,4 +1,4 @@
--- Texts that are not accepted.
+-- What rejections of texts mean.
 use Rattle.std.proofs.Common.{◌≡◌, ℕ, List, Option, Result, Ok, Err, IfErr, false, subst, arith}
 use Rattle.std.specs.Prelude.{Some}
 use Rattle.lotos_text.specs.Position.{IsPosition}
@@ -19,7 +19,7 @@ use Rattle.lotos_tool.specs.declared.refusal.Refusal.TheVariants as refusal
 use Rattle.lotos_tool.specs.declared.specification_input.Rejection.{Rejection}
 use Rattle.lotos_tool.specs.declared.specification_input.Rejection.TheVariants as unaccepted
 
--- a text that spells nothing is not accepted
+-- a text that spells no specification is not accepted
 pub nothing_accepted : (text : List ℕ) (fault : TextFault) → SpellsNoSpecification text fault → is_memory_fault fault ≡ false → (system : System) → Accepted text system → ⊥
 nothing_accepted text (text_fault.E99 e) h m system a = absurd cc
 nothing_accepted text (text_fault.E01 at) h m system a = h a.whole a.spelled
@@ -46,7 +46,7 @@ broken_unaccepted text fault at broken stands system a =
     refused (E26 at) h s accepted = h system accepted
     refused (E27 name set) h s accepted = h system accepted
 
--- the fact of a fault at this place
+-- a fault of the static check, with its position
 pub broken_at : (text : List ℕ) (fault : CheckFault) (at line column : ℕ) → IsCheckFaultOfText text fault → offset_of fault ≡ Some at →
     IsPosition text at line column → IsCheckFault text fault line column
 broken_at text fault at line column broken stands placed = record {

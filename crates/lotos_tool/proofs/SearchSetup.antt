@@ -1,4 +1,4 @@
--- The question of a listing, from the request and the text.
+-- The question and the outcome of a search, from the request and the text.
 use Rattle.std.proofs.Common.{◌≡◌, ◌↔◌, ℕ, List, [], Option, false, None, Some, arith, inl, inr, refl, sym, subst, ◌∙◌}
 use Rattle.std.proofs.KnownBytes.{Consumes-nil, Keeps-refl}
 use Rattle.std.specs.declared.string.String.{String}
@@ -22,7 +22,7 @@ use Rattle.lotos_tool.specs.declared.outcome.Ended.TheVariants.{Complete, Refuse
 use Rattle.lotos_tool.specs.declared.outcome.Why.TheVariants as why
 use Rattle.lotos_command.specs.declared.command.SearchRequest.{SearchRequest}
 
--- a search that was begun with a sound table of a system is a search of it
+-- the question of a search that began with a sound table of a system is about that system
 search_of_a_table : (system : System) (held : TableView) (p : Pattern) (depth : ℕ) (mark : Option (List Label)) (terms : ℕ) (search : SearchState) →
     IsTableOf system held → IsSoundView held → IsBegun held p depth mark terms search → IsQuestionOf system search.question
 search_of_a_table system held p depth mark terms search table sound begun =
@@ -36,7 +36,7 @@ search_of_a_table system held p depth mark terms search table sound begun =
       start = subst (λ ns. IsNumberedTerm ns system.start search.question.start) (sym begun.names) (subst (IsNumberedTerm held.names system.start) term table.start);
     }
 
--- a search that was begun for the request with a table of the system is one of what it asks
+-- a search that began with a table of the system, and with the request's depth and terms, is one for the request
 pub asked_of : (request : SearchRequest) (system : System) (held : TableView) (p : Pattern) (mark : Option (List Label)) (search : SearchState) →
     IsTableOf system held → IsSoundView held → IsBegun held p request.depth mark request.terms search → IsSearchFor request system p mark search
 asked_of request system held p mark search table sound begun = record {
@@ -48,7 +48,7 @@ asked_of request system held p mark search table sound begun = record {
   stage = begun.stage;
 }
 
--- a search that was begun for the request is what it asks
+-- the question of a search for the request is that of the request and the text
 pub asks : (request : SearchRequest) (left left' : Option (List ℕ)) (system : System) (p : Pattern) (mark : Option (List Label)) (search : SearchState) →
     ReadsAccepted left left' system → PatternOf request.strong (words_of request) p → IsMarkOf request.strong request.after mark →
     IsSearchFor request system p mark search → IsQuestionOfText request left left' search.question search.cursor
@@ -64,14 +64,14 @@ asks request left left' system p mark search read pattern marked begun = record 
   marked = subst (IsMarkOf request.strong request.after) (sym begun.cursor) marked;
 }
 
--- no listing ends in that the input cannot be read
+-- no outcome of a listing is an input fault
 pub no_input_fault : (request : SearchRequest) (got got' : Option (List ℕ)) (q : Question) (mark : Option (List Label)) (ended : Ended) →
     ListingOutcome request q mark got got' ended → is_input_fault ended ≡ false
 no_input_fault request got got' q mark (Complete lines) h = refl
 no_input_fault request got got' q mark (Refused cause) h = absurd h
 no_input_fault request got got' q mark (Stopped last why) h = refl
 
--- how its listing ends is the answer
+-- the outcome of the listing is that of the search
 pub answered : (request : SearchRequest) (left left' got got' : Option (List ℕ)) (q : Question) (mark : Option (List Label)) (ended : Ended) →
     IsQuestionOfText request left left' q mark → ListingOutcome request q mark got got' ended → SearchOutcome request left left' got got' ended
 answered request left left' got got' q mark (Complete lines) asks h = (q, mark, asks, h)
@@ -81,7 +81,7 @@ answered request left left' got got' q mark (Stopped last (why.OverTerms prefix)
 answered request left left' got got' q mark (Stopped last why.Memory) asks h = inr (q, mark, asks, h)
 answered request left left' got got' q mark (Stopped last why.Write) asks h = (q, mark, asks, h)
 
--- a line that is none of a listing, or want of memory at it, is the answer
+-- the outcome if the line is not one of a listing, or memory ran out when it was read
 pub mark_refused : (request : SearchRequest) (left got : Option (List ℕ)) (p : Pattern) (fault : MarkFault) (ended : Ended) →
     PatternOf request.strong (words_of request) p → IsFaultOfMark request.strong request.after fault → IsMarkOutcome fault ended →
     SearchOutcome request left left got got ended

@@ -3,4 +3,7 @@ pub mod OutputLines
 pub mod OutcomeContracts
 pub mod WriteFaults
 pub mod SearchSetup
+pub mod UnknownGates
+pub mod EverOutcomeContracts
+pub mod EverSetup
 pub mod ProgramRuns

@@ -1,4 +1,4 @@
--- The lines of a listing, and those of the processes of a system.
+-- The lines of a listing and of a match, and those of the processes of a system.
 use Rattle.std.specs.Prelude.{ℕ, Bool, true, false, List, [], ◌∷◌, ◌++◌, codes, decimal, length, map}
 use Rattle.std.specs.List.{flat_map}
 use Rattle.lotos_text.specs.declared.ast.Functionality.{Functionality}
@@ -6,7 +6,7 @@ use Rattle.lotos_text.specs.declared.ast.Functionality.TheVariants.{Exit, NoExit
 use Rattle.lotos_check.specs.Flat.{FlatProcess, System}
 use Rattle.lotos_search.specs.Order.{Label}
 
--- an item of a listing: a sequence, and its least run
+-- an item of a listing: a sequence, and its least run; or what is observed of a match, and its run
 pub record Item : Type 0 where
   pub sequence : List Label
   pub word : List Label

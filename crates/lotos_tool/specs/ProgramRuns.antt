@@ -9,7 +9,13 @@ use Rattle.lotos_tool.specs.declared.outcome.Ended.{Ended}
 use Rattle.lotos_tool.specs.declared.outcome.Ended.TheVariants.{Complete, Refused, Stopped}
 use Rattle.lotos_tool.specs.declared.outcome.Why.{Why}
 use Rattle.lotos_tool.specs.declared.outcome.Why.TheVariants as why
+use Rattle.lotos_tool.specs.EverOutcomeContracts.{EverOutcome, is_ever_input_fault}
+use Rattle.lotos_tool.specs.declared.outcome.EverEnded.{EverEnded}
+use Rattle.lotos_tool.specs.declared.outcome.EverEnded.TheVariants as ever
+use Rattle.lotos_tool.specs.declared.outcome.EverWhy.{EverWhy}
+use Rattle.lotos_tool.specs.declared.outcome.EverWhy.TheVariants as ever_why
 use Rattle.lotos_command.specs.declared.command.SearchRequest.{SearchRequest}
+use Rattle.lotos_command.specs.declared.command.EverRequest.{EverRequest}
 use Rattle.lotos_command.specs.declared.command.Request.TheVariants as asked
 
 -- the status of a stop: 3 at the limit, 4 at an oversized prefix, 5 out of memory, 6 if the output could not be written
@@ -19,13 +25,14 @@ stop_status_of (why.OverTerms prefix) = 4
 stop_status_of why.Memory = 5
 stop_status_of why.Write = 6
 
--- the status of a search: 0 if it is complete with lines, 1 if it is complete without, 2 if it is refused
+-- the status of a search: 0 if it is complete with lines, 1 if it is complete without, 2 if it is refused, and that of
+-- the stop if it stopped
 abbrev pub status_of : Ended → ℕ
 status_of (Complete lines) = if lines == 0 then 1 else 0
 status_of (Refused cause) = 2
 status_of (Stopped last cause) = stop_status_of cause
 
--- the words ask for a search, its outcome is true, and the status is that of the outcome
+-- the words ask for a search, which had an outcome, and the status is that of the outcome
 pub record SearchRan (words : List (List ℕ)) (left left' got got' : Option (List ℕ)) (failed : Bool) (status : ℕ) : Type 0 where
   pub request : SearchRequest
   pub asked : RequestOf words (request_view (asked.Search request))
@@ -41,7 +48,7 @@ check_status_of (Complete lines) = 0
 check_status_of (Refused cause) = 2
 check_status_of (Stopped last cause) = stop_status_of cause
 
--- the words ask for a check, its outcome is true, and the status is that of the outcome
+-- the words ask for a check, which had an outcome, and the status is that of the outcome
 pub record CheckRan (words : List (List ℕ)) (left left' got got' : Option (List ℕ)) (failed : Bool) (status : ℕ) : Type 0 where
   pub asked : RequestOf words (request_view asked.Check)
   pub ended : Ended
@@ -50,21 +57,48 @@ pub record CheckRan (words : List (List ℕ)) (left left' got got' : Option (Lis
   pub input : failed ≡ is_input_fault ended
   pub status_is : status ≡ check_status_of ended
 
--- the text was written and the status is 0, or the output failed after a prefix of it and the status is 6
+-- the status of a search for a match that stopped: 4 if there are too many states, 5 out of memory, 6 if the output
+-- could not be written
+abbrev pub no_answer_status_of : EverWhy → ℕ
+no_answer_status_of ever_why.TooManyStates = 4
+no_answer_status_of ever_why.Memory = 5
+no_answer_status_of ever_why.Write = 6
+
+-- the status of a search for a match: 0 if there is one, 1 if there is none, 2 if it is refused, and that of the stop
+-- if it stopped
+abbrev pub ever_status_of : EverEnded → ℕ
+ever_status_of ever.Happens = 0
+ever_status_of ever.Never = 1
+ever_status_of (ever.Refused cause) = 2
+ever_status_of (ever.NoGate n) = 2
+ever_status_of (ever.Stopped cause) = no_answer_status_of cause
+
+-- the words ask for a match of any length, the search for it had an outcome, and the status is that of the outcome
+pub record EverRan (words : List (List ℕ)) (left left' got got' : Option (List ℕ)) (failed : Bool) (status : ℕ) : Type 0 where
+  pub request : EverRequest
+  pub asked : RequestOf words (request_view (asked.Ever request))
+  pub ended : EverEnded
+  pub answered : EverOutcome request left left' got got' ended
+  -- the reader failed exactly if the outcome says so
+  pub input : failed ≡ is_ever_input_fault ended
+  pub status_is : status ≡ ever_status_of ended
+
+-- the text was written and the status is 0, or the output failed after a prefix of it, perhaps all of it, and the
+-- status is 6
 pub data HelpWritten (got got' : Option (List ℕ)) (text : List ℕ) (status : ℕ) : Type 0 where
   written : status ≡ 0 → Appends got got' text → HelpWritten got got' text status
   broken_off : status ≡ 6 → AppendsBeginning got got' text → HelpWritten got got' text status
 
--- what was written to the output if neither command ran, by the status
+-- the output and the status if no command ran
 pub data MessageOutput (words : List (List ℕ)) (got got' : Option (List ℕ)) (status : ℕ) : Type 0 where
-  -- help, if the words ask for it
+  -- help, if the words ask for it; which text it is stays open
   helped : AskForHelp words → (text : List ℕ) → HelpWritten got got' text status → MessageOutput words got got' status
-  -- nothing, if the words are wrong
+  -- nothing and 2, if the words fit no command
   wrong : AreRejected words → status ≡ 2 → Keeps got got' → MessageOutput words got got' status
-  -- nothing, if memory ran out
+  -- nothing and 5, if memory ran out
   wanting : status ≡ 5 → Keeps got got' → MessageOutput words got got' status
 
--- neither command ran, nothing was read, and for words that are accepted this means that memory ran out
+-- no command ran, and nothing was read; if clap accepts the words, memory ran out
 pub record NoCommandRan (words : List (List ℕ)) (left left' got got' : Option (List ℕ)) (failed : Bool) (status : ℕ) : Type 0 where
   pub kept : Keeps left left'
   pub unfailed : failed ≡ false
@@ -75,4 +109,4 @@ pub record NoCommandRan (words : List (List ℕ)) (left left' got got' : Option 
 abbrev pub Ran : List (List ℕ) → Option (List ℕ) → Option (List ℕ) → Option (List ℕ) → Option (List ℕ) → Bool → ℕ → Type 0
 Ran words left left' got got' failed status =
     SearchRan words left left' got got' failed status ⊎ CheckRan words left left' got got' failed status
-    ⊎ NoCommandRan words left left' got got' failed status
+    ⊎ EverRan words left left' got got' failed status ⊎ NoCommandRan words left left' got got' failed status

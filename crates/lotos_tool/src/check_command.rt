@@ -15,8 +15,9 @@ use std::alloc::Global;
 /// inner ones.
 ///
 /// A refusal is returned with nothing written. All lines are composed before the first byte is written; if no write
-/// fails, one flush follows. At most one byte more than a text may have is taken from the reader, whatever it returns.
-/// Neither the reader nor the writer may have failed before.
+/// fails, one flush follows. The outcome is [`Ended::Complete`] with the number of processes, or [`Ended::Refused`], or
+/// [`Ended::Stopped`] with [`Why::Memory`] or [`Why::Write`]. At most one byte more than a text may have is taken from
+/// the reader, whatever it returns. Neither the reader nor the writer may have failed before.
 pub fn check_text<R: Source, W: Sink>(alloc: Global, reader: &mut R, writer: &mut W) -> Ended
     requires reader { R.has_failed reader.old ≡ false }
     requires writer { W.has_failed writer.old ≡ false }

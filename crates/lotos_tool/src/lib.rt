@@ -1,12 +1,15 @@
 //! The command `lotosseq` as a library: from the words of the command line and the bytes of a specification to the
-//! lines of a listing.
+//! lines of the output and the exit status.
 //!
 //! [`request`] reads the words, [`list`] reads a text and writes the listing, [`check_text`] reads a text and writes
-//! its processes, and [`run`] does what the words ask for and returns the exit status. Readers and writers are a
-//! [`Source`] and a [`Sink`]; [`FromRead`] and [`FromWrite`] make them from std's.
+//! its processes, [`ever`] reads a text and writes a shortest match, and [`run`] does what the words ask for and
+//! returns the exit status. Readers and writers are a [`Source`] and a [`Sink`]; [`FromRead`] and [`FromWrite`] make
+//! them from std's.
 #![tactic(auto)]
 
 mod check_command;
+mod ever_command;
+mod label_printer;
 mod listing_output;
 mod messages;
 mod outcome;
@@ -14,13 +17,16 @@ mod output_flush;
 mod output_lines;
 mod program;
 mod refusal;
+mod request_pattern;
 mod search_command;
 mod specification_input;
+mod unknown_gates;
 
 pub use check_command::check_text;
-pub use lotos_command::{CommandFault, Request, SearchRequest, request};
+pub use ever_command::ever;
+pub use lotos_command::{CommandFault, EverRequest, Request, SearchRequest, request};
 pub use lotos_device::{DeviceFailed, FromRead, FromWrite, Sink, Source};
-pub use outcome::{Ended, Why};
+pub use outcome::{Ended, EverEnded, EverWhy, Why};
 pub use program::run;
 pub use refusal::Refusal;
 pub use search_command::list;

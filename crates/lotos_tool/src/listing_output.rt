@@ -1,4 +1,4 @@
-//! The output of a listing, item by item as the search finds them.
+//! The output of a listing, item by item as the search returns them.
 ghost use Rattle.std.specs.Prelude.{◌≡◌, ◌⊎◌, ◌≤◌, ℕ, List, IfErr, IfOk, IfSome, IsErrOf, OnOk, Option, false, string_bytes};
 ghost use Rattle.std.specs.Io.KnownBytes.{Appends, Keeps};
 ghost use Rattle.lotos_search.specs.Order.{Label as Text};
@@ -20,7 +20,8 @@ use lotos_search::{Found, Halt, Search};
 use lotos_terms::Label;
 use std::alloc::{AllocError, Global};
 
-/// Writes the line of each item as the search finds it, until the listing ends or stops.
+/// Writes the line of each item as the search returns it, until the listing ends or stops. The search must not have
+/// ended or halted. One flush follows a listing that ends, or stops at the limit or at an oversized prefix.
 pub fn write_listing<W: Sink>(
     alloc: Global,
     request: &SearchRequest,
@@ -57,8 +58,8 @@ pub fn write_listing<W: Sink>(
     }
 }
 
-/// Writes an item's line and returns the text of its sequence. The line and the text are complete before the first byte
-/// is written.
+/// Writes an item's line and returns the text of its sequence. The line and the text are composed before the first byte
+/// is written. Fails with `Why::Memory`, with nothing written, or `Why::Write`.
 fn write_item<W: Sink>(
     alloc: Global,
     search: &Search,
@@ -90,7 +91,7 @@ fn write_item<W: Sink>(
     }
 }
 
-/// Whether the limit is this number of lines.
+/// Whether there is a limit, and it is this number of lines.
 fn is_at_limit(lines: u64, limit: Option<u32>) -> bool
     ensures at { result ≡ is_at_limit lines limit }
     ensures small { IsSmall limit }
@@ -101,7 +102,7 @@ fn is_at_limit(lines: u64, limit: Option<u32>) -> bool
     }
 }
 
-/// Why a listing stops, given the halt of a search that was running.
+/// Why a listing stops, given the halt of a search that was running. Flushes the output at an oversized prefix.
 fn cause_of_halt<W: Sink>(alloc: Global, search: &Search, halt: &Halt, writer: &mut W) -> Why
     requires halt { (cursor : Option (List Text)) × IsHalt search.now.question cursor halt.now }
     requires unfailed { W.has_failed writer.old ≡ false }
@@ -116,7 +117,8 @@ fn cause_of_halt<W: Sink>(alloc: Global, search: &Search, halt: &Halt, writer: &
     }
 }
 
-/// Why a listing stops at an oversized prefix: that prefix, or out of memory for its text, or a failed flush.
+/// Why a listing stops at an oversized prefix: that prefix, or out of memory for its text, or a failed flush. There is
+/// no flush if memory runs out.
 fn oversized_cause<W: Sink>(alloc: Global, search: &Search, prefix: &[Label], writer: &mut W) -> Why
     requires shown { (r : List Text) × ArePrinted search.now.question.names prefix.now r }
     requires unfailed { W.has_failed writer.old ≡ false }

@@ -1,17 +1,18 @@
 //! Messages for standard error. They do not allocate, and write errors are ignored.
 
-use crate::outcome::Why;
+use crate::outcome::{EverWhy, Why};
 use crate::refusal::Refusal;
 use itoa::Buffer;
 use std::fmt;
 use std::io::Write;
 
-/// Reports why a search or a check is refused.
+/// Reports why a command is refused.
 pub(crate) fn report_refusal<E: Write>(err: &mut E, refusal: &Refusal) {
     let _ = writeln!(err, "lotosseq: {refusal}");
 }
 
-/// Reports after which sequence a search stopped, and why. `terms` is the bound on the terms of a prefix.
+/// Reports after which sequence a listing stopped, if a line was written, and why. `terms` is the bound on the terms of
+/// a prefix.
 pub(crate) fn report_stop<E: Write>(err: &mut E, last: &Option<String>, why: &Why, terms: usize) {
     let cause = CauseText { why, terms };
     let _ = match last {
@@ -20,17 +21,47 @@ pub(crate) fn report_stop<E: Write>(err: &mut E, last: &Option<String>, why: &Wh
     };
 }
 
-/// Reports why a command that lists no sequences failed.
+/// Reports why a run without a listing failed.
 pub(crate) fn report_failure<E: Write>(err: &mut E, why: &Why) {
     let _ = writeln!(err, "lotosseq: {}", CauseText { why, terms: 0 });
 }
 
-/// Writes a text that has its own line feeds.
+/// Reports that there is no match of any length.
+pub(crate) fn report_never<E: Write>(err: &mut E) {
+    let _ = writeln!(err, "lotosseq: it happens at no depth");
+}
+
+/// Reports that the word of the pattern with this number, counted from 1, names a gate that is not in the
+/// specification's own list.
+pub(crate) fn report_no_gate<E: Write>(err: &mut E, number: usize) {
+    let _ = writeln!(
+        err,
+        "lotosseq: E49 word {} is no gate of the specification",
+        NumberText(number)
+    );
+}
+
+/// Reports why a search for a match stopped. `states` is the bound on the product states.
+pub(crate) fn report_no_answer<E: Write>(err: &mut E, why: &EverWhy, states: usize) {
+    match why {
+        EverWhy::TooManyStates => {
+            let _ = writeln!(
+                err,
+                "lotosseq: stopped: more than {} states",
+                NumberText(states)
+            );
+        }
+        EverWhy::Memory => report_failure(err, &Why::Memory),
+        EverWhy::Write => report_failure(err, &Why::Write),
+    }
+}
+
+/// Writes a text as it is, with its own line feeds.
 pub(crate) fn report_text<E: Write>(err: &mut E, text: &str) {
     let _ = write!(err, "{text}");
 }
 
-/// The text of why a search or a check stopped; `terms` is the bound on the terms of a prefix.
+/// The text of a cause; `terms` is the bound on the terms of a prefix.
 #[derive(Drop)]
 struct CauseText<'a> {
     why: &'a Why,

@@ -1,27 +1,55 @@
-//! The outcome of a search or a check.
+//! The outcomes of the commands.
 
 use crate::refusal::Refusal;
 
 /// How a search or a check ended.
 #[derive(Debug, Drop)]
 pub enum Ended {
-    /// Everything was written: `lines` lines, or the greatest `u64` if there are more.
+    /// Everything was written and flushed: `lines` lines, or more if this is the greatest `u64`.
     Complete { lines: u64 },
     /// Nothing was written, for this reason.
     Refused(Refusal),
-    /// The output stopped. `last` is the last sequence whose line was written completely; a check has none.
+    /// The output stopped. `last` is the text of the last sequence whose line was written completely, if there is one;
+    /// a check has none.
     Stopped { last: Option<String>, why: Why },
 }
 
-/// Why a search or a check stopped. A check has no limit and no prefixes.
+/// Why a search or a check stopped. A check stops only for [`Why::Memory`] and [`Why::Write`].
 #[derive(Debug, Drop)]
 pub enum Why {
     /// As many lines as the limit were written.
     Limit,
-    /// The first oversized prefix: it can still match and reaches more terms than the bound.
+    /// The text of the first oversized prefix: a prefix that can still match and reaches more terms than the bound.
     OverTerms(String),
     /// Out of memory.
     Memory,
-    /// The output could not be written.
+    /// The output could not be written or flushed.
+    Write,
+}
+
+/// How a search for a match of any length ended.
+#[derive(Debug, Drop)]
+pub enum EverEnded {
+    /// There is a match, and the line of a shortest one was written and flushed.
+    Happens,
+    /// There is no match of any length. Nothing was written.
+    Never,
+    /// Nothing was written, for this reason.
+    Refused(Refusal),
+    /// The word of the pattern with this number, counted from 1, names a gate that is not in the specification's own
+    /// list. Nothing was written.
+    NoGate(usize),
+    /// The search or the output stopped, for this reason.
+    Stopped(EverWhy),
+}
+
+/// Why a search for a match of any length, or its output, stopped.
+#[derive(Clone, Copy, Debug)]
+pub enum EverWhy {
+    /// More product states than the request allows were found before any match. Nothing was written.
+    TooManyStates,
+    /// Out of memory. Nothing was written.
+    Memory,
+    /// There is a match, and its line could not be written or flushed. A prefix of the line may have been written.
     Write,
 }

@@ -1,13 +1,15 @@
-//! The flush at the end of the output.
-ghost use Rattle.std.specs.Prelude.{◌≡◌, if◌then◌else◌, false};
-ghost use Rattle.std.specs.Io.KnownBytes.{Keeps};
+//! The end of the output: the flush.
+ghost use Rattle.std.specs.Prelude.{◌≡◌, if◌then◌else◌, false, OnErr, OnOk, is_err};
+ghost use Rattle.std.specs.Io.KnownBytes.{Appends, Keeps};
+ghost use Rattle.lotos_device.specs.ByteOutput.{AppendsBeginning};
 ghost use Rattle.lotos_tool.specs.OutcomeContracts.{is_output_fault};
 ghost use Rattle.lotos_tool.specs.SearchSetup.{IsFinished};
 
 use crate::outcome::{Ended, Why};
-use lotos_device::{DeviceFailed, Sink};
+use lotos_device::{DeviceFailed, Sink, write_bytes};
 
-/// Flushes the complete output.
+/// Flushes the complete output and returns the outcome: complete with this number of lines, or stopped after `last` if
+/// the flush fails.
 pub fn flush_complete<W: Sink>(writer: &mut W, last: Option<String>, lines: u64) -> Ended
     requires { W.has_failed writer.old ≡ false }
     ensures finished { IsFinished (W.got writer.old) (W.got writer.new) last lines result }
@@ -22,7 +24,7 @@ pub fn flush_complete<W: Sink>(writer: &mut W, last: Option<String>, lines: u64)
     }
 }
 
-/// Flushes output that stopped for this cause. Returns the cause, or `Why::Write` if the flush fails.
+/// Flushes output that stopped for this cause. Returns the cause, or [`Why::Write`] if the flush fails.
 pub fn flush_stopped<W: Sink>(writer: &mut W, why: Why) -> Why
     requires { W.has_failed writer.old ≡ false }
     ensures kept { Keeps (W.got writer.old) (W.got writer.new) }
@@ -32,4 +34,15 @@ pub fn flush_stopped<W: Sink>(writer: &mut W, why: Why) -> Why
         Ok(()) => why,
         Err(DeviceFailed) => Why::Write,
     }
+}
+
+/// Writes the bytes, which are the whole output, and flushes it once if no write fails.
+pub fn write_and_flush<W: Sink>(writer: &mut W, bytes: &[u8]) -> Result<(), DeviceFailed>
+    requires { W.has_failed writer.old ≡ false }
+    ensures whole { OnOk result (Appends (W.got writer.old) (W.got writer.new) bytes.now) }
+    ensures beginning { OnErr result (AppendsBeginning (W.got writer.old) (W.got writer.new) bytes.now) }
+    ensures failed { W.has_failed writer.new ≡ is_err result }
+{
+    write_bytes(writer, bytes)?;
+    writer.flush()
 }

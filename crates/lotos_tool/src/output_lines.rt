@@ -5,70 +5,70 @@ ghost use Rattle.lotos_search.specs.Order.{Label as Text};
 ghost use Rattle.lotos_search.specs.Question.{ArePrinted};
 ghost use Rattle.lotos_tool.specs.OutputLines.{run_text, functionality_text, process_line, sequence_text};
 
+use crate::label_printer::LabelPrinter;
 use itoa::Buffer;
 use lotos_check::Process;
-use lotos_search::Search;
 use lotos_terms::Label;
 use lotos_text::Functionality;
 use std::alloc::{AllocError, Global};
 
-/// A sequence as text: its printed labels, separated by one blank each, or `<empty>`. The labels must be those of the
-/// search.
-pub fn format_sequence(
+/// A sequence as text: its printed labels, separated by one blank each, or `<empty>`. The labels must be labels of
+/// `texts`.
+pub fn format_sequence<T: LabelPrinter>(
     alloc: Global,
-    search: &Search,
+    texts: &T,
     labels: &[Label],
 ) -> Result<String, AllocError>
-    requires { (s : List Text) × ArePrinted search.now.question.names labels.now s }
-    ensures { IfOk result (λ text. (s : List Text) → ArePrinted search.now.question.names labels.now s →
+    requires { (s : List Text) × ArePrinted (T.names texts.now) labels.now s }
+    ensures { IfOk result (λ text. (s : List Text) → ArePrinted (T.names texts.now) labels.now s →
         string_bytes text ≡ sequence_text s) }
 {
     let Some((first, rest)) = labels.split_first() else {
         return String::from_str(alloc, "<empty>");
     };
-    let mut text = String::from_str(alloc, search.label_text(*first))?;
+    let mut text = String::from_str(alloc, texts.text(*first))?;
     // Enough for labels of one letter.
     text.reserve(rest.len().saturating_mul(2))?;
     for label in rest {
         text.push_str(" ")?;
-        text.push_str(search.label_text(*label))?;
+        text.push_str(texts.text(*label))?;
     }
     Ok(text)
 }
 
-/// The line of a sequence with this text, followed by its run if `explain` is set.
-pub fn format_line(
+/// The line of a sequence with this text: the text, with `explain` ` : ` and the run, and a line feed.
+pub fn format_line<T: LabelPrinter>(
     alloc: Global,
-    search: &Search,
+    texts: &T,
     text: &str,
     word: &[Label],
     explain: bool,
 ) -> Result<Vec<u8>, AllocError>
-    requires { (w : List Text) × ArePrinted search.now.question.names word.now w }
-    ensures { IfOk result (λ line. (w : List Text) → ArePrinted search.now.question.names word.now w →
+    requires { (w : List Text) × ArePrinted (T.names texts.now) word.now w }
+    ensures { IfOk result (λ line. (w : List Text) → ArePrinted (T.names texts.now) word.now w →
         line.items ≡ text.now ++ run_text explain w ++ 10 ∷ []) }
 {
     let mut line = Vec::with_capacity(alloc, text.len() + 1)?;
     line.extend_from_slice(text.as_bytes())?;
     if explain {
-        append_run(alloc, search, word, &mut line)?;
+        append_run(alloc, texts, word, &mut line)?;
     }
     line.push(b'\n')?;
     Ok(line)
 }
 
 /// Appends ` : ` and the run.
-fn append_run(
+fn append_run<T: LabelPrinter>(
     alloc: Global,
-    search: &Search,
+    texts: &T,
     word: &[Label],
     line: &mut Vec<u8>,
 ) -> Result<(), AllocError>
-    requires { (w : List Text) × ArePrinted search.now.question.names word.now w }
-    ensures { OnOk result ((w : List Text) → ArePrinted search.now.question.names word.now w →
+    requires { (w : List Text) × ArePrinted (T.names texts.now) word.now w }
+    ensures { OnOk result ((w : List Text) → ArePrinted (T.names texts.now) word.now w →
         line.new.items ≡ line.old.items ++ run_text true w) }
 {
-    let text = format_sequence(alloc, search, word)?;
+    let text = format_sequence(alloc, texts, word)?;
     line.extend_from_slice(b" : ")?;
     line.extend_from_slice(text.as_bytes())
 }

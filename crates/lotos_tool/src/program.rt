@@ -1,26 +1,33 @@
-//! The program, from the words of its command line to its exit status.
-ghost use Rattle.std.specs.Prelude.{◌≡◌, ◌+◌, ◌≤◌, ◌==◌, false, OnOk, OnErr, is_err};
-ghost use Rattle.std.specs.Io.KnownBytes.{Appends};
+//! The program: from the words of its command line to its exit status.
+ghost use Rattle.std.specs.Prelude.{◌≡◌, ◌+◌, ◌≤◌, ◌==◌, false};
 ghost use Rattle.lotos_text.specs.Limits.{max_text_length};
 ghost use Rattle.lotos_tool.specs.OutcomeContracts.{is_output_cause, is_output_fault};
+ghost use Rattle.lotos_tool.specs.EverOutcomeContracts.{is_ever_output_cause, is_ever_output_fault};
 ghost use Rattle.lotos_command.specs.Request.{texts_of};
-ghost use Rattle.lotos_tool.specs.ProgramRuns.{HelpWritten, Ran, check_status_of, status_of, stop_status_of};
-ghost use Rattle.lotos_device.specs.ByteOutput.{AppendsBeginning};
+ghost use Rattle.lotos_tool.specs.ProgramRuns.{HelpWritten, Ran, check_status_of, ever_status_of, no_answer_status_of, status_of, stop_status_of};
 
 use crate::check_command::check_text;
-use crate::messages::{report_failure, report_refusal, report_stop, report_text};
-use crate::outcome::{Ended, Why};
+use crate::ever_command::ever;
+use crate::messages::{
+    report_failure, report_never, report_no_answer, report_no_gate, report_refusal, report_stop,
+    report_text,
+};
+use crate::outcome::{Ended, EverEnded, EverWhy, Why};
+use crate::output_flush::write_and_flush;
 use crate::search_command::list;
 use lotos_command::{CommandFault, Request, request};
-use lotos_device::{DeviceFailed, Sink, Source, write_bytes};
+use lotos_device::{DeviceFailed, Sink, Source};
 use std::alloc::Global;
 use std::io::Write;
 
-/// Runs the command and returns its exit status.
+/// Runs the command that the words ask for and returns its exit status: 0 for a complete output with lines, an accepted
+/// specification, a match, or help; 1 for a listing without lines, or no match; 2 for words, a pattern, a mark, or a
+/// specification that is refused, or input that cannot be read; 3 at the limit of lines; 4 for a prefix with too many
+/// terms, or too many states; 5 out of memory; 6 for output that cannot be written.
 ///
-/// The first of the words is the program's own name. The listing, or the help if the words ask for it, goes to `out`,
-/// and every message to `err`; errors of `err` change no status. At most one byte more than a text may have is taken
-/// from the reader, whatever it returns. Neither the reader nor `out` may have failed before.
+/// The first of the words is the program's own name. The lines of the command, or the help if the words ask for it, go
+/// to `out`, and every message to `err`; errors of `err` change no status. At most one byte more than a text may have
+/// is taken from the reader, whatever it returns. Neither the reader nor `out` may have failed before.
 pub fn run<R: Source, W: Sink, E: Write>(
     alloc: Global,
     words: &[&str],
@@ -42,6 +49,11 @@ pub fn run<R: Source, W: Sink, E: Write>(
             search.terms,
             err,
         ),
+        Ok(Request::Ever(question)) => report_ever(
+            &ever(alloc, &question, reader, out),
+            question.states,
+            err,
+        ),
         Err(CommandFault::Help(text)) => write_help(text.as_str(), out, err),
         Err(CommandFault::Wrong(text)) => {
             report_text(err, text.as_str());
@@ -54,7 +66,7 @@ pub fn run<R: Source, W: Sink, E: Write>(
     }
 }
 
-/// Reports a search that is not complete, and returns its status. `terms` is the bound on the terms of a prefix.
+/// Reports a search unless it is complete, and returns its status. `terms` is the bound on the terms of a prefix.
 fn report_search<E: Write>(ended: &Ended, terms: usize, err: &mut E) -> u8
     ensures status { result ≡ status_of ended.now }
     ensures output { is_output_fault ended.now ≡ (result == 6) }
@@ -73,7 +85,7 @@ fn report_search<E: Write>(ended: &Ended, terms: usize, err: &mut E) -> u8
     }
 }
 
-/// Reports a check that is not complete, and returns its status.
+/// Reports a check unless it is complete, and returns its status.
 fn report_check<E: Write>(ended: &Ended, err: &mut E) -> u8
     ensures status { result ≡ check_status_of ended.now }
     ensures output { is_output_fault ended.now ≡ (result == 6) }
@@ -91,7 +103,46 @@ fn report_check<E: Write>(ended: &Ended, err: &mut E) -> u8
     }
 }
 
-/// The status of a command that stopped for this cause.
+/// Reports a search for a match unless a match was written, and returns its status. `states` is the bound on the
+/// product states.
+fn report_ever<E: Write>(ended: &EverEnded, states: usize, err: &mut E) -> u8
+    ensures status { result ≡ ever_status_of ended.now }
+    ensures output { is_ever_output_fault ended.now ≡ (result == 6) }
+{
+    match ended {
+        EverEnded::Happens => 0,
+        EverEnded::Never => {
+            report_never(err);
+            1
+        }
+        EverEnded::Refused(refusal) => {
+            report_refusal(err, refusal);
+            2
+        }
+        EverEnded::NoGate(number) => {
+            report_no_gate(err, *number);
+            2
+        }
+        EverEnded::Stopped(why) => {
+            report_no_answer(err, why, states);
+            no_answer_status(why)
+        }
+    }
+}
+
+/// The status of a search for a match that stopped for this cause.
+fn no_answer_status(why: &EverWhy) -> u8
+    ensures status { result ≡ no_answer_status_of why.now }
+    ensures output { is_ever_output_cause why.now ≡ (result == 6) }
+{
+    match why {
+        EverWhy::TooManyStates => 4,
+        EverWhy::Memory => 5,
+        EverWhy::Write => 6,
+    }
+}
+
+/// The status of a search or a check that stopped for this cause.
 fn stop_status(why: &Why) -> u8
     ensures status { result ≡ stop_status_of why.now }
     ensures output { is_output_cause why.now ≡ (result == 6) }
@@ -104,28 +155,17 @@ fn stop_status(why: &Why) -> u8
     }
 }
 
-/// Writes the help and returns the status.
+/// Writes the help and returns the status, 0, or 6 if the output fails.
 fn write_help<W: Sink, E: Write>(text: &str, out: &mut W, err: &mut E) -> u8
     requires { W.has_failed out.old ≡ false }
     ensures shown { HelpWritten (W.got out.old) (W.got out.new) text.now result }
     ensures output { W.has_failed out.new ≡ (result == 6) }
 {
-    match write_text(text, out) {
+    match write_and_flush(out, text.as_bytes()) {
         Ok(()) => 0,
         Err(DeviceFailed) => {
             report_failure(err, &Why::Write);
             6
         }
     }
-}
-
-/// Writes a text and flushes.
-fn write_text<W: Sink>(text: &str, out: &mut W) -> Result<(), DeviceFailed>
-    requires { W.has_failed out.old ≡ false }
-    ensures whole { OnOk result (Appends (W.got out.old) (W.got out.new) text.now) }
-    ensures beginning { OnErr result (AppendsBeginning (W.got out.old) (W.got out.new) text.now) }
-    ensures failed { W.has_failed out.new ≡ is_err result }
-{
-    write_bytes(out, text.as_bytes())?;
-    out.flush()
 }

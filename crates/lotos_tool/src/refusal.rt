@@ -1,4 +1,4 @@
-//! Why a search or a check is refused.
+//! Why a command is refused.
 
 use crate::messages::PositionText;
 use lotos_check::CheckFault;
@@ -7,17 +7,18 @@ use lotos_search::MarkFault;
 use lotos_text::TextFault;
 use thiserror::Error;
 
-/// Why nothing is listed. Lines and columns are counted from 1, columns in bytes.
+/// Why a command is refused. Lines and columns are counted from 1, columns in bytes.
 #[derive(Debug, Drop, Error)]
 pub enum Refusal {
-    /// The text spells no specification. `place` is the position of the fault's offset; E03 has none. The fault is
-    /// never E99.
+    /// The text spells no specification. `place` is the line and the column of the fault's offset; E03 has none. The
+    /// fault is never E99.
     #[error("{}{}", PositionText(*.place), .fault)]
     Text {
         fault: TextFault,
         place: Option<(usize, usize)>,
     },
-    /// The specification breaks a static rule. Line and column are those of the fault's offset. The fault is never E99.
+    /// The specification breaks a static rule. `line` and `column` are those of the fault's offset. The fault is never
+    /// E99.
     #[error("{}{}", PositionText(Some((*.line, *.column))), .fault)]
     Check {
         fault: CheckFault,
@@ -27,7 +28,7 @@ pub enum Refusal {
     /// The words spell no pattern. The fault is never E99.
     #[error(transparent)]
     Pattern(PatternFault),
-    /// The line of the mark is not one of a listing. The fault is never E99.
+    /// The line of the mark is not a line of a listing. The fault is never E99.
     #[error(transparent)]
     Mark(MarkFault),
     /// The input cannot be read.

@@ -1,9 +1,7 @@
 //! The command `search`, from the text to the lines of the listing.
-ghost use Rattle.std.specs.Prelude.{◌≡◌, ◌+◌, ◌≤◌, IfErr, IfOk, None, Some, false, map, string_bytes};
+ghost use Rattle.std.specs.Prelude.{◌≡◌, ◌+◌, ◌≤◌, IfErr, IfOk, None, Some, false};
 ghost use Rattle.lotos_text.specs.Limits.{max_text_length};
 ghost use Rattle.lotos_check.specs.CheckedView.{system_of};
-ghost use Rattle.lotos_pattern.specs.Faults.{IsCause, SpellsNone};
-ghost use Rattle.lotos_pattern.specs.Spelling.{PatternOf, texts_of};
 ghost use Rattle.lotos_tool.specs.OutcomeContracts.{SearchOutcome, IsMarkOf, is_input_fault, is_output_fault};
 ghost use Rattle.lotos_command.specs.Request.{HasSearchBounds};
 ghost use Rattle.lotos_tool.specs.SearchSetup.{IsSearchFor, IsFaultOfMark, IsMarkOutcome, IsPatternOutcome};
@@ -13,6 +11,7 @@ ghost use Rattle.lotos_tool.specs.declared.outcome.Why.TheVariants.{Memory};
 use crate::listing_output::write_listing;
 use crate::outcome::{Ended, Why};
 use crate::refusal::Refusal;
+use crate::request_pattern::read_pattern;
 use crate::specification_input::{Rejection, read_specification};
 use lotos_check::Checked;
 use lotos_command::SearchRequest;
@@ -22,17 +21,17 @@ use lotos_search::{Mark, MarkFault, Search};
 use lotos_terms::Table;
 use std::alloc::{AllocError, Global};
 
-/// Reads a specification and writes the listing of its sequences that match the request's pattern: those that some
-/// derivation of at most the request's depth of steps yields, each once, shorter first, then in the order of their
-/// labels. With a mark only those after it are written.
+/// Reads a specification and writes the listing of its sequences that match the request's pattern: what is observed of
+/// its derivations of at most the request's depth of steps, each sequence once, shorter ones first, then in the order
+/// of their labels. With a mark only the sequences after it are listed.
 ///
 /// The words of the pattern are read first, then the mark, then the text, whose specification is checked. The first of
 /// these to be refused is returned with nothing written, and the words and the mark are refused with nothing read. A
 /// line is composed completely before its first byte is written. The listing stops when as many lines as the limit are
-/// written, at the first prefix that reaches more terms than the request allows, when memory runs out, and when the
-/// output cannot be written. A complete listing, and one that stops at the limit or at such a prefix, ends with one
-/// flush. At most one byte more than a text may have is taken from the reader, whatever it returns. Neither the reader
-/// nor the writer may have failed before.
+/// written, at the first prefix that can still match and reaches more terms than the request allows, when memory runs
+/// out, and when the output cannot be written. A complete listing, and one that stops at the limit or at such a prefix,
+/// ends with one flush. At most one byte more than a text may have is taken from the reader, whatever it returns.
+/// Neither the reader nor the writer may have failed before.
 pub fn list<R: Source, W: Sink>(
     alloc: Global,
     request: &SearchRequest,
@@ -47,7 +46,7 @@ pub fn list<R: Source, W: Sink>(
     ensures input { R.has_failed reader.new ≡ is_input_fault result }
     ensures output { W.has_failed writer.new ≡ is_output_fault result }
 {
-    let pattern = match read_pattern(alloc, request) {
+    let pattern = match read_pattern(alloc, &request.words, request.strong) {
         Ok(pattern) => pattern,
         Err(fault) => return pattern_refusal(fault),
     };
@@ -66,28 +65,7 @@ pub fn list<R: Source, W: Sink>(
     }
 }
 
-/// The pattern that the words spell.
-fn read_pattern(alloc: Global, request: &SearchRequest) -> Result<Pattern, PatternFault>
-    ensures pattern { IfOk result (PatternOf request.now.strong (map string_bytes request.now.words.items)) }
-    ensures cause { IfErr result (IsCause request.now.strong (map string_bytes request.now.words.items)) }
-    ensures nothing { IfErr result (SpellsNone request.now.strong (map string_bytes request.now.words.items)) }
-{
-    let texts = borrow_texts(alloc, request.words.as_slice())?;
-    Pattern::read(alloc, texts.as_slice(), request.strong)
-}
-
-/// The words as borrowed texts.
-fn borrow_texts<'a>(alloc: Global, words: &'a [String]) -> Result<Vec<&'a str>, AllocError>
-    ensures { IfOk result (λ v. texts_of v.items ≡ map string_bytes words.now) }
-{
-    let mut texts = Vec::new(alloc);
-    for word in words {
-        texts.push(word.as_str())?;
-    }
-    Ok(texts)
-}
-
-/// The mark that the line names, if one is given.
+/// The mark of the request's line, if one is given.
 fn read_mark(alloc: Global, request: &SearchRequest) -> Result<Option<Mark>, MarkFault>
     ensures mark { IfOk result (IsMarkOf request.now.strong request.now.after) }
     ensures fault { IfErr result (IsFaultOfMark request.now.strong request.now.after) }
@@ -98,7 +76,7 @@ fn read_mark(alloc: Global, request: &SearchRequest) -> Result<Option<Mark>, Mar
     }
 }
 
-/// Begins the search that the request asks for in a specification.
+/// Begins the search that the request asks for in an accepted specification.
 fn begin_search(
     alloc: Global,
     request: &SearchRequest,
@@ -115,7 +93,7 @@ fn begin_search(
     Search::begin(alloc, table, pattern, request.depth, mark, request.terms)
 }
 
-/// The outcome of a search whose words spell no pattern.
+/// The outcome for words that spell no pattern: a refusal, or out of memory for E99.
 fn pattern_refusal(fault: PatternFault) -> Ended
     ensures { IsPatternOutcome fault result }
 {
@@ -130,7 +108,7 @@ fn pattern_refusal(fault: PatternFault) -> Ended
     }
 }
 
-/// The outcome of a search whose line is no mark.
+/// The outcome for a line that is not one of a listing: a refusal, or out of memory for E99.
 fn mark_refusal(fault: MarkFault) -> Ended
     ensures { IsMarkOutcome fault result }
 {
@@ -140,7 +118,7 @@ fn mark_refusal(fault: MarkFault) -> Ended
     }
 }
 
-/// The outcome of a search for which memory ran out before any line.
+/// The outcome if memory runs out before the listing begins.
 fn out_of_memory() -> Ended
     ensures { result ≡ Stopped None Memory }
 {

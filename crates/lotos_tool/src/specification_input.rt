@@ -1,4 +1,4 @@
-//! The input: reads a text, parses it and checks the specification.
+//! The input: the text is read and parsed, and its specification is checked.
 ghost use Rattle.std.specs.Prelude.{◌≡◌, ◌+◌, ◌≤◌, IfOk, IfErr, false, length};
 ghost use Rattle.lotos_text.specs.OffsetsInside.{IsFaultInside};
 ghost use Rattle.lotos_text.specs.Limits.{max_text_length};
@@ -15,7 +15,7 @@ use lotos_device::{ReadFault, Source, read_text};
 use lotos_text::{TextFault, line_column, parse};
 use std::alloc::Global;
 
-/// Why no specification was accepted.
+/// Why no specification was accepted: the input is refused, or memory ran out.
 #[derive(Debug, Drop)]
 pub enum Rejection {
     Refused(Refusal),
@@ -23,7 +23,8 @@ pub enum Rejection {
 }
 
 /// Reads a whole text and returns its specification if it is accepted. At most one byte more than a text may have is
-/// taken from the reader, whatever it returns.
+/// taken from the reader, whatever it returns. The text is refused with E47 if the reader fails, with E03 if it is too
+/// long, and otherwise with the fault of the parser or of the static check.
 pub fn read_specification<R: Source>(alloc: Global, reader: &mut R) -> Result<Checked, Rejection>
     requires { R.has_failed reader.old ≡ false }
     ensures accepted { IfOk result (λ found. ReadsAccepted (R.left reader.old) (R.left reader.new) (system_of found)) }
@@ -61,7 +62,7 @@ fn accept_text(alloc: Global, text: &[u8]) -> Result<Checked, Rejection>
     }
 }
 
-/// The rejection for a fault of the static check.
+/// The rejection for a fault of the static check, at the fault's position.
 fn reject_check(text: &[u8], fault: CheckFault) -> Rejection
     requires broken { IsCheckFaultOfText text.now fault }
     requires inside { IsOffsetWithin (length text.now) fault }
@@ -80,7 +81,7 @@ fn reject_check(text: &[u8], fault: CheckFault) -> Rejection
     }
 }
 
-/// The rejection for a fault of the parse.
+/// The rejection for a fault of the parser, at the fault's position if it has one.
 fn reject_text(text: &[u8], fault: TextFault) -> Rejection
     requires refused { IsFaultOfText text.now fault }
     requires nothing { SpellsNoSpecification text.now fault }

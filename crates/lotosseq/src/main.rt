@@ -1,4 +1,5 @@
-//! The program `lotosseq`: passes its words and its standard streams to the library, and exits with the status.
+//! The program `lotosseq`: passes the words of its command line and its standard streams to the library, and exits with
+//! the status that the library returns.
 #![tactic(auto)]
 
 use lotos_tool::{FromRead, FromWrite, run};
@@ -39,7 +40,8 @@ fn texts_of<'a>(alloc: Global, words: &'a [String]) -> Result<Vec<&'a str>, Allo
     Ok(texts)
 }
 
-/// Reports that memory ran out before the words could be read, and returns the status.
+/// Reports as out of memory that the words of the command line could not be read, and returns the status. A word that
+/// is not UTF-8 is reported so too.
 fn no_words(rt: &impl Eprint) -> ExitCode {
     let _ = eprintln!(rt; "lotosseq: E99 out of memory");
     ExitCode::from(5)

@@ -1,4 +1,4 @@
-//! Bytes to writers that take a few bytes per call, fail, or take nothing.
+//! Bytes written to writers that take a few bytes per call, fail, or take nothing.
 
 use super::memory_devices::{ArrayWriter, WhenFull};
 use lotos_device::{DeviceFailed, FromWrite, Sink, write_bytes};
@@ -20,7 +20,7 @@ fn writes_bytes_whole_in_any_pieces(rt: HostRuntime) {
     }
 }
 
-/// Writes to writers that are full after each number of bytes, from 0 on.
+/// Writes the line to a writer that is full after fewer bytes than the line has, for each such number.
 fn break_off_everywhere(rt: &impl Abort, writer_that: &str, when_full: WhenFull) {
     for most in 0..LINE.len() {
         let mut array = ArrayWriter::new(2);

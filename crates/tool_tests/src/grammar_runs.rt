@@ -1,4 +1,4 @@
-//! Runs over texts of the complete grammar, and the faults of texts.
+//! Complete runs over texts with processes and comments, and the faults of texts.
 
 use super::memory_devices::{ArrayWriter, SliceReader, run_on};
 use std::alloc::{AllocError, Global};
@@ -98,7 +98,8 @@ fn prefixes_nest_so_deep_and_no_deeper(rt: HostRuntime) -> Result<(), AllocError
     Ok(())
 }
 
-/// Searches the text, and expects the output and the message; the status is 0 exactly if there is no message.
+/// Searches the text, and expects the output and the message; with a message also status 2 and no flush, without one
+/// status 0 and one flush.
 fn expect(rt: &impl Abort, alloc: Global, name: &str, text: &[u8], output: &[u8], message: &[u8]) {
     let reader = SliceReader::new(text, 4096);
     let out = ArrayWriter::new(4096);

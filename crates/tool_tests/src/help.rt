@@ -2,7 +2,7 @@
 
 use super::memory_devices::{ArrayWriter, SliceReader, WhenFull, run_on};
 
-/// Words that ask for help, and the first line of that help.
+/// Command lines that ask for help, and the first line of that help.
 const ROWS: &[(&[&str], &[u8])] = &[
     (
         &["lotosseq", "check", "--help"],
@@ -15,6 +15,10 @@ const ROWS: &[(&[&str], &[u8])] = &[
     (
         &["lotosseq", "search", "--help"],
         b"Lists the sequences that match a pattern\n",
+    ),
+    (
+        &["lotosseq", "ever", "--help"],
+        b"Finds a shortest match, of any length\n",
     ),
 ];
 

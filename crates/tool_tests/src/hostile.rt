@@ -1,4 +1,4 @@
-//! Complete runs over texts, words and devices that are as bad as they can be.
+//! Complete runs over texts, words and devices at their limits and beyond.
 
 mod failing_messages;
 mod foreign_bytes;
@@ -24,7 +24,7 @@ struct Answer<'a> {
     status: u8,
 }
 
-/// Runs the words on the text, and expects this answer.
+/// Runs the words on the text, and expects this answer, and one flush if the status is 0 or 1.
 fn expect(
     rt: &impl Abort,
     alloc: Global,

@@ -1,9 +1,9 @@
-//! Runs with many lines, a deep one, and a long one.
+//! Runs with many lines, with a line of many labels, and with a line of one long label.
 
 use super::memory_devices::{ArrayWriter, Comparer, SliceReader, run_on};
 use std::alloc::AllocError;
 
-/// The lines that a run has to write.
+/// The lines that a run must write.
 #[derive(Clone, Copy, Debug)]
 pub enum Awaited {
     /// All sequences of twelve labels `A` or `B`, ascending.
@@ -15,7 +15,7 @@ pub enum Awaited {
 }
 
 impl Awaited {
-    /// The byte at an index of a line.
+    /// The byte at an index of the line with this number, counted from 0.
     pub fn byte(self, line: usize, place: usize) -> u8 {
         match self {
             Awaited::TwoGates => two_gates(line, place),
@@ -25,7 +25,7 @@ impl Awaited {
     }
 }
 
-/// The byte at an index of a line of twelve labels `A` or `B`; the lines ascend from number 0.
+/// The byte at an index of a line of twelve labels `A` or `B`. The lines ascend, and the first has the number 0.
 fn two_gates(line: usize, place: usize) -> u8 {
     if place == 23 {
         return b'\n';

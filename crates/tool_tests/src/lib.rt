@@ -1,4 +1,4 @@
-//! Tests of the command over readers and writers in memory, through its crates' public items.
+//! Tests of the command over readers and writers in memory, through the public items of its crates.
 //!
 //! They are a crate of their own, because a crate with tests inside is proved twice.
 #![tactic(auto)]
@@ -7,6 +7,8 @@
 mod byte_output_tests;
 #[cfg(test)]
 mod check_runs;
+#[cfg(test)]
+mod ever_runs;
 #[cfg(test)]
 mod grammar_runs;
 #[cfg(test)]

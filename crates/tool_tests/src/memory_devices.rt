@@ -1,4 +1,4 @@
-//! Readers and writers in memory, which move a few bytes per call, count their calls, and fail on demand.
+//! Readers and writers in memory that move a few bytes per call, count their calls, and fail on demand.
 ghost use Rattle.std.specs.Prelude.{◌≡◌, ◌≤◌, Some, take};
 
 use super::large_runs::Awaited;
@@ -13,7 +13,7 @@ use std::io::{Error, ErrorKind, Read, Write};
 pub struct SliceReader<'a> {
     /// The bytes that are left.
     pub rest: &'a [u8],
-    /// The most bytes that a read moves; at least one.
+    /// The most bytes that a read moves; 0 means 1.
     pub piece: usize,
     /// The number of the read that fails, counted from 1.
     pub fails_at: Option<usize>,
@@ -22,7 +22,7 @@ pub struct SliceReader<'a> {
 }
 
 impl<'a> SliceReader<'a> {
-    /// A reader that has not been called, and does not fail.
+    /// A reader that has not been called, and that never fails.
     pub fn new(bytes: &'a [u8], piece: usize) -> SliceReader<'a> {
         SliceReader {
             rest: bytes,
@@ -49,7 +49,7 @@ impl Read for SliceReader<'_> {
     }
 }
 
-/// A reader that gives one blank per read, and never ends.
+/// A reader that returns one blank per read, and never ends.
 #[derive(Drop)]
 pub struct Blanks {
     /// The number of reads so far.
@@ -78,14 +78,14 @@ pub enum WhenFull {
     TakesNothing,
 }
 
-/// A writer that keeps the bytes that it takes.
+/// A writer that stores the bytes that it takes.
 #[derive(Drop)]
 pub struct ArrayWriter {
     bytes: [u8; ROOM],
     len: usize,
     /// The most bytes that a write takes.
     pub piece: usize,
-    /// The number of bytes after which it is full; it never keeps more than 8192.
+    /// The number of bytes after which it is full; it is full after 8192 in any case.
     pub most: usize,
     pub when_full: WhenFull,
     pub flush_fails: bool,
@@ -108,7 +108,7 @@ impl ArrayWriter {
         }
     }
 
-    /// The bytes so far.
+    /// The bytes that were written so far.
     pub fn got(&self) -> &[u8]
         ensures { result.now ≡ take self.now.len self.now.bytes }
     {
@@ -146,20 +146,20 @@ impl Write for ArrayWriter {
 /// A writer that takes everything and compares it with expected lines of one length.
 #[derive(Drop)]
 pub struct Comparer {
-    /// The lines that are expected.
+    /// The expected lines.
     pub awaited: Awaited,
-    /// The length of a line in bytes, its line feed included; at least one.
+    /// The length of a line in bytes, its line feed included; 0 means 1.
     pub length: usize,
-    /// The number of bytes so far.
+    /// The number of bytes that were written so far.
     pub got: usize,
-    /// The number of bytes so far that are not as expected.
+    /// The number of bytes so far that differ from the expected ones.
     pub others: usize,
-    /// The most bytes of a write so far.
+    /// The number of bytes of the largest write so far.
     pub largest: usize,
 }
 
 impl Comparer {
-    /// A writer that has got nothing.
+    /// A writer to which nothing was written.
     pub fn new(awaited: Awaited, length: usize) -> Comparer {
         Comparer {
             awaited,
@@ -190,7 +190,7 @@ impl Write for Comparer {
     }
 }
 
-/// Runs the command on the devices, and returns the status and the devices.
+/// Runs the command with these words on the devices, and returns the status and the devices.
 pub fn run_on<R: Read, W: Write>(
     alloc: Global,
     words: &[&str],

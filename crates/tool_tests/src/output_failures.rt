@@ -16,7 +16,7 @@ const WORDS: &[&str] = &[
 
 const LISTING: &[u8] = b"B\nA B\nA exit\n";
 
-/// The number of bytes after which the output fails, and the message.
+/// The least and the greatest number of bytes after which the output fails with the same message, and the message.
 const BROKEN: &[(usize, usize, &[u8])] = &[
     (
         0,
@@ -54,7 +54,7 @@ fn the_output_fails_within_each_line(rt: HostRuntime) {
     }
 }
 
-/// Lists to an output that is full after `most` bytes, and expects the message.
+/// Runs the search with an output that is full after `most` bytes, and expects the message.
 fn break_off(
     rt: &impl Abort,
     alloc: std::alloc::Global,
@@ -75,7 +75,7 @@ fn break_off(
     assert_eq!(rt; out.flushes, 0, "after {most}");
 }
 
-/// A search that ends with a flush.
+/// A search that ends with a flush; `broken` is the message if the flush fails.
 struct Row {
     name: &'static str,
     text: &'static [u8],

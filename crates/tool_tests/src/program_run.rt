@@ -1,4 +1,4 @@
-//! Complete runs of the program.
+//! A complete run of the program with words that fit no command.
 
 use super::memory_devices::{ArrayWriter, SliceReader, run_on};
 

@@ -13,7 +13,7 @@ use super::memory_devices::{ArrayWriter, SliceReader, run_on};
 use std::alloc::Global;
 use std::process::Abort;
 
-/// A search of a text.
+/// A search of a text, and what it writes.
 struct Row {
     name: &'static str,
     text: &'static [u8],
@@ -23,7 +23,7 @@ struct Row {
     status: u8,
 }
 
-/// Makes the search, and expects the output, the message, the status, and one flush.
+/// Runs the search, and expects the output, the message, the status, and one flush.
 fn expect(rt: &impl Abort, alloc: Global, row: &Row) {
     let name = row.name;
     let reader = SliceReader::new(row.text, 4096);

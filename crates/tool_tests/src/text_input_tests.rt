@@ -1,4 +1,4 @@
-//! Texts from readers that give a few bytes per call, fail, or never end.
+//! Texts from readers that return a few bytes per call, fail, or never end.
 
 use super::memory_devices::{Blanks, SliceReader};
 use lotos_device::{FromRead, ReadFault, Source, read_text};

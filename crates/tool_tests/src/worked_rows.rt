@@ -1,8 +1,8 @@
-//! Complete runs of one search each: the output, the message, and the status.
+//! Complete runs of searches, of help, and of words that fit no command: the output, the message, and the status.
 
 use super::memory_devices::{ArrayWriter, SliceReader, WhenFull, run_on};
 
-/// A search of a text by the words after `search --depth`.
+/// A search of a text, and what it writes.
 struct Row {
     name: &'static str,
     text: &'static [u8],
@@ -192,7 +192,7 @@ fn searches(rt: HostRuntime) {
     }
 }
 
-/// Words after `search --depth 1` that are refused before anything is read, and the message.
+/// Command lines with patterns that are refused before anything is read, and the message of each.
 const PATTERNS: &[(&[&str], &[u8])] = &[
     (
         &["lotosseq", "search", "--depth", "1", "I"],
@@ -278,7 +278,7 @@ fn patterns_that_are_refused_before_anything_is_read(rt: HostRuntime) {
     }
 }
 
-/// Lines after `--after` that are not lines of a listing.
+/// Values of `--after` that are not lines of a listing.
 const NO_LINES: &[&str] = &[
     "",
     " ",

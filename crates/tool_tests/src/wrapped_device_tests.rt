@@ -1,4 +1,4 @@
-//! The failures that the wrappers of std's readers and writers remember.
+//! The wrappers of std's readers and writers, which remember a failure.
 
 use super::memory_devices::{ArrayWriter, SliceReader};
 use lotos_device::{DeviceFailed, FromRead, FromWrite, Sink, Source};

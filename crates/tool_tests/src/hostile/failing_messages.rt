@@ -1,4 +1,4 @@
-//! Messages that cannot be written: they change neither the output nor the status.
+//! Messages that cannot be written: this changes neither the output nor the status.
 
 use super::super::memory_devices::{ArrayWriter, SliceReader, WhenFull, run_on};
 
@@ -9,7 +9,7 @@ struct Row {
     name: &'static str,
     text: &'static [u8],
     words: &'static [&'static str],
-    /// The bytes after which the output fails.
+    /// The number of bytes after which the output fails.
     most: usize,
     output: &'static [u8],
     message: &'static [u8],

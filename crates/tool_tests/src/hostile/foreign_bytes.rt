@@ -66,7 +66,7 @@ fn bytes_that_are_no_ascii_begin_no_token(rt: HostRuntime) -> Result<(), AllocEr
     Ok(())
 }
 
-/// Names with letters that are not ASCII, some of which have a case variant in ASCII.
+/// Words with characters that are not ASCII, some of which have a case variant in ASCII, and one with a zero byte.
 const STRANGERS: &[&str] = &[
     "\u{e4}",
     "A\u{e9}",

@@ -11,7 +11,7 @@ const TOO_LONG: &[u8] = b"lotosseq: E03 text is longer than 1048576 bytes\n";
 
 const NO_TOKEN: &[u8] = b"lotosseq: 1:1: E01 byte begins no token\n";
 
-/// The text, padded with the byte to the length.
+/// The text, padded with the byte to this length in bytes.
 fn filled(alloc: Global, text: &[u8], byte: u8, length: usize) -> Result<Vec<u8>, AllocError> {
     let mut filled = Vec::from_slice(alloc, text)?;
     for _byte in text.len()..length {

@@ -1,4 +1,4 @@
-//! Each construct nested as deep as it may be, and one deeper.
+//! Each construct nested as deep as the limit allows, and one deeper.
 
 use super::{Answer, NOTHING, SEARCH, expect, expect_refused};
 use std::alloc::{AllocError, Global};

@@ -4,8 +4,8 @@ use super::expect_refused;
 
 const TEXT: &[u8] = b"specification S [a,b] : exit behaviour a; b; exit endspec";
 
-/// Prefixes from one length to another, and their message: a keyword that is cut short is another word, and otherwise
-/// the text ends where more is needed.
+/// The least and the greatest length of prefixes with the same message, and the message. A keyword that is cut short is
+/// another word; otherwise the text ends too early.
 const ROWS: &[(usize, usize, &[u8])] = &[
     (0, 0, b"lotosseq: 1:1: E06 text ends too early\n"),
     (1, 12, b"lotosseq: 1:1: E04 token is not expected\n"),

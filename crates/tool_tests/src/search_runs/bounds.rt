@@ -1,4 +1,4 @@
-//! Rows of prefixes that reach more terms than the bound.
+//! Searches with a bound on the terms of a prefix.
 
 use super::{Row, expect};
 

@@ -1,4 +1,4 @@
-//! Rows of deadlocks, elements, depths and least runs.
+//! Searches for deadlocks, elements, depths and least runs.
 
 use super::{Row, expect};
 

@@ -1,4 +1,4 @@
-//! Rows of enabling, parallel operators and bounds on terms.
+//! Searches of enabling and parallel operators, with least runs and bounds on terms.
 
 use super::{Row, expect};
 

@@ -1,4 +1,4 @@
-//! Rows of limits on the number of lines.
+//! Searches with a limit on the number of lines.
 
 use super::{Row, expect};
 

@@ -1,4 +1,4 @@
-//! Rows of listings after a mark.
+//! Searches whose listing begins after a mark.
 
 use super::{Row, expect};
 

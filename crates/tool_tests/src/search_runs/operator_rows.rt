@@ -1,4 +1,4 @@
-//! Rows of the forms of behaviour expressions.
+//! Searches of each form of behaviour expression.
 
 use super::{Row, expect};
 

@@ -1,4 +1,4 @@
-//! Rows of elements that repeat.
+//! Searches for patterns with elements that repeat.
 
 use super::{Row, expect};
 

@@ -1,4 +1,4 @@
-//! Rows in which internal steps are observed.
+//! Searches that observe internal steps.
 
 use super::{Row, expect};
 

@@ -6,11 +6,11 @@ use Rattle.clap.specs.declared.builder.command.Command.{Command}
 use Rattle.clap.specs.declared.builder.command.Command.TheViews.{out-Command}
 use Rattle.lotos_command.proofs.command_line.search_command.Goals as goal
 
--- one argument more, of this rule
+-- adding an argument adds its rule
 adds : (old new : Command) (a : Arg) (app : App) (r : Rule) → AddsArg old a new → app_of old ≡ app → rule_of a ≡ r → a.global ≡ false → app_of new ≡ with_rule app r
 adds old new a app r h is rule local = h.shape local ∙ ap₂ with_rule is rule
 
--- an argument of one command leaves it without one of all
+-- adding an argument that is not global leaves a command without global ones
 stays_local : (old new : Command) (a : Arg) → AddsArg old a new → (out-Command old).has_globals ≡ false → a.global ≡ false → (out-Command new).has_globals ≡ false
 stays_local old new a h before local = h.globals ∙ ap₂ (λ (x y : Bool). x || y) before local
 

@@ -6,7 +6,7 @@ use Rattle.lotos_tool.specs.OutputLines.{Item}
 use Rattle.lotos_tool.proofs.ListingProgress.{Progress}
 use Rattle.lotos_tool.proofs.listing_output.write_listing.Given as goal
 
--- the lines of some items were written, fewer than a limit; the search goes on, and the writer has not failed
+-- the lines of some items were written, fewer than the limit; the search goes on, and the writer has not failed
 abbrev pub invariant-loop-found : goal.invariant-loop-found
 invariant-loop-found g l = record {
   items : List Item;
@@ -17,6 +17,6 @@ invariant-loop-found g l = record {
   unfailed : g.W.Sink.has_failed l.writer ≡ false;
 }
 
--- the sequences that stand behind the last item
+-- how many sequences of at most the question's depth come after the last item
 abbrev pub decreases-loop-found : goal.decreases-loop-found
 decreases-loop-found g l = remaining l.search.question l.search.cursor

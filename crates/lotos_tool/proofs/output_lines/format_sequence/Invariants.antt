@@ -5,8 +5,8 @@ use Rattle.lotos_search.specs.Question.{ArePrinted}
 use Rattle.lotos_tool.specs.OutputLines.{sequence_text}
 use Rattle.lotos_tool.proofs.output_lines.format_sequence.Given as goal
 
--- whatever the labels are printed as, the text so far and a blank and a label for each one that is left spell it
+-- the text so far, and a blank and the printed text of each label that is left, make up the text of the sequence
 abbrev pub invariant-loop-label : goal.invariant-loop-label
-invariant-loop-label l = (s : List Label) → ArePrinted l.search.question.names l.labels s →
-    (left : List Label) × ArePrinted l.search.question.names (drop l.label-index l.rest) left
+invariant-loop-label g l = (s : List Label) → ArePrinted (g.T.LabelPrinter.names l.texts) l.labels s →
+    (left : List Label) × ArePrinted (g.T.LabelPrinter.names l.texts) (drop l.label-index l.rest) left
     × (string_bytes l.text ++ flat_map (λ m. 32 ∷ m) left ≡ sequence_text s)

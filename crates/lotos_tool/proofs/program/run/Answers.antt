@@ -3,11 +3,14 @@ use Rattle.std.proofs.KnownBytes.{Keeps-refl}
 use Rattle.lotos_tool.specs.OutcomeContracts.{SearchOutcome, CheckOutcome, is_input_fault}
 use Rattle.lotos_command.specs.CommandFaults.{IsFaultOf}
 use Rattle.lotos_command.specs.Request.{RequestOf, request_view, texts_of}
-use Rattle.lotos_tool.specs.ProgramRuns.{CheckRan, SearchRan, status_of, check_status_of}
+use Rattle.lotos_tool.specs.ProgramRuns.{CheckRan, EverRan, SearchRan, check_status_of, ever_status_of, status_of}
 use Rattle.lotos_tool.specs.ProgramRuns.MessageOutput.{helped, wrong}
 use Rattle.lotos_tool.specs.declared.outcome.Ended.{Ended}
 use Rattle.lotos_command.specs.declared.command.Request.{Request}
 use Rattle.lotos_command.specs.declared.command.Request.TheVariants as one
+use Rattle.lotos_tool.specs.EverOutcomeContracts.{EverOutcome, is_ever_input_fault}
+use Rattle.lotos_tool.specs.declared.outcome.EverEnded.{EverEnded}
+use Rattle.lotos_command.specs.declared.command.EverRequest.{EverRequest}
 use Rattle.lotos_command.specs.declared.command.SearchRequest.{SearchRequest}
 use Rattle.lotos_tool.proofs.program.run.Goals as goal
 
@@ -25,6 +28,17 @@ module _ (words : List (List ℕ)) (left left' got got' : Option (List ℕ)) (br
       let Asks : Request → Type 0 = λ r. RequestOf words (request_view r) in
       record { asked = subst Asks is asks; ended = ended; answered = answers; input = input; status_is = status_is }
 
+  questioned : (asked : Request) (request : EverRequest) (ended : EverEnded) → EverOutcome request left left' got got' ended → broken ≡ is_ever_input_fault ended
+      → status ≡ ever_status_of ended → asked ≡ one.Ever request → RequestOf words (request_view asked)
+      → EverRan words left left' got got' broken status
+  questioned asked request ended answers input status_is is asks =
+      let Asks : Request → Type 0 = λ r. RequestOf words (request_view r) in
+      record { request = request; asked = subst Asks is asks; ended = ended; answered = answers; input = input; status_is = status_is }
+
+pub returns-in-Ok-Ever-clause-ran : goal.returns-in-Ok-Ever-clause-ran
+returns-in-Ok-Ever-clause-ran g c =
+    inr (inr (inl (questioned _ _ _ _ _ _ _ c.in-Ok-Ever.field-0 _ c.ever.result c.ever.ensures.answers c.ever.ensures.input c.report_ever.ensures.status (search rules) c.in-Ok-Ever.ensures.is)))
+
 pub returns-in-Ok-Check-clause-ran : goal.returns-in-Ok-Check-clause-ran
 returns-in-Ok-Check-clause-ran g c =
     inr (inl (inspected _ _ _ _ _ _ _ _ c.check_text.result c.check_text.ensures.answers c.check_text.ensures.input c.report_check.ensures.status (search rules) c.in-Ok-Check.ensures.is))
@@ -35,18 +49,18 @@ returns-in-Ok-Search-clause-ran g c =
 
 pub returns-in-Err-Help-clause-ran : goal.returns-in-Err-Help-clause-ran
 returns-in-Err-Help-clause-ran g c =
-    inr (inr (record {
+    inr (inr (inr (record {
       kept = Keeps-refl _;
       unfailed = search rules;
       reported = helped (subst (IsFaultOf (texts_of c.args.words.now)) c.in-Err-Help.field-0-is c.in-Err-Help.ensures.fault) _ c.write_help.ensures.shown;
       taken = λ t. let m = c.in-Err-Help.ensures.taken t in let e = c.in-Err-Help.field-0-is in cc;
-    }))
+    })))
 
 pub returns-in-Err-Wrong-clause-ran : goal.returns-in-Err-Wrong-clause-ran
 returns-in-Err-Wrong-clause-ran g c =
-    inr (inr (record {
+    inr (inr (inr (record {
       kept = Keeps-refl _;
       unfailed = search rules;
       reported = wrong (subst (IsFaultOf (texts_of c.args.words.now)) c.in-Err-Wrong.field-0-is c.in-Err-Wrong.ensures.fault) refl (Keeps-refl _);
       taken = λ t. let m = c.in-Err-Wrong.ensures.taken t in let e = c.in-Err-Wrong.field-0-is in cc;
-    }))
+    })))

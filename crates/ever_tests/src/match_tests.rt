@@ -1,0 +1,259 @@
+//! Shortest matches in small specifications.
+
+use lotos_check::check;
+use lotos_ever::{Halt, find_shortest_match};
+use lotos_pattern::Pattern;
+use lotos_terms::{Label, Table};
+use lotos_text::parse;
+use std::alloc::Global;
+use std::test::Fail;
+
+/// The label of the gate `a`: gates are numbered in the order of their names.
+const A: Label = Label::Gate(0);
+
+const B: Label = Label::Gate(1);
+
+const I: Label = Label::Internal;
+
+const EXIT: Label = Label::Exit;
+
+/// A question and the expected answer.
+#[derive(Clone, Copy)]
+struct Row<'a> {
+    /// The functionality and the behaviour of a specification with the gates `a` and `b`, then `where` with the
+    /// processes, if there are any.
+    behaviour: &'a str,
+    words: &'a [&'a str],
+    strong: bool,
+    /// The most product states that may be stored.
+    states: usize,
+    answer: Answer<'a>,
+}
+
+#[derive(Clone, Copy)]
+enum Answer<'a> {
+    Never,
+    /// The run of a shortest match, and what is observed of it.
+    Found(&'a [Label], &'a [Label]),
+    TooManyStates,
+}
+
+const MANY: usize = 1000;
+
+const LOOP: &str = "noexit behaviour P[a,b] where process P [x,y] : noexit := x; y; P[x,y] endproc";
+
+const ROWS: &[Row] = &[
+    // The empty sequence, and a start that is a deadlock.
+    Row {
+        behaviour: "noexit behaviour stop",
+        words: &["<deadlock>"],
+        strong: false,
+        states: MANY,
+        answer: Answer::Found(&[], &[]),
+    },
+    Row {
+        behaviour: "noexit behaviour stop",
+        words: &["a"],
+        strong: false,
+        states: MANY,
+        answer: Answer::Never,
+    },
+    Row {
+        behaviour: "noexit behaviour a; stop",
+        words: &["<deadlock>"],
+        strong: false,
+        states: MANY,
+        answer: Answer::Never,
+    },
+    Row {
+        behaviour: "exit behaviour a; b; exit",
+        words: &["a", "b", "exit"],
+        strong: false,
+        states: MANY,
+        answer: Answer::Found(&[A, B, EXIT], &[A, B, EXIT]),
+    },
+    // Internal steps, not observed and observed.
+    Row {
+        behaviour: "noexit behaviour i; i; a; stop",
+        words: &["a"],
+        strong: false,
+        states: MANY,
+        answer: Answer::Found(&[I, I, A], &[A]),
+    },
+    Row {
+        behaviour: "noexit behaviour i; i; a; stop",
+        words: &["a"],
+        strong: true,
+        states: MANY,
+        answer: Answer::Never,
+    },
+    Row {
+        behaviour: "noexit behaviour i; i; a; stop",
+        words: &["i", "i", "a"],
+        strong: true,
+        states: MANY,
+        answer: Answer::Found(&[I, I, A], &[I, I, A]),
+    },
+    // A deadlock after an internal step.
+    Row {
+        behaviour: "noexit behaviour a; i; stop",
+        words: &["a", "<deadlock>"],
+        strong: false,
+        states: MANY,
+        answer: Answer::Found(&[A, I], &[A]),
+    },
+    // No match, in a finite system.
+    Row {
+        behaviour: "noexit behaviour a; stop ||| b; stop",
+        words: &["a", "a"],
+        strong: false,
+        states: MANY,
+        answer: Answer::Never,
+    },
+    // No match, in a loop whose rounds have the same normal forms.
+    Row {
+        behaviour: LOOP,
+        words: &["<while>", "<any>", "a", "a"],
+        strong: false,
+        states: 10,
+        answer: Answer::Never,
+    },
+    Row {
+        behaviour: LOOP,
+        words: &["<until>", "<deadlock>"],
+        strong: false,
+        states: 10,
+        answer: Answer::Never,
+    },
+    Row {
+        behaviour: LOOP,
+        words: &["b"],
+        strong: false,
+        states: 10,
+        answer: Answer::Never,
+    },
+    // More than one round of the loop.
+    Row {
+        behaviour: LOOP,
+        words: &["a", "b", "a", "b", "a"],
+        strong: false,
+        states: MANY,
+        answer: Answer::Found(&[A, B, A, B, A], &[A, B, A, B, A]),
+    },
+    // The fewest steps, although another run begins with a smaller label.
+    Row {
+        behaviour: "noexit behaviour a; i; i; b; stop [] i; a; b; stop",
+        words: &["a", "b"],
+        strong: false,
+        states: MANY,
+        answer: Answer::Found(&[I, A, B], &[A, B]),
+    },
+    // Too few states, and just enough.
+    Row {
+        behaviour: "noexit behaviour a; stop",
+        words: &["a"],
+        strong: false,
+        states: 1,
+        answer: Answer::TooManyStates,
+    },
+    Row {
+        behaviour: "noexit behaviour a; stop",
+        words: &["a"],
+        strong: false,
+        states: 2,
+        answer: Answer::Found(&[A], &[A]),
+    },
+    Row {
+        behaviour: "noexit behaviour a; stop",
+        words: &["<while>", "b"],
+        strong: false,
+        states: 1,
+        answer: Answer::Found(&[], &[]),
+    },
+    Row {
+        behaviour: "noexit behaviour a; stop",
+        words: &["b"],
+        strong: false,
+        states: 1,
+        answer: Answer::Never,
+    },
+    Row {
+        behaviour: "noexit behaviour stop",
+        words: &["a"],
+        strong: false,
+        states: 0,
+        answer: Answer::TooManyStates,
+    },
+
+    // Recursions with swapped gates, with hiding, and with parallel composition.
+    Row {
+        behaviour: "noexit behaviour P[a,b] where process P [x,y] : noexit := x; P[y,x] endproc",
+        words: &["<while>", "<any>", "a", "a"],
+        strong: false,
+        states: 10,
+        answer: Answer::Never,
+    },
+    Row {
+        behaviour: "noexit behaviour P[a] where process P [x] : noexit := hide y in y; x; P[x] endproc",
+        words: &["<until>", "<deadlock>"],
+        strong: false,
+        states: 10,
+        answer: Answer::Never,
+    },
+    Row {
+        behaviour: "noexit behaviour P[a] ||| P[b] where process P [x] : noexit := x; P[x] endproc",
+        words: &["<while>", "b", "<deadlock>"],
+        strong: false,
+        states: 10,
+        answer: Answer::Never,
+    },
+    Row {
+        behaviour: "noexit behaviour P[a,b] |[a]| Q[a] where process P [x,y] : noexit := x; y; P[x,y] endproc process Q [x] : noexit := x; x; x; stop endproc",
+        words: &["<until>", "<deadlock>"],
+        strong: false,
+        states: 30,
+        answer: Answer::Found(&[A, B, A, B, A, B], &[A, B, A, B, A, B]),
+    },
+];
+
+/// The table of a specification.
+fn table_of(alloc: Global, behaviour: &str) -> Result<Table, Fail> {
+    let text = format!(in alloc; "specification S [a,b] : {behaviour} endspec")?;
+    let tree = parse(alloc, text.as_bytes())?;
+    let system = check(alloc, tree)?;
+    let table = Table::new(alloc, system)?;
+    Ok(table)
+}
+
+/// Whether the answer is the expected one.
+fn is_answered(alloc: Global, row: Row) -> Result<bool, Fail> {
+    let mut table = table_of(alloc, row.behaviour)?;
+    let pattern = Pattern::read(alloc, row.words, row.strong)?;
+    match find_shortest_match(alloc, &mut table, &pattern, row.states) {
+        Ok(None) => Ok(matches!(row.answer, Answer::Never)),
+        Ok(Some(found)) => match row.answer {
+            Answer::Found(word, sequence) => {
+                Ok(found.word.as_slice() == word && found.sequence.as_slice() == sequence)
+            }
+            Answer::Never => Ok(false),
+            Answer::TooManyStates => Ok(false),
+        },
+        Err(Halt::TooManyStates) => Ok(matches!(row.answer, Answer::TooManyStates)),
+        Err(Halt::Memory) => Err("memory is wanting")?,
+    }
+}
+
+#[test]
+fn answers_rows(rt: HostRuntime) -> Result<(), Fail> {
+    for row in ROWS {
+        assert!(rt;
+            is_answered(rt.alloc(), *row)?,
+            "{:?} of {}, internal steps shown: {}, {} states",
+            row.words,
+            row.behaviour,
+            row.strong,
+            row.states
+        );
+    }
+    Ok(())
+}

@@ -1,0 +1,49 @@
+use Rattle.std.proofs.Common.{ap, refl, subst, ◌∙◌}
+use Rattle.std.specs.Prelude.{Err}
+use Rattle.std.proofs.lemmas.Result.{err_from_is_err_and}
+use Rattle.lotos_check.specs.CheckedView.{system_of}
+use Rattle.lotos_ever.specs.MatchQuestions.{IsAnswer, IsFound, match_question_of}
+use Rattle.lotos_tool.specs.EverSetup.{IsEverQuestionFor}
+use Rattle.lotos_tool.specs.EverOutcomeContracts.{item_of}
+use Rattle.lotos_tool.proofs.MatchOutcomes.{handed_on, shown_now}
+use Rattle.lotos_tool.proofs.ever_command.find_match_line.Goals as goal
+
+pub returns-in_err-found-clause-none : goal.returns-in_err-found-clause-none
+returns-in_err-found-clause-none c =
+    let halt = err_from_is_err_and c.from_residual-in_err-found.result c.from_residual-in_err-found.ensures.1 in
+    let p = c.args.pattern.now in
+    let q = match_question_of c.in_ok-table.table p in
+    let asked : IsEverQuestionFor (system_of c.args.found) p q = record {
+      question = c.table_has_match_question.ensures (system_of c.args.found) c.in_ok-table.table p c.in_ok-table.ensures c.start.ensures.sound;
+      pattern = refl;
+    } in
+    handed_on _ c.in_err-found.field-0.0 c.args.request.now (system_of c.args.found) p q (halt.1 ∙ ap (λ v. Err v) halt.2) asked c.in_err-found.ensures.over
+
+pub format_match-requires : goal.format_match-requires
+format_match-requires c =
+    let p = c.args.pattern.now in
+    let q = match_question_of c.in_ok-table.table p in
+    let found : IsFound q c.in-Some.found = subst (IsAnswer q) c.in-Some.is c.in_ok-found.ensures.answer in
+    record { shown = (item_of q found.word, shown_now c.in_ok-table.table c.find_shortest_match.new.table p c.in-Some.found c.in_ok-found.ensures.grows found) }
+
+pub returns-in-Some-clause-line : goal.returns-in-Some-clause-line
+returns-in-Some-clause-line c =
+    let p = c.args.pattern.now in
+    let q = match_question_of c.in_ok-table.table p in
+    let found : IsFound q c.in-Some.found = subst (IsAnswer q) c.in-Some.is c.in_ok-found.ensures.answer in
+    let asked : IsEverQuestionFor (system_of c.args.found) p q = record {
+      question = c.table_has_match_question.ensures (system_of c.args.found) c.in_ok-table.table p c.in_ok-table.ensures c.start.ensures.sound;
+      pattern = refl;
+    } in
+    let shown = shown_now c.in_ok-table.table c.find_shortest_match.new.table p c.in-Some.found c.in_ok-found.ensures.grows found in
+    (q, asked, (found.word, found.shortest, c.in_ok-format_match-in-Some.ensures (item_of q found.word) shown))
+
+pub returns-clause-line : goal.returns-clause-line
+returns-clause-line c =
+    let p = c.args.pattern.now in
+    let q = match_question_of c.in_ok-table.table p in
+    let asked : IsEverQuestionFor (system_of c.args.found) p q = record {
+      question = c.table_has_match_question.ensures (system_of c.args.found) c.in_ok-table.table p c.in_ok-table.ensures c.start.ensures.sound;
+      pattern = refl;
+    } in
+    (q, asked, subst (IsAnswer q) c.in-None.is c.in_ok-found.ensures.answer)

@@ -1,0 +1,27 @@
+-- Words of a pattern that name gates not in a specification's own list.
+use Rattle.std.specs.Prelude.{◌≡◌, ℕ, ◌<◌, List, Some, map, slice_get}
+use Rattle.std.specs.Char.{to_ascii_uppercase}
+use Rattle.lotos_check.specs.NameLists.{In, Name}
+use Rattle.lotos_pattern.specs.PatternLabels.{internal, termination}
+use Rattle.lotos_pattern.specs.Faults.{HasWord}
+use Rattle.lotos_pattern.specs.Spelling.{IsWord, EqualsIgnoringCase}
+
+-- the word names a gate other than these: it is spelled like a gate, is neither `exit` nor `i`, and in upper case it is
+-- none of these
+pub record NamesUnknownGate (gates : List Name) (word : List ℕ) : Type 0 where
+  pub spelled : IsWord word
+  pub no_exit : EqualsIgnoringCase word termination → ⊥
+  pub no_internal : EqualsIgnoringCase word internal → ⊥
+  pub no_gate : In (map to_ascii_uppercase word) gates → ⊥
+
+-- no word names a gate other than these
+abbrev pub HasNoUnknownGate : List Name → List (List ℕ) → Type 0
+HasNoUnknownGate gates words = (k : ℕ) (word : List ℕ) → slice_get words k ≡ Some word → NamesUnknownGate gates word → ⊥
+
+-- none of the first `n` words names a gate other than these
+abbrev pub HasNoUnknownGateBefore : ℕ → List Name → List (List ℕ) → Type 0
+HasNoUnknownGateBefore n gates words = (k : ℕ) (word : List ℕ) → k < n → slice_get words k ≡ Some word → NamesUnknownGate gates word → ⊥
+
+-- the word with this number names a gate other than these
+abbrev pub IsUnknownGateAt : List Name → List (List ℕ) → ℕ → Type 0
+IsUnknownGateAt gates words n = HasWord words n (NamesUnknownGate gates)

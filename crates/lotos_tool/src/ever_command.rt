@@ -1,0 +1,156 @@
+//! The command `ever`, from the text to the line of a shortest match.
+ghost use Rattle.std.specs.Prelude.{◌≡◌, ◌+◌, ◌≤◌, IfErr, IfOk, MatchOption, false};
+ghost use Rattle.lotos_text.specs.Limits.{max_text_length};
+ghost use Rattle.lotos_check.specs.CheckedView.{system_of};
+ghost use Rattle.lotos_tool.specs.EverSetup.{HasLine, HasNoLine, IsWordsOutcome, IsPrintedItem, HasEverOutcome, IsWritten};
+ghost use Rattle.lotos_tool.specs.EverOutcomeContracts.{EverOutcome, is_ever_input_fault, is_ever_output_fault, pattern_words};
+ghost use Rattle.lotos_tool.specs.UnknownGates.{HasNoUnknownGate, IsUnknownGateAt};
+ghost use Rattle.lotos_tool.specs.OutputLines.{Item, line_of};
+
+use crate::outcome::{EverEnded, EverWhy};
+use crate::output_flush::write_and_flush;
+use crate::output_lines::{format_line, format_sequence};
+use crate::refusal::Refusal;
+use crate::request_pattern::read_pattern;
+use crate::specification_input::{Rejection, read_specification};
+use crate::unknown_gates::first_unknown_gate;
+use lotos_check::Checked;
+use lotos_command::EverRequest;
+use lotos_device::{DeviceFailed, Sink, Source};
+use lotos_ever::laws::table_has_match_question;
+use lotos_ever::{Found, Halt, find_shortest_match};
+use lotos_pattern::{Pattern, PatternFault};
+use lotos_terms::Table;
+use std::alloc::{AllocError, Global};
+
+/// Reads a specification and searches it for a derivation, of any number of steps, that matches the request's pattern.
+/// If there is one, the line of one with the fewest steps is written.
+///
+/// The words of the pattern are read first, then the text, whose specification is checked, and then the gates that the
+/// words name are looked up in the specification's own list. The first of these to be refused is returned with nothing
+/// written, and words that spell no pattern are refused with nothing read. The line is composed completely before its
+/// first byte is written, and one flush follows. If no derivation matches, if more product states would be stored than
+/// the request allows, and if memory runs out, nothing is written. At most one byte more than a text may have is taken
+/// from the reader, whatever it returns. Neither the reader nor the writer may have failed before.
+pub fn ever<R: Source, W: Sink>(
+    alloc: Global,
+    request: &EverRequest,
+    reader: &mut R,
+    writer: &mut W,
+) -> EverEnded
+    requires reader { R.has_failed reader.old ≡ false }
+    requires writer { W.has_failed writer.old ≡ false }
+    ensures answers { EverOutcome request.now (R.left reader.old) (R.left reader.new) (W.got writer.old) (W.got writer.new) result }
+    ensures given { R.given reader.new ≤ R.given reader.old + (max_text_length + 1) }
+    ensures input { R.has_failed reader.new ≡ is_ever_input_fault result }
+    ensures output { W.has_failed writer.new ≡ is_ever_output_fault result }
+{
+    let pattern = match read_pattern(alloc, &request.words, request.strong) {
+        Ok(pattern) => pattern,
+        Err(fault) => return words_refusal(fault),
+    };
+    let found = match read_specification(alloc, reader) {
+        Ok(found) => found,
+        Err(Rejection::Refused(refusal)) => return EverEnded::Refused(refusal),
+        Err(Rejection::Memory) => return EverEnded::Stopped(EverWhy::Memory),
+    };
+    match find_unknown_gate(alloc, request, &found) {
+        Ok(None) => answer_question(alloc, request, found, &pattern, writer),
+        Ok(Some(number)) => EverEnded::NoGate(number),
+        Err(AllocError) => EverEnded::Stopped(EverWhy::Memory),
+    }
+}
+
+/// The number, counted from 1, of the first word that names a gate not in the specification's own list; `None` if no
+/// word does.
+fn find_unknown_gate(
+    alloc: Global,
+    request: &EverRequest,
+    found: &Checked,
+) -> Result<Option<usize>, AllocError>
+    ensures { IfOk result (λ o. MatchOption o (HasNoUnknownGate (system_of found.now).formals (pattern_words request.now))
+        (IsUnknownGateAt (system_of found.now).formals (pattern_words request.now))) }
+{
+    first_unknown_gate(alloc, request.words.as_slice(), found.gates())
+}
+
+/// Searches an accepted specification for a match, and writes the line of a shortest one if there is one.
+fn answer_question<W: Sink>(
+    alloc: Global,
+    request: &EverRequest,
+    found: Checked,
+    pattern: &Pattern,
+    writer: &mut W,
+) -> EverEnded
+    requires { W.has_failed writer.old ≡ false }
+    ensures told { HasEverOutcome request.now (system_of found) pattern.now (W.got writer.old) (W.got writer.new) result }
+    ensures failed { W.has_failed writer.new ≡ is_ever_output_fault result }
+{
+    match find_match_line(alloc, request, found, pattern) {
+        Ok(Some(line)) => write_line(writer, line.as_slice()),
+        Ok(None) => EverEnded::Never,
+        Err(Halt::TooManyStates) => EverEnded::Stopped(EverWhy::TooManyStates),
+        Err(Halt::Memory) => EverEnded::Stopped(EverWhy::Memory),
+    }
+}
+
+/// The line of a shortest match, or `None` if there is no match of any length.
+fn find_match_line(
+    alloc: Global,
+    request: &EverRequest,
+    found: Checked,
+    pattern: &Pattern,
+) -> Result<Option<Vec<u8>>, Halt>
+    ensures line { IfOk result (HasLine request.now (system_of found) pattern.now) }
+    ensures none { IfErr result (HasNoLine request.now (system_of found) pattern.now) }
+{
+    table_has_match_question();
+    let mut table = Table::new(alloc, found)?;
+    // The contract of `start`: the table is sound.
+    let _ = table.start();
+    match find_shortest_match(alloc, &mut table, pattern, request.states)? {
+        Some(found) => Ok(Some(format_match(alloc, &table, &found, request.explain)?)),
+        None => Ok(None),
+    }
+}
+
+/// The line of a match: its sequence, with `explain` its run, and a line feed. Its labels must be labels of the table.
+fn format_match(
+    alloc: Global,
+    table: &Table,
+    found: &Found,
+    explain: bool,
+) -> Result<Vec<u8>, AllocError>
+    requires shown { (item : Item) × IsPrintedItem table.now.names found.now item }
+    ensures { IfOk result (λ line. (item : Item) → IsPrintedItem table.now.names found.now item → line.items ≡ line_of explain item) }
+{
+    let text = format_sequence(alloc, table, found.sequence.as_slice())?;
+    format_line(alloc, table, text.as_str(), found.word.as_slice(), explain)
+}
+
+/// Writes the line of a match and flushes the output. Returns how the command ends.
+fn write_line<W: Sink>(writer: &mut W, line: &[u8]) -> EverEnded
+    requires { W.has_failed writer.old ≡ false }
+    ensures written { IsWritten line.now (W.got writer.old) (W.got writer.new) result }
+    ensures failed { W.has_failed writer.new ≡ is_ever_output_fault result }
+{
+    match write_and_flush(writer, line) {
+        Ok(()) => EverEnded::Happens,
+        Err(DeviceFailed) => EverEnded::Stopped(EverWhy::Write),
+    }
+}
+
+/// The outcome for words that spell no pattern: a refusal, or out of memory for E99.
+fn words_refusal(fault: PatternFault) -> EverEnded
+    ensures { IsWordsOutcome fault result }
+{
+    match fault {
+        PatternFault::E41(_)
+        | PatternFault::E42(_)
+        | PatternFault::E43(_)
+        | PatternFault::E44(_)
+        | PatternFault::E45(_)
+        | PatternFault::E48(_) => EverEnded::Refused(Refusal::Pattern(fault)),
+        PatternFault::E99(_) => EverEnded::Stopped(EverWhy::Memory),
+    }
+}

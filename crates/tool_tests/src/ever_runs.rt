@@ -1,0 +1,333 @@
+//! Complete runs of `ever`: the output, the message, and the status.
+
+use super::memory_devices::{ArrayWriter, SliceReader, WhenFull, run_on};
+
+/// A run of `ever` over a text.
+struct Row {
+    name: &'static str,
+    text: &'static [u8],
+    words: &'static [&'static str],
+    output: &'static [u8],
+    message: &'static [u8],
+    status: u8,
+}
+
+const NEVER: &[u8] = b"lotosseq: it happens at no depth\n";
+
+/// A buffer for one item: filled by `a` and emptied by `b`, forever.
+const BUFFER: &[u8] =
+    b"specification S [a,b] : noexit behaviour P[a,b] where process P [x,y] : noexit := x; y; P[x,y] endproc endspec";
+
+const ROWS: &[Row] = &[
+    Row {
+        name: "two steps and termination",
+        text: b"specification S [a,b] : exit behaviour a; b; exit endspec",
+        words: &["lotosseq", "ever", "A", "B", "exit"],
+        output: b"A B exit\n",
+        message: b"",
+        status: 0,
+    },
+    Row {
+        name: "each side does it once",
+        text: b"specification S [a,b] : noexit behaviour a; stop ||| b; stop endspec",
+        words: &["lotosseq", "ever", "A", "A"],
+        output: b"",
+        message: NEVER,
+        status: 1,
+    },
+    Row {
+        name: "never two in a row",
+        text: b"specification S [a,b] : noexit behaviour a; b; a; stop [] b; a; b; stop endspec",
+        words: &["lotosseq", "ever", "<while>", "<any>", "B", "B"],
+        output: b"",
+        message: NEVER,
+        status: 1,
+    },
+    Row {
+        name: "never two in a row, of any length",
+        text: BUFFER,
+        words: &["lotosseq", "ever", "<while>", "<any>", "B", "B"],
+        output: b"",
+        message: NEVER,
+        status: 1,
+    },
+    Row {
+        name: "no deadlock, of any length",
+        text: BUFFER,
+        words: &["lotosseq", "ever", "<until>", "<deadlock>"],
+        output: b"",
+        message: NEVER,
+        status: 1,
+    },
+    Row {
+        name: "the shortest of many",
+        text: BUFFER,
+        words: &["lotosseq", "ever", "<until>", "b"],
+        output: b"A B\n",
+        message: b"",
+        status: 0,
+    },
+    Row {
+        name: "internal steps are not shown",
+        text: b"specification S [a] : noexit behaviour i; i; a; stop endspec",
+        words: &["lotosseq", "ever", "A"],
+        output: b"A\n",
+        message: b"",
+        status: 0,
+    },
+    Row {
+        name: "the word has the internal steps",
+        text: b"specification S [a] : noexit behaviour i; i; a; stop endspec",
+        words: &["lotosseq", "ever", "--explain", "A"],
+        output: b"A : i i A\n",
+        message: b"",
+        status: 0,
+    },
+    Row {
+        name: "internal steps are labels",
+        text: b"specification S [a] : noexit behaviour i; i; a; stop endspec",
+        words: &["lotosseq", "ever", "--strong", "--explain", "i", "i", "A"],
+        output: b"i i A : i i A\n",
+        message: b"",
+        status: 0,
+    },
+    Row {
+        name: "internal steps are labels that the pattern lacks",
+        text: b"specification S [a] : noexit behaviour i; i; a; stop endspec",
+        words: &["lotosseq", "ever", "--strong", "A"],
+        output: b"",
+        message: NEVER,
+        status: 1,
+    },
+    Row {
+        name: "no word matches the empty sequence alone",
+        text: b"specification S [a] : noexit behaviour a; stop endspec",
+        words: &["lotosseq", "ever"],
+        output: b"<empty>\n",
+        message: b"",
+        status: 0,
+    },
+    Row {
+        name: "the empty sequence behind an internal step",
+        text: b"specification S [a] : noexit behaviour i; stop [] i; a; stop endspec",
+        words: &["lotosseq", "ever", "--explain", "<deadlock>"],
+        output: b"<empty> : i\n",
+        message: b"",
+        status: 0,
+    },
+    Row {
+        name: "a deadlock at once",
+        text: b"specification S [a] : noexit behaviour stop endspec",
+        words: &["lotosseq", "ever", "<deadlock>"],
+        output: b"<empty>\n",
+        message: b"",
+        status: 0,
+    },
+    Row {
+        name: "a deadlock behind a step",
+        text: b"specification S [a,b] : noexit behaviour a; stop |[a]| a; b; stop endspec",
+        words: &["lotosseq", "ever", "A", "<deadlock>"],
+        output: b"",
+        message: NEVER,
+        status: 1,
+    },
+    Row {
+        name: "more states than one",
+        text: b"specification S [a,b] : noexit behaviour a; b; stop endspec",
+        words: &["lotosseq", "ever", "--states", "1", "A", "B"],
+        output: b"",
+        message: b"lotosseq: stopped: more than 1 states\n",
+        status: 4,
+    },
+    Row {
+        name: "three states",
+        text: b"specification S [a,b] : noexit behaviour a; b; stop endspec",
+        words: &["lotosseq", "ever", "--states", "3", "A", "B"],
+        output: b"A B\n",
+        message: b"",
+        status: 0,
+    },
+    Row {
+        name: "states without end",
+        text: b"specification S [a] : noexit behaviour P[a] where process P [x] : noexit := x; (P[x] ||| P[x]) endproc endspec",
+        words: &["lotosseq", "ever", "--states=20", "<until>", "<deadlock>"],
+        output: b"",
+        message: b"lotosseq: stopped: more than 20 states\n",
+        status: 4,
+    },
+    Row {
+        name: "a word that is no gate",
+        text: b"specification S [a] : noexit behaviour a; stop endspec",
+        words: &["lotosseq", "ever", "a", "<while>", "Ab"],
+        output: b"",
+        message: b"lotosseq: E49 word 3 is no gate of the specification\n",
+        status: 2,
+    },
+    Row {
+        name: "a gate that is hidden",
+        text: b"specification S [a] : noexit behaviour hide b in b; a; stop endspec",
+        words: &["lotosseq", "ever", "b", "a"],
+        output: b"",
+        message: b"lotosseq: E49 word 1 is no gate of the specification\n",
+        status: 2,
+    },
+    Row {
+        name: "termination is no gate, and always known",
+        text: b"specification S [a] : noexit behaviour a; stop endspec",
+        words: &["lotosseq", "ever", "a", "EXIT"],
+        output: b"",
+        message: NEVER,
+        status: 1,
+    },
+    Row {
+        name: "a gate that is not declared, and a word that is no gate",
+        text: b"specification S [a] : noexit behaviour b; stop endspec",
+        words: &["lotosseq", "ever", "C"],
+        output: b"",
+        message: b"lotosseq: 1:40: E21 gate B is not declared\n",
+        status: 2,
+    },
+    Row {
+        name: "a gate that is not declared",
+        text: b"specification S [a] : noexit behaviour b; stop endspec",
+        words: &["lotosseq", "ever", "A"],
+        output: b"",
+        message: b"lotosseq: 1:40: E21 gate B is not declared\n",
+        status: 2,
+    },
+    Row {
+        name: "the empty text",
+        text: b"",
+        words: &["lotosseq", "ever", "A"],
+        output: b"",
+        message: b"lotosseq: 1:1: E06 text ends too early\n",
+        status: 2,
+    },
+];
+
+#[test]
+fn answers(rt: HostRuntime) {
+    for row in ROWS {
+        let reader = SliceReader::new(row.text, 7);
+        let out = ArrayWriter::new(1);
+        let err = ArrayWriter::new(5);
+        let (status, _reader, out, err) = run_on(rt.alloc(), row.words, reader, out, err);
+        let flushes = if row.output.is_empty() { 0usize } else { 1 };
+        assert_eq!(rt; out.got(), row.output, "{}", row.name);
+        assert_eq!(rt; err.got(), row.message, "{}", row.name);
+        assert_eq!(rt; status, row.status, "{}", row.name);
+        assert_eq!(rt; out.flushes, flushes, "{}", row.name);
+    }
+}
+
+/// Command lines with patterns that are refused before anything is read, and the message of each.
+const PATTERNS: &[(&[&str], &[u8])] = &[
+    (
+        &["lotosseq", "ever", "i"],
+        b"lotosseq: E45 word 1 is i, which cannot be observed\n",
+    ),
+    (
+        &["lotosseq", "ever", "A", "<while>"],
+        b"lotosseq: E48 word 2 needs a label or <any> after it\n",
+    ),
+    (
+        &["lotosseq", "ever", "<foo>"],
+        b"lotosseq: E41 word 1 is neither a label nor an element\n",
+    ),
+    (
+        &["lotosseq", "ever", "<deadlock>", "A"],
+        b"lotosseq: E43 word 2 follows an end element\n",
+    ),
+];
+
+#[test]
+fn words_are_refused_first(rt: HostRuntime) {
+    for (words, message) in PATTERNS {
+        let reader = SliceReader::new(b"specification", 1);
+        let out = ArrayWriter::new(1);
+        let err = ArrayWriter::new(1);
+        let (status, reader, out, err) = run_on(rt.alloc(), *words, reader, out, err);
+        assert_eq!(rt; status, 2);
+        assert_eq!(rt; reader.reads, 0);
+        assert!(rt; out.got().is_empty());
+        assert_eq!(rt; err.got(), *message);
+        assert_eq!(rt; out.flushes, 0);
+    }
+}
+
+const WORDS: &[&str] = &["lotosseq", "ever", "--explain", "<until>", "B"];
+
+const LINE: &[u8] = b"A B : A B\n";
+
+#[test]
+fn the_output_fails_after_each_byte(rt: HostRuntime) {
+    for when_full in [WhenFull::Fails, WhenFull::TakesNothing] {
+        for k in 0..LINE.len() {
+            let reader = SliceReader::new(BUFFER, 4096);
+            let mut out = ArrayWriter::new(4);
+            out.most = k;
+            out.when_full = when_full;
+            let err = ArrayWriter::new(4096);
+            let (status, _reader, out, err) = run_on(rt.alloc(), WORDS, reader, out, err);
+            assert_eq!(rt; out.got(), &LINE[..k], "after {k}");
+            assert_eq!(rt;
+                err.got(),
+                b"lotosseq: output cannot be written\n".as_slice(),
+                "after {k}"
+            );
+            assert_eq!(rt; status, 6, "after {k}");
+            assert_eq!(rt; out.flushes, 0, "after {k}");
+        }
+    }
+}
+
+#[test]
+fn a_flush_that_fails_is_a_failed_write(rt: HostRuntime) {
+    let reader = SliceReader::new(BUFFER, 4096);
+    let mut out = ArrayWriter::new(4);
+    out.flush_fails = true;
+    let err = ArrayWriter::new(4096);
+    let (status, _reader, out, err) = run_on(rt.alloc(), WORDS, reader, out, err);
+    assert_eq!(rt; out.got(), LINE);
+    assert_eq!(rt;
+        err.got(),
+        b"lotosseq: output cannot be written\n".as_slice()
+    );
+    assert_eq!(rt; status, 6);
+    assert_eq!(rt; out.flushes, 1);
+}
+
+#[test]
+fn each_read_fails_in_turn(rt: HostRuntime) {
+    for k in 1usize..30 {
+        let mut reader = SliceReader::new(BUFFER, 4);
+        reader.fails_at = Some(k);
+        let out = ArrayWriter::new(1);
+        let err = ArrayWriter::new(4096);
+        let (status, _reader, out, err) = run_on(rt.alloc(), WORDS, reader, out, err);
+        assert_eq!(rt;
+            err.got(),
+            b"lotosseq: E47 input cannot be read\n".as_slice(),
+            "at {k}"
+        );
+        assert_eq!(rt; status, 2, "at {k}");
+        assert!(rt; out.got().is_empty(), "at {k}");
+    }
+}
+
+#[test]
+fn a_match_longer_than_any_depth(rt: HostRuntime) {
+    let mut words = ["A"; 258];
+    words[0] = "lotosseq";
+    words[1] = "ever";
+    let text =
+        b"specification S [a] : noexit behaviour P[a] where process P [x] : noexit := x; P[x] endproc endspec";
+    let reader = SliceReader::new(text.as_slice(), 4096);
+    let out = ArrayWriter::new(4096);
+    let err = ArrayWriter::new(4096);
+    let (status, _reader, out, err) = run_on(rt.alloc(), words.as_slice(), reader, out, err);
+    assert_eq!(rt; out.got().len(), 512);
+    assert!(rt; out.got().ends_with(b"A A A\n"));
+    assert!(rt; err.got().is_empty());
+    assert_eq!(rt; status, 0);
+}
