@@ -35,6 +35,7 @@ bench: build ## measures time and memory
 	bench/check
 	bench/terms
 	bench/search
+	bench/ever
 
 extra: build ## runs every tool that is not part of the gate
 	tools/extra
