@@ -183,7 +183,7 @@ WORDS = [
     "--help",
 ]
 OTHERS = (
-    "search check help --help -h --depth --limit --terms --after --explain --strong -- - --depth=1 --depth= 0 1 3 4 255 256 -1 "
+    "search check help --help -h --depth --limit --terms --after --explain --strong --known -- - --depth=1 --depth= 0 1 3 4 255 256 -1 "
     "+2 007 99999999999999999999 1e3 0x1 1000000 1000001 1000000000 1000000001 A B a exit EXIT i I <any> <until> <while> "
     "<deadlock> <ANY> <empty> <foo> A-B A_1 1A _A <any <any>> "
     "\u00e4 \u017f \u212a A\xa0B A\xa0\xa0B i\xa0A A\xa0:\xa0A : <empty>\xa0:\xa0i"

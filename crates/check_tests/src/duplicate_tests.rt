@@ -54,9 +54,9 @@ fn refuses_the_first_name_that_is_declared_twice(rt: HostRuntime) -> Result<(), 
             Some(59),
         ),
     ];
-    for (words, text, wanted, at) in rows {
+    for (words, text, expected, at) in rows {
         let (told, place) = message(rt.alloc(), text)?;
-        assert_eq!(rt; told.as_str(), wanted, "the fault of {}", words);
+        assert_eq!(rt; told.as_str(), expected, "the fault of {}", words);
         assert_eq!(rt; place, at, "the place of {}", words);
     }
     Ok(())

@@ -40,12 +40,12 @@ fn knows_the_gates_that_were_added(rt: HostRuntime) -> Result<(), Fail> {
             Some(74),
         ),
     ];
-    for (words, behaviour, wanted, at) in rows {
+    for (words, behaviour, expected, at) in rows {
         let text = format!(in rt.alloc();
             "specification s[a, b] : noexit behaviour {behaviour} endspec"
         )?;
         let (told, place) = message(rt.alloc(), text.as_str())?;
-        assert_eq!(rt; told.as_str(), wanted, "{}", words);
+        assert_eq!(rt; told.as_str(), expected, "{}", words);
         assert_eq!(rt; place, at, "the place: {}", words);
     }
     Ok(())
@@ -76,9 +76,9 @@ fn orders_gates_without_repeats(rt: HostRuntime) -> Result<(), Fail> {
     let Code::Hide { gates, .. } = system.start() else {
         panic!(rt; "a hide form");
     };
-    let wanted = ["A", "A1", "AB", "A_", "B"];
+    let expected = ["A", "A1", "AB", "A_", "B"];
     assert_eq!(rt; gates.len(), 5, "the number of gates");
-    for (name, text) in gates.as_slice().iter().zip(&wanted) {
+    for (name, text) in gates.as_slice().iter().zip(&expected) {
         assert_eq!(rt; name.text(), *text, "the gate {}", text);
     }
     Ok(())

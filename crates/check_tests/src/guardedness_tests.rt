@@ -124,8 +124,8 @@ fn tells_guarded_calls(rt: HostRuntime) -> Result<(), Fail> {
     ];
     for (words, place, unguarded) in rows {
         let found = ranked(rt.alloc(), 8, &[(7, place, 7)])?;
-        let wanted: &[usize] = if unguarded { &[7] } else { &[] };
-        assert_eq!(rt; unguarded_of(&found), wanted, "a call {}", words);
+        let expected: &[usize] = if unguarded { &[7] } else { &[] };
+        assert_eq!(rt; unguarded_of(&found), expected, "a call {}", words);
     }
     Ok(())
 }
@@ -244,9 +244,9 @@ fn order_of(alloc: Global, count: usize, found: &Ranking) -> Result<Vec<usize>, 
     let mut order = Vec::new(alloc);
     match found {
         Ranking::Guarded(ranks) => {
-            for wanted in 0..count {
+            for expected in 0..count {
                 for (process, rank) in ranks.iter().enumerate() {
-                    if *rank == wanted {
+                    if *rank == expected {
                         order.push(process)?;
                     }
                 }
@@ -299,10 +299,10 @@ fn orders_callers_behind_their_calls(rt: HostRuntime) -> Result<(), Fail> {
             &[2],
         ),
     ];
-    for (words, count, calls, wanted) in &rows {
+    for (words, count, calls, expected) in &rows {
         let found = ranked(rt.alloc(), *count, calls)?;
         let order = order_of(rt.alloc(), *count, &found)?;
-        assert_eq!(rt; order.as_slice(), *wanted, "the order of {}", words);
+        assert_eq!(rt; order.as_slice(), *expected, "the order of {}", words);
     }
     Ok(())
 }

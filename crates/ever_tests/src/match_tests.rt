@@ -32,7 +32,7 @@ struct Row<'a> {
 
 #[derive(Clone, Copy)]
 enum Answer<'a> {
-    Never,
+    NoMatch,
     /// The run of a shortest match, and what is observed of it.
     Found(&'a [Label], &'a [Label]),
     TooManyStates,
@@ -56,14 +56,14 @@ const ROWS: &[Row] = &[
         words: &["a"],
         strong: false,
         states: MANY,
-        answer: Answer::Never,
+        answer: Answer::NoMatch,
     },
     Row {
         behaviour: "noexit behaviour a; stop",
         words: &["<deadlock>"],
         strong: false,
         states: MANY,
-        answer: Answer::Never,
+        answer: Answer::NoMatch,
     },
     Row {
         behaviour: "exit behaviour a; b; exit",
@@ -85,7 +85,7 @@ const ROWS: &[Row] = &[
         words: &["a"],
         strong: true,
         states: MANY,
-        answer: Answer::Never,
+        answer: Answer::NoMatch,
     },
     Row {
         behaviour: "noexit behaviour i; i; a; stop",
@@ -108,7 +108,7 @@ const ROWS: &[Row] = &[
         words: &["a", "a"],
         strong: false,
         states: MANY,
-        answer: Answer::Never,
+        answer: Answer::NoMatch,
     },
     // No match, in a loop whose rounds have the same normal forms.
     Row {
@@ -116,21 +116,21 @@ const ROWS: &[Row] = &[
         words: &["<while>", "<any>", "a", "a"],
         strong: false,
         states: 10,
-        answer: Answer::Never,
+        answer: Answer::NoMatch,
     },
     Row {
         behaviour: LOOP,
         words: &["<until>", "<deadlock>"],
         strong: false,
         states: 10,
-        answer: Answer::Never,
+        answer: Answer::NoMatch,
     },
     Row {
         behaviour: LOOP,
         words: &["b"],
         strong: false,
         states: 10,
-        answer: Answer::Never,
+        answer: Answer::NoMatch,
     },
     // More than one round of the loop.
     Row {
@@ -175,7 +175,7 @@ const ROWS: &[Row] = &[
         words: &["b"],
         strong: false,
         states: 1,
-        answer: Answer::Never,
+        answer: Answer::NoMatch,
     },
     Row {
         behaviour: "noexit behaviour stop",
@@ -191,21 +191,21 @@ const ROWS: &[Row] = &[
         words: &["<while>", "<any>", "a", "a"],
         strong: false,
         states: 10,
-        answer: Answer::Never,
+        answer: Answer::NoMatch,
     },
     Row {
         behaviour: "noexit behaviour P[a] where process P [x] : noexit := hide y in y; x; P[x] endproc",
         words: &["<until>", "<deadlock>"],
         strong: false,
         states: 10,
-        answer: Answer::Never,
+        answer: Answer::NoMatch,
     },
     Row {
         behaviour: "noexit behaviour P[a] ||| P[b] where process P [x] : noexit := x; P[x] endproc",
         words: &["<while>", "b", "<deadlock>"],
         strong: false,
         states: 10,
-        answer: Answer::Never,
+        answer: Answer::NoMatch,
     },
     Row {
         behaviour: "noexit behaviour P[a,b] |[a]| Q[a] where process P [x,y] : noexit := x; y; P[x,y] endproc process Q [x] : noexit := x; x; x; stop endproc",
@@ -226,16 +226,16 @@ fn table_of(alloc: Global, behaviour: &str) -> Result<Table, Fail> {
 }
 
 /// Whether the answer is the expected one.
-fn is_answered(alloc: Global, row: Row) -> Result<bool, Fail> {
+fn has_answer(alloc: Global, row: Row) -> Result<bool, Fail> {
     let mut table = table_of(alloc, row.behaviour)?;
     let pattern = Pattern::read(alloc, row.words, row.strong)?;
     match find_shortest_match(alloc, &mut table, &pattern, row.states) {
-        Ok(None) => Ok(matches!(row.answer, Answer::Never)),
+        Ok(None) => Ok(matches!(row.answer, Answer::NoMatch)),
         Ok(Some(found)) => match row.answer {
-            Answer::Found(word, sequence) => {
-                Ok(found.word.as_slice() == word && found.sequence.as_slice() == sequence)
+            Answer::Found(run, sequence) => {
+                Ok(found.word.as_slice() == run && found.sequence.as_slice() == sequence)
             }
-            Answer::Never => Ok(false),
+            Answer::NoMatch => Ok(false),
             Answer::TooManyStates => Ok(false),
         },
         Err(Halt::TooManyStates) => Ok(matches!(row.answer, Answer::TooManyStates)),
@@ -247,7 +247,7 @@ fn is_answered(alloc: Global, row: Row) -> Result<bool, Fail> {
 fn answers_rows(rt: HostRuntime) -> Result<(), Fail> {
     for row in ROWS {
         assert!(rt;
-            is_answered(rt.alloc(), *row)?,
+            has_answer(rt.alloc(), *row)?,
             "{:?} of {}, internal steps shown: {}, {} states",
             row.words,
             row.behaviour,

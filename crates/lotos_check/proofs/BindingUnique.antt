@@ -17,7 +17,7 @@ declared_in no_defs k n j e declares = elim declares [ ]
 declared_in (more_defs d ds) k n j e here = inl refl
 declared_in (more_defs d ds) k n j e (later rest) = inr (declared_in ds (k + 1 + count (inner_of d)) n j e rest)
 
--- a text of the list stands in it at some placed name
+-- a text of the list is that of some placed name in it
 standing : (n : Name) (ps : List Placed) → In n (texts ps) →
     (q : Placed) × (before : List Placed) × (after : List Placed) × (ps ≡ before ++ q ∷ after) × (q.name ≡ n)
 standing n [] i = absurd i
@@ -30,12 +30,12 @@ standing n (p ∷ ps) (inr i) =
 first_apart : (p : Placed) (ps : List Placed) → AreDistinct (p ∷ ps) → In p.name (texts ps) → ⊥
 first_apart p ps distinct i =
     let (q, before, after, stands, named) = standing p.name ps i in
-    distinct q (record { before = p ∷ before; after = after; stands = ap (λ t. p ∷ t) stands; again = inl (sym named) })
+    distinct q (record { before = p ∷ before; after = after; located = ap (λ t. p ∷ t) stands; again = inl (sym named) })
 
 -- of distinct names, the others are distinct
 others_distinct : (p : Placed) (ps : List Placed) → AreDistinct (p ∷ ps) → AreDistinct ps
 others_distinct p ps distinct q s =
-    distinct q (record { before = p ∷ s.before; after = s.after; stands = ap (λ t. p ∷ t) s.stands; again = inr s.again })
+    distinct q (record { before = p ∷ s.before; after = s.after; located = ap (λ t. p ∷ t) s.located; again = inr s.again })
 
 -- a `where` that declares no name twice declares each name once
 pub one_declared : (ds : DefinitionListView) → AreDistinct (declared_names ds) → (k : ℕ) (n : Name) (i j : ℕ) (d e : DefinitionView) →
@@ -56,7 +56,7 @@ one_declared (more_defs c cs) distinct k n i j d e x y =
       ]
     ]
 
--- a scope whose `where`s declare no name twice gives each name one meaning
+-- a scope whose `where`s declare no name twice has one binding for each name
 pub one_meant : (scope : Scope) → IsDistinctScope scope → (n : Name) (i j : ℕ) (d e : DefinitionView) →
     Binds scope n i d → Binds scope n j e → (i ≡ j) × (d ≡ e)
 one_meant [] distinct n i j d e x y = elim x [ ]

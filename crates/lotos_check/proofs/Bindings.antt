@@ -14,12 +14,12 @@ use Rattle.lotos_check.specs.ProcessScopes.{BindsAll, IsScopeStack}
 use Rattle.lotos_check.specs.declared.process_scope.Binding.{Binding}
 use Rattle.lotos_check.proofs.PassedDefinitions.{parts_seen}
 
--- a row has its first definition, those inside it and the others
+-- a list of definitions has its first definition, those inside it and the others
 count_row : (d : DefinitionView) (ds : DefinitionListView) → count (more_defs d ds) ≡ 1 + count (inner_of d) + count ds
 count_row (def name formals declared body inner) ds = refl
 
 module _ (all : DefinitionListView) (first : ℕ) where
-  -- of the row only the rest is left, whose first definition has this number; the look-up has the names of the others
+  -- of the list only the rest is left, whose first definition has this number; the look-up has the names of the others
   pub record Built (look : Name → Option Binding) (number : ℕ) (rest : DefinitionListView) : Type 0 where
     pub numbered : number + count rest ≡ first + count all
     pub found : (n : Name) (m : Binding) → look n ≡ Some m → Declares all first n m.process (definition_view m.definition.now)
@@ -62,7 +62,7 @@ module _ (all : DefinitionListView) (first : ℕ) where
       left = λ n j c declares. built.left n j c (later declares);
     }
 
--- a look-up to which the next definition was added with its number; it stands before the next by those inside it
+-- a look-up to which the next definition was added with its number; between it and the next are those inside it
 pub built_with : (all : DefinitionListView) (first : ℕ) (look after : Name → Option Binding) (number : ℕ) (m : Binding) (text : Name) →
     ((n : Name) → after n ≡ update bytes_eq look text (Some m) n) → (x : Definition) (left rest : List Definition) (inner : ℕ) →
     text ≡ (out-Definition x).name.name → m.process ≡ number → m.definition.now ≡ x → rest ≡ x ∷ left →
@@ -77,7 +77,7 @@ built_with all first look after number m text updates x left rest inner named pr
     let same : number + 1 + count (inner_of (definition_view x)) ≡ number + (1 + inner) = omega arith in
     subst (λ s. Built all first after s (definitions_view left)) same more
 
--- a table with the names of the whole row
+-- a look-up with the names of the whole list
 pub built_all : (all : DefinitionListView) (first number : ℕ) {K S : Type 0} (now : K → Name) (t : HashMap K Binding S)
     (rest : List Definition) → rest ≡ [] →
     Built all first (λ n. get_by (λ k. bytes_eq n (now k)) t) number (definitions_view rest) → BindsAll now all first t

@@ -9,7 +9,7 @@ use Rattle.lotos_check.specs.Flat.{FlatProcess, Pairwise, no_pair, one_pair}
 use Rattle.lotos_check.specs.Guard.{Calls, CallsUnguarded}
 use Rattle.lotos_check.specs.RankingSteps.{AreCalls, CallsInRange, ListsCall, AreConsistentRanks, count_unranked}
 
--- the list that is read at a place is the one there
+-- the list that is read at an index is the one there
 pub list_at : {X : Type 0} (items_of : X → List ℕ) (edges : List X) (p : ℕ) (x : X) → p < length edges →
     x ≡ get_or edges p x → slice_get (map items_of edges) p ≡ Some (items_of x)
 list_at items_of edges p x h e = rw (slice_get-map items_of edges p, slice_get_read edges (length edges) p x refl h e) refl
@@ -22,7 +22,7 @@ edges_length [] (process ∷ processes) all = elim all [ ]
 edges_length (calls ∷ edges) [] all = elim all [ ]
 edges_length (calls ∷ edges) (process ∷ processes) (one_pair h all) = ap suc (edges_length edges processes all)
 
--- what stands in the list of a process is called by it
+-- what is in the list of a process is called by it
 pub lists_call : (edges : List (List ℕ)) (processes : List FlatProcess) → Pairwise AreCalls edges processes → (p q : ℕ) →
     ListsCall edges p q → Calls processes p q
 lists_call [] [] no_pair p q (calls, e, i) = cc
@@ -30,23 +30,23 @@ lists_call [] (process ∷ processes) all p q lists = elim all [ ]
 lists_call (calls ∷ edges) [] all p q lists = elim all [ ]
 lists_call (calls ∷ edges) (process ∷ processes) (one_pair h all) zero q (list, e, i) =
     let same : calls ≡ list = cc in
-    record { process = process; stands = refl; calls = (h q).0 (rw same i) }
+    record { process = process; located = refl; calls = (h q).0 (rw same i) }
 lists_call (calls ∷ edges) (process ∷ processes) (one_pair h all) (suc p) q lists =
     let later = lists_call edges processes all p q lists in
-    record { process = later.process; stands = later.stands; calls = later.calls }
+    record { process = later.process; located = later.located; calls = later.calls }
 
--- what a process calls stands in its list
+-- what a process calls is in its list
 pub calls_list : (edges : List (List ℕ)) (processes : List FlatProcess) → Pairwise AreCalls edges processes → (p q : ℕ) →
     Calls processes p q → ListsCall edges p q
-calls_list [] [] no_pair p q c = let e = c.stands in cc
+calls_list [] [] no_pair p q c = let e = c.located in cc
 calls_list [] (process ∷ processes) all p q c = elim all [ ]
 calls_list (calls ∷ edges) [] all p q c = elim all [ ]
 calls_list (calls ∷ edges) (process ∷ processes) (one_pair h all) zero q c =
-    let e = c.stands in
+    let e = c.located in
     let same : process ≡ c.process = cc in
     (calls, refl, (h q).1 (rw same c.calls))
 calls_list (calls ∷ edges) (process ∷ processes) (one_pair h all) (suc p) q c =
-    calls_list edges processes all p q (record { process = c.process; stands = c.stands; calls = c.calls })
+    calls_list edges processes all p q (record { process = c.process; located = c.located; calls = c.calls })
 
 -- where every call goes to a process that there is, the lists hold such processes only
 pub in_range : (edges : List (List ℕ)) (processes : List FlatProcess) (count : ℕ) → count ≡ length processes →

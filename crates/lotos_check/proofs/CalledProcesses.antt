@@ -5,7 +5,7 @@ use Rattle.std.proofs.lemmas.List.{length-map}
 use Rattle.lotos_text.specs.AstView.{BehaviourView, DefinitionView, def, DefinitionListView, no_defs, more_defs, call, name_of, formals_of, body_of, inner_of}
 use Rattle.lotos_text.specs.declared.ast.Placed.{Placed}
 use Rattle.lotos_check.specs.NameLists.{Name, In, texts}
-use Rattle.lotos_check.specs.Scope.{Scope, Where, Scoped, Declares, here, later, Binds, nearest, outward, count, within, definitions_in_scope, processes_of, all_definitions}
+use Rattle.lotos_check.specs.Scope.{Scope, Where, ScopedDefinition, Declares, here, later, Binds, nearest, outward, count, within, definitions_in_scope, processes_of, all_definitions}
 use Rattle.lotos_check.specs.Subexpressions as parts
 use Rattle.lotos_check.specs.Subexpressions.{IsSubexpression, in_prefix, in_choice_left, in_choice_right, in_par_left, in_par_right, in_hide, in_enable_left, in_enable_right, in_disable_left, in_disable_right}
 use Rattle.lotos_check.specs.Flat.{Flat, FlatProcess, System, Pairwise, no_pair, one_pair, IsProcess, IsFlat, Resolves, of_stop, of_exit, of_prefix, of_choice, of_par, of_par_all, of_hide, of_enable, of_disable, of_call}
@@ -15,7 +15,7 @@ use Rattle.lotos_check.specs.Acceptance.{IsAccepted}
 use Rattle.lotos_check.proofs.FlatSystemUnique.{paired_at}
 use Rattle.lotos_check.proofs.ScopedDefinitions.{in_joined, listed_count}
 
--- in the behaviour stands a call of a name that means the process, with these gates
+-- the behaviour contains a call of a name that is bound to the process, with these gates
 record IsCalled (scope : Scope) (known : List Name) (body : BehaviourView) (k : ℕ) (gates : List Name) : Type 0 where
   there : List Name
   name : Placed
@@ -25,7 +25,7 @@ record IsCalled (scope : Scope) (known : List Name) (body : BehaviourView) (k : 
   means : Binds scope name.name k definition
   given : gates ≡ texts actuals
 
--- the call stands in a behaviour of which this one is a part
+-- the call is in a behaviour of which this one is a part
 widened : (scope : Scope) (known more : List Name) (t u : BehaviourView) (k : ℕ) (gates : List Name) →
     ((there : List Name) (part : BehaviourView) → IsSubexpression known t there part → IsSubexpression more u there part) →
     IsCalled scope known t k gates → IsCalled scope more u k gates
@@ -71,23 +71,23 @@ named_call scope known t c k gates (of_disable x y) (right_disable h) =
 named_call scope known t c k gates of_stop h = elim h [ ]
 named_call scope known t c k gates of_exit h = elim h [ ]
 
--- the second list stands in the first from that index on
-abbrev StandsFrom : List Scoped → ℕ → List Scoped → Type 0
-StandsFrom all k some = (i j : ℕ) (v : Scoped) → j ≡ k + i → slice_get some i ≡ Some v → slice_get all j ≡ Some v
+-- the second list is in the first from that index on
+abbrev StandsFrom : List ScopedDefinition → ℕ → List ScopedDefinition → Type 0
+StandsFrom all k some = (i j : ℕ) (v : ScopedDefinition) → j ≡ k + i → slice_get some i ≡ Some v → slice_get all j ≡ Some v
 
-get_front : (xs ys : List Scoped) (i : ℕ) (v : Scoped) → slice_get xs i ≡ Some v → slice_get (xs ++ ys) i ≡ Some v
+get_front : (xs ys : List ScopedDefinition) (i : ℕ) (v : ScopedDefinition) → slice_get xs i ≡ Some v → slice_get (xs ++ ys) i ≡ Some v
 get_front [] ys i v e = cc
 get_front (x ∷ xs) ys zero v e = e
 get_front (x ∷ xs) ys (suc i) v e = get_front xs ys i v e
 
-get_back : (xs ys : List Scoped) (i j : ℕ) (v : Scoped) → j ≡ length xs + i → slice_get ys i ≡ Some v →
+get_back : (xs ys : List ScopedDefinition) (i j : ℕ) (v : ScopedDefinition) → j ≡ length xs + i → slice_get ys i ≡ Some v →
     slice_get (xs ++ ys) j ≡ Some v
 get_back [] ys i j v at e = let same : i ≡ j = omega arith in subst (λ n. slice_get ys n ≡ Some v) same e
 get_back (x ∷ xs) ys i zero v at e = absurd (omega arith)
 get_back (x ∷ xs) ys i (suc j) v at e = get_back xs ys i j v (omega arith) e
 
--- where a list stands whose first item two lists follow, there stands that item, behind it the one list, and behind that the other
-module _ (all : List Scoped) (k : ℕ) (first : Scoped) (xs ys : List Scoped) (stands : StandsFrom all k (first ∷ xs ++ ys)) where
+-- a list of an item and two lists after it, at an index: the item is there, the one list follows it, and the other follows that
+module _ (all : List ScopedDefinition) (k : ℕ) (first : ScopedDefinition) (xs ys : List ScopedDefinition) (stands : StandsFrom all k (first ∷ xs ++ ys)) where
   stands_first : slice_get all k ≡ Some first
   stands_first = stands 0 k first (omega arith) refl
 
@@ -98,52 +98,52 @@ module _ (all : List Scoped) (k : ℕ) (first : Scoped) (xs ys : List Scoped) (s
   stands_back n after i j v at e = stands (suc (length xs + i)) j v (omega arith) (get_back xs ys i (length xs + i) v refl e)
 
 -- the definition of that number in the list of all definitions
-record IsAt (all : List Scoped) (q : ℕ) (d : DefinitionView) : Type 0 where
-  scoped : Scoped
-  stands : slice_get all q ≡ Some scoped
+record IsAt (all : List ScopedDefinition) (q : ℕ) (d : DefinitionView) : Type 0 where
+  scoped : ScopedDefinition
+  located : slice_get all q ≡ Some scoped
   same : scoped.definition ≡ d
 
--- the `where` is numbered as its definitions stand in the list
-record IsNumbered (all : List Scoped) (w : Where) : Type 0 where
+-- the `where` is numbered in the order of its definitions in the list
+record IsNumbered (all : List ScopedDefinition) (w : Where) : Type 0 where
   scope : Scope
-  stands : StandsFrom all w.first (definitions_in_scope scope w.first w.defs)
+  located : StandsFrom all w.first (definitions_in_scope scope w.first w.defs)
 
-declared_at : (all : List Scoped) (scope : Scope) (k : ℕ) (ds : DefinitionListView) → StandsFrom all k (definitions_in_scope scope k ds) →
+declared_at : (all : List ScopedDefinition) (scope : Scope) (k : ℕ) (ds : DefinitionListView) → StandsFrom all k (definitions_in_scope scope k ds) →
     (n : Name) (q : ℕ) (d : DefinitionView) → Declares ds k n q d → IsAt all q d
 declared_at all scope k (more_defs (def name formals declared body inner) ds) stands n q d here =
     let own : Scope = record { defs = inner; first = k + 1 } ∷ scope in
-    let this : Scoped = record { scope = own; definition = def name formals declared body inner } in
+    let this : ScopedDefinition = record { scope = own; definition = def name formals declared body inner } in
     let at = stands_first all k this (definitions_in_scope own (k + 1) inner) (definitions_in_scope scope (k + 1 + count inner) ds) stands in
-    record { scoped = this; stands = at; same = refl }
+    record { scoped = this; located = at; same = refl }
 declared_at all scope k (more_defs (def name formals declared body inner) ds) stands n q d (later x) =
     let own : Scope = record { defs = inner; first = k + 1 } ∷ scope in
-    let this : Scoped = record { scope = own; definition = def name formals declared body inner } in
+    let this : ScopedDefinition = record { scope = own; definition = def name formals declared body inner } in
     let deep = definitions_in_scope own (k + 1) inner in
     let c = listed_count own (k + 1) inner in
     let behind = stands_back all k this deep (definitions_in_scope scope (k + 1 + count inner) ds) stands (k + 1 + count inner) (omega arith) in
     declared_at all scope (k + 1 + count inner) ds behind n q d x
 declared_at all scope k no_defs stands n q d x = elim x [ ]
 
-abbrev AllNumbered : List Scoped → Scope → Type 0
+abbrev AllNumbered : List ScopedDefinition → Scope → Type 0
 AllNumbered all scope = (w : Where) → In w scope → IsNumbered all w
 
-more_numbered : (all : List Scoped) (w : Where) (scope : Scope) → IsNumbered all w → AllNumbered all scope → AllNumbered all (w ∷ scope)
+more_numbered : (all : List ScopedDefinition) (w : Where) (scope : Scope) → IsNumbered all w → AllNumbered all scope → AllNumbered all (w ∷ scope)
 more_numbered all w scope h numbered x (inl e) = subst (IsNumbered all) e h
 more_numbered all w scope h numbered x (inr i) = numbered x i
 
-listed_numbered : (all : List Scoped) (scope : Scope) (k : ℕ) (ds : DefinitionListView) → StandsFrom all k (definitions_in_scope scope k ds) → AllNumbered all scope →
-    (v : Scoped) → In v (definitions_in_scope scope k ds) → AllNumbered all v.scope
+listed_numbered : (all : List ScopedDefinition) (scope : Scope) (k : ℕ) (ds : DefinitionListView) → StandsFrom all k (definitions_in_scope scope k ds) → AllNumbered all scope →
+    (v : ScopedDefinition) → In v (definitions_in_scope scope k ds) → AllNumbered all v.scope
 listed_numbered all scope k no_defs stands numbered v i = absurd i
 listed_numbered all scope k (more_defs (def name formals declared body inner) ds) stands numbered v i =
     let w : Where = record { defs = inner; first = k + 1 } in
     let own : Scope = w ∷ scope in
-    let this : Scoped = record { scope = own; definition = def name formals declared body inner } in
+    let this : ScopedDefinition = record { scope = own; definition = def name formals declared body inner } in
     let deep = definitions_in_scope own (k + 1) inner in
     let rest = definitions_in_scope scope (k + 1 + count inner) ds in
     let c = listed_count own (k + 1) inner in
     let front = stands_front all k this deep rest stands in
     let behind = stands_back all k this deep rest stands (k + 1 + count inner) (omega arith) in
-    let with_own = more_numbered all w scope (record { scope = own; stands = front }) numbered in
+    let with_own = more_numbered all w scope (record { scope = own; located = front }) numbered in
     elim i [
       | inl e ↦ subst (λ t. AllNumbered all t.scope) e with_own
       | inr j ↦ elim (in_joined v deep rest j) [
@@ -152,24 +152,24 @@ listed_numbered all scope k (more_defs (def name formals declared body inner) ds
       ]
     ]
 
-visible_numbered : (whole : DefinitionView) (v : Scoped) → In v (all_definitions whole) → AllNumbered (processes_of whole) v.scope
+visible_numbered : (whole : DefinitionView) (v : ScopedDefinition) → In v (all_definitions whole) → AllNumbered (processes_of whole) v.scope
 visible_numbered whole v i =
     let all = processes_of whole in
     let w : Where = record { defs = inner_of whole; first = 0 } in
     let stands : StandsFrom all 0 all = λ i j v at e. let same : i ≡ j = omega arith in subst (λ n. slice_get all n ≡ Some v) same e in
-    let top = more_numbered all w [] (record { scope = within whole 0 []; stands = stands }) (λ x y. absurd y) in
+    let top = more_numbered all w [] (record { scope = within whole 0 []; located = stands }) (λ x y. absurd y) in
     elim i [
       | inl e ↦ subst (λ t. AllNumbered all t.scope) e top
       | inr j ↦ listed_numbered all (within whole 0 []) 0 (inner_of whole) stands top v j
     ]
 
-meant_at : (all : List Scoped) (scope : Scope) → AllNumbered all scope → (n : Name) (q : ℕ) (d : DefinitionView) → Binds scope n q d → IsAt all q d
+meant_at : (all : List ScopedDefinition) (scope : Scope) → AllNumbered all scope → (n : Name) (q : ℕ) (d : DefinitionView) → Binds scope n q d → IsAt all q d
 meant_at all (w ∷ ws) numbered n q d (nearest x) =
-    let h = numbered w (inl refl) in declared_at all h.scope w.first w.defs h.stands n q d x
+    let h = numbered w (inl refl) in declared_at all h.scope w.first w.defs h.located n q d x
 meant_at all (w ∷ ws) numbered n q d (outward none x) = meant_at all ws (λ v i. numbered v (inr i)) n q d x
 meant_at all [] numbered n q d x = elim x [ ]
 
-process_at : (vs : List Scoped) (ps : List FlatProcess) → Pairwise IsProcess vs ps → (i : ℕ) (v : Scoped) → slice_get vs i ≡ Some v →
+process_at : (vs : List ScopedDefinition) (ps : List FlatProcess) → Pairwise IsProcess vs ps → (i : ℕ) (v : ScopedDefinition) → slice_get vs i ≡ Some v →
     (p : FlatProcess) × (slice_get ps i ≡ Some p) × IsProcess v p
 process_at [] [] no_pair i v e = cc
 process_at (w ∷ vs) (p ∷ ps) (one_pair h hs) zero v e = let f : w ≡ v = cc in (p, refl, subst (λ x. IsProcess x p) f h)
@@ -178,20 +178,20 @@ process_at [] (p ∷ ps) h i v e = elim h [ ]
 process_at (w ∷ vs) [] h i v e = elim h [ ]
 
 -- the process of the number that a name means is the definition that it means
-called_process : (whole : DefinitionView) (s : System) → IsFlat whole s → (v : Scoped) → In v (all_definitions whole) → (n : Name) (k : ℕ) (d : DefinitionView) →
+called_process : (whole : DefinitionView) (s : System) → IsFlat whole s → (v : ScopedDefinition) → In v (all_definitions whole) → (n : Name) (k : ℕ) (d : DefinitionView) →
     Binds v.scope n k d → IsProcessOf s k d
 called_process whole s flat v i n k d m =
     let at = meant_at (processes_of whole) v.scope (visible_numbered whole v i) n k d m in
-    let p = process_at (processes_of whole) s.processes flat.processes k at.scoped at.stands in
+    let p = process_at (processes_of whole) s.processes flat.processes k at.scoped at.located in
     record {
       process = p.0;
-      stands = p.1;
+      located = p.1;
       name = p.2.name ∙ ap (λ e. (name_of e).name) at.same;
       formals = p.2.formals ∙ ap (λ e. texts (formals_of e)) at.same;
     }
 
 -- a call by number in the body of a definition goes to the definition that its name means
-pub goes_to_named : (whole : DefinitionView) (s : System) → IsAccepted whole s → (v : Scoped) → In v (all_definitions whole) → (b : Flat) →
+pub goes_to_named : (whole : DefinitionView) (s : System) → IsAccepted whole s → (v : ScopedDefinition) → In v (all_definitions whole) → (b : Flat) →
     Resolves v.scope (body_of v.definition) b → (k : ℕ) (gates : List Name) → ContainsCall b k gates → GoesToNamed s v k gates
 goes_to_named whole s a v i b r k gates h =
     let c = named_call v.scope (texts (formals_of v.definition)) (body_of v.definition) b k gates r h in
@@ -210,7 +210,7 @@ goes_to_named whole s a v i b r k gates h =
 
 -- a behaviour of the flat system is the body of a definition with calls by number
 body_visible : (whole : DefinitionView) (s : System) → IsFlat whole s → (b : Flat) → IsBodyOf s b →
-    (v : Scoped) × In v (all_definitions whole) × Resolves v.scope (body_of v.definition) b
+    (v : ScopedDefinition) × In v (all_definitions whole) × Resolves v.scope (body_of v.definition) b
 body_visible whole s flat b of_whole = (record { scope = within whole 0 []; definition = whole }, inl refl, flat.start)
 body_visible whole s flat b (of_process p process e) =
     let at = paired_at (processes_of whole) s.processes flat.processes p process e in
@@ -230,11 +230,11 @@ call_fits whole s a b body k gates h =
     let actual = length c.actuals in
     let unfit : formal ≢ actual → IsE23 whole c.name formal actual = λ differ. record {
       scope = at.0.scope;
-      known = c.there;
+      in_scope = c.there;
       actuals = c.actuals;
       process = k;
       definition = c.definition;
-      occurs = record { definition = at.0.definition; stands = at.1; inside = c.inside };
+      occurs = record { definition = at.0.definition; located = at.1; inside = c.inside };
       means = c.means;
       declared = refl;
       given = refl;
@@ -243,4 +243,4 @@ call_fits whole s a b body k gates h =
     let same : formal ≡ actual = same_unless formal actual (λ differ. a.typed.same_numbers c.name formal actual (unfit differ)) in
     let g = ap length c.given ∙ length-map c.actuals (λ p. p.name) in
     let f = ap length p.formals ∙ length-map (formals_of c.definition) (λ p. p.name) in
-    (p.process, p.stands, g ∙ sym same ∙ sym f)
+    (p.process, p.located, g ∙ sym same ∙ sym f)

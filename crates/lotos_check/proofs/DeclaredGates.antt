@@ -15,7 +15,7 @@ use Rattle.lotos_check.proofs.JoinedLists.{in_front, in_back, in_either}
 use Rattle.lotos_check.proofs.NameTests.{in_if_any, out_if_none}
 
 module _ {K : Type 0} (now : K → Name) where
-  -- the name is among the keys, which are the old ones and some more behind them
+  -- the name is among the keys, which are the old ones and some more after them
   record Inserted (n : Name) (old new : List K) : Type 0 where
     pub more : List K
     pub joined : new ≡ old ++ more
@@ -46,7 +46,7 @@ module _ {K : Type 0} (now : K → Name) where
         ]);
       }
 
-  -- of these gates only the rest is left, and the others were put behind the first keys
+  -- of these gates only the rest is left, and the others were put after the first keys
   pub record Added (first keys : List K) (gates rest : List Placed) : Type 0 where
     pub more : List K
     pub joined : keys ≡ first ++ more
@@ -64,7 +64,7 @@ module _ {K : Type 0} (now : K → Name) where
     left = λ m i. i;
   }
 
-  -- the next of the gates is put behind the keys, where it is not among them
+  -- the next of the gates is put after the keys, if it is not among them
   pub added_more : (first old new : List K) (gates rest left : List Placed) (p : Placed) (key : K) (n : Name) →
       Added first old gates rest → rest ≡ p ∷ left →
       n ≡ p.name → now key ≡ n → new ≡ (if list_any (λ k. bytes_eq n (now k)) old then old else old ++ key ∷ []) →
@@ -88,7 +88,7 @@ module _ {K : Type 0} (now : K → Name) where
         left = λ m i. added.left m (subst (λ ps. In m (texts ps)) (sym next) (inr i));
       }
 
-  -- where none is left, the gates are known, and those that were known before
+  -- if none is left, the gates are in scope, and so are those that were before
   pub added_all : (first keys : List K) (gates rest : List Placed) → Added first keys gates rest → rest ≡ [] →
       (names : List Name) → HasNames now first names → HasNames now keys (texts gates ++ names)
   added_all first keys gates rest added none names knows n = (
@@ -126,7 +126,7 @@ module _ {K : Type 0} (now : K → Name) where
           left = λ g h. found.left g (subst (In g) (sym next) (inr h));
         }
 
-    -- the next of the gates is not known
+    -- the next of the gates is not in scope
     pub found_unknown : there ≡ false → (names : List Name) → HasNames now keys names → (q : Placed) → q ≡ p →
         In q gates × (In q.name names → ⊥)
     found_unknown not_there names knows q same = (
@@ -135,7 +135,7 @@ module _ {K : Type 0} (now : K → Name) where
           (subst (λ m. In m (map now keys)) (ap (λ r. r.name) same ∙ sym text) ((knows q.name).1 i)),
     )
 
-  -- where none is left, all are known
+  -- if none is left, all are in scope
   pub found_all : (keys : List K) (gates rest : List Placed) → Found keys gates rest → rest ≡ [] → (names : List Name) →
       HasNames now keys names →
       (g : Placed) → In g gates → In g.name names

@@ -2,11 +2,11 @@
 use Rattle.std.proofs.Common.{◌≡◌, ℕ, ◌+◌, ◌≤◌, List, [], ◌∷◌, Some, zero, suc, refl, sym, subst, inl, inr}
 use Rattle.std.specs.Prelude.{slice_get}
 use Rattle.lotos_text.specs.AstView.{BehaviourView, enable, call, DefinitionView, def, DefinitionListView, no_defs, more_defs, name_of, formals_of, body_of, inner_of}
-use Rattle.lotos_text.specs.OffsetsInside.{AreNamesInside, IsTreeInside, IsInside, AreInside}
+use Rattle.lotos_text.specs.OffsetsInside.{AreNamesInside, IsBehaviourInside, IsInside, AreInside}
 use Rattle.lotos_text.specs.declared.ast.Placed.{Placed}
 use Rattle.lotos_text.specs.declared.ast.Action.TheVariants.{Internal, Gate}
 use Rattle.lotos_check.specs.NameLists.{Name, In, IsDuplicate}
-use Rattle.lotos_check.specs.Scope.{Scope, Scoped, declared_names, count, definitions_in_scope, within, processes_of, all_definitions}
+use Rattle.lotos_check.specs.Scope.{Scope, ScopedDefinition, declared_names, count, definitions_in_scope, within, processes_of, all_definitions}
 use Rattle.lotos_check.specs.Subexpressions.{IsSubexpression, whole, in_prefix, in_choice_left, in_choice_right, in_par_left, in_par_right, in_hide}
 use Rattle.lotos_check.specs.Subexpressions.{in_enable_left, in_enable_right, in_disable_left, in_disable_right, UsesGate, acts, synchronizes, passes}
 use Rattle.lotos_check.specs.StaticFaults.{Occurs}
@@ -22,13 +22,13 @@ named_inside n [] h p i = absurd i
 named_inside n (x ∷ names) h p (inl e) = subst (λ t. t.at ≤ n) e h.0
 named_inside n (x ∷ names) h p (inr i) = named_inside n names h.1 p i
 
--- what stands second in a list stands in it
+-- the second item of a list is in it
 second_in : (p : Placed) (names : List Placed) → IsDuplicate p names → In p names
-second_in p names h = subst (In p) (sym h.stands) (in_back p h.before (p ∷ h.after) (inl refl))
+second_in p names h = subst (In p) (sym h.located) (in_back p h.before (p ∷ h.after) (inl refl))
 
 -- a part of a behaviour inside the text is inside it
 part_inside : (n : ℕ) (known : List Name) (t : BehaviourView) (there : List Name) (part : BehaviourView) → IsSubexpression known t there part →
-    IsTreeInside n t → IsTreeInside n part
+    IsBehaviourInside n t → IsBehaviourInside n part
 part_inside n known t there part whole h = h
 part_inside n known t there part (in_prefix {a = Internal} p) h = part_inside n _ _ there part p h
 part_inside n known t there part (in_prefix {a = Gate g} p) h = part_inside n _ _ there part p h.1
@@ -43,7 +43,7 @@ part_inside n known t there part (in_disable_left p) h = part_inside n _ _ there
 part_inside n known t there part (in_disable_right p) h = part_inside n _ _ there part p h.1
 
 -- a gate that a behaviour inside the text uses is inside it
-used_inside : (n : ℕ) (t : BehaviourView) (g : Placed) → UsesGate t g → IsTreeInside n t → g.at ≤ n
+used_inside : (n : ℕ) (t : BehaviourView) (g : Placed) → UsesGate t g → IsBehaviourInside n t → g.at ≤ n
 used_inside n t g acts h = h.0
 used_inside n t g (synchronizes {gs = gs} i) h = named_inside n gs h.1 g i
 used_inside n t g (passes {gs = gs} i) h = named_inside n gs h.1 g i
@@ -55,7 +55,7 @@ name_inside n (def name formals declared body inner) h = h.0
 formals_inside : (n : ℕ) (d : DefinitionView) → IsInside n d → AreNamesInside n (formals_of d)
 formals_inside n (def name formals declared body inner) h = h.1
 
-body_inside : (n : ℕ) (d : DefinitionView) → IsInside n d → IsTreeInside n (body_of d)
+body_inside : (n : ℕ) (d : DefinitionView) → IsInside n d → IsBehaviourInside n (body_of d)
 body_inside n (def name formals declared body inner) h = h.2
 
 inner_inside : (n : ℕ) (d : DefinitionView) → IsInside n d → AreInside n (inner_of d)
@@ -68,7 +68,7 @@ declared_inside n (more_defs d ds) h p (inl e) = subst (λ t. t.at ≤ n) e (nam
 declared_inside n (more_defs d ds) h p (inr i) = declared_inside n ds h.1 p i
 
 -- of definitions inside the text all that are listed are inside it
-listed_inside : (n : ℕ) (scope : Scope) (k : ℕ) (ds : DefinitionListView) → AreInside n ds → (v : Scoped) → In v (definitions_in_scope scope k ds) →
+listed_inside : (n : ℕ) (scope : Scope) (k : ℕ) (ds : DefinitionListView) → AreInside n ds → (v : ScopedDefinition) → In v (definitions_in_scope scope k ds) →
     IsInside n v.definition
 listed_inside n scope k no_defs h v i = absurd i
 listed_inside n scope k (more_defs (def name formals declared body inner) ds) h v (inl e) = subst (λ t. IsInside n t.definition) e h.0
@@ -80,19 +80,19 @@ listed_inside n scope k (more_defs (def name formals declared body inner) ds) h 
     ]
 
 module _ (spec : DefinitionView) (n : ℕ) (inside : IsInside n spec) where
-  -- so is each definition that stands in a specification inside the text
-  stands_inside : (v : Scoped) → In v (all_definitions spec) → IsInside n v.definition
+  -- so is each definition in a specification inside the text
+  stands_inside : (v : ScopedDefinition) → In v (all_definitions spec) → IsInside n v.definition
   stands_inside v (inl e) = subst (λ t. IsInside n t.definition) e inside
   stands_inside v (inr i) = listed_inside n (within spec 0 []) 0 (inner_of spec) (inner_inside n spec inside) v i
 
   -- and each part of one's body
-  occurs_inside : (scope : Scope) (known : List Name) (part : BehaviourView) → Occurs spec scope known part → IsTreeInside n part
+  occurs_inside : (scope : Scope) (known : List Name) (part : BehaviourView) → Occurs spec scope known part → IsBehaviourInside n part
   occurs_inside scope known part h =
-      let body = body_inside n h.definition (stands_inside (record { scope = scope; definition = h.definition }) h.stands) in
+      let body = body_inside n h.definition (stands_inside (record { scope = scope; definition = h.definition }) h.located) in
       part_inside n _ (body_of h.definition) known part h.inside body
 
--- what a place of a list has stands in it
-in_at : (vs : List Scoped) (i : ℕ) (v : Scoped) → slice_get vs i ≡ Some v → In v vs
+-- what is at an index of a list is in it
+in_at : (vs : List ScopedDefinition) (i : ℕ) (v : ScopedDefinition) → slice_get vs i ≡ Some v → In v vs
 in_at [] i v e = cc
 in_at (x ∷ vs) zero v e = inl (cc)
 in_at (x ∷ vs) (suc i) v e = inr (in_at vs i v e)
@@ -100,21 +100,21 @@ in_at (x ∷ vs) (suc i) v e = inr (in_at vs i v e)
 -- a fault of a specification inside the text is inside it
 pub faulty_inside : (spec : DefinitionView) (fault : CheckFault) (n : ℕ) → IsStaticFault spec fault → IsInside n spec → IsOffsetWithin n fault
 faulty_inside spec (E20 gate) n h inside =
-    let d = stands_inside spec n inside (record { scope = h.scope; definition = h.definition }) h.stands in
+    let d = stands_inside spec n inside (record { scope = h.scope; definition = h.definition }) h.located in
     named_inside n (formals_of h.definition) (formals_inside n h.definition d) gate (second_in gate (formals_of h.definition) h.second)
 faulty_inside spec (E21 gate) n h inside =
-    used_inside n h.part gate h.uses (occurs_inside spec n inside h.scope h.known h.part h.occurs)
-faulty_inside spec (E22 name) n h inside = (occurs_inside spec n inside h.scope h.known (call name h.actuals) h.occurs).0
-faulty_inside spec (E23 name formal actual) n h inside = (occurs_inside spec n inside h.scope h.known (call name h.actuals) h.occurs).0
+    used_inside n h.part gate h.uses (occurs_inside spec n inside h.scope h.in_scope h.part h.occurs)
+faulty_inside spec (E22 name) n h inside = (occurs_inside spec n inside h.scope h.in_scope (call name h.actuals) h.occurs).0
+faulty_inside spec (E23 name formal actual) n h inside = (occurs_inside spec n inside h.scope h.in_scope (call name h.actuals) h.occurs).0
 faulty_inside spec (E24 name) n h inside =
-    let d = stands_inside spec n inside (record { scope = h.scope; definition = h.definition }) h.stands in
+    let d = stands_inside spec n inside (record { scope = h.scope; definition = h.definition }) h.located in
     let row = inner_of h.definition in
     declared_inside n row (inner_inside n h.definition d) name (second_in name (declared_names row) h.second)
 faulty_inside spec (E25 name declared) n h inside =
-    let d = stands_inside spec n inside (record { scope = h.scope; definition = h.definition }) h.stands in
+    let d = stands_inside spec n inside (record { scope = h.scope; definition = h.definition }) h.located in
     subst (λ p. p.at ≤ n) (sym h.named) (name_inside n h.definition d)
-faulty_inside spec (E26 at) n h inside = (occurs_inside spec n inside h.scope h.known (enable h.left at h.right) h.occurs).1
+faulty_inside spec (E26 at) n h inside = (occurs_inside spec n inside h.scope h.in_scope (enable h.left at h.right) h.occurs).1
 faulty_inside spec (E27 name set) n h inside =
-    let d = stands_inside spec n inside h.scoped (inr (in_at (processes_of spec) h.first h.scoped h.stands)) in
+    let d = stands_inside spec n inside h.scoped (inr (in_at (processes_of spec) h.first h.scoped h.located)) in
     subst (λ p. p.at ≤ n) (sym h.named) (name_inside n h.scoped.definition d)
 faulty_inside spec (E99 e) n h inside = tt

@@ -4,13 +4,13 @@ use Rattle.std.specs.Prelude.{MatchOption, slice_get}
 use Rattle.lotos_text.specs.AstView.{DefinitionView, name_of, formals_of, body_of}
 use Rattle.lotos_text.specs.declared.ast.Placed.{Placed}
 use Rattle.lotos_check.specs.NameLists.{In, texts}
-use Rattle.lotos_check.specs.Scope.{Scoped, all_definitions, processes_of, definitions_in}
+use Rattle.lotos_check.specs.Scope.{ScopedDefinition, all_definitions, processes_of, definitions_in}
 use Rattle.lotos_check.specs.Flat.{Pairwise, no_pair, one_pair, System, IsFlat}
 use Rattle.lotos_check.specs.Guard.{IsE27, IsLargestUnguardedSet, IsUnguardedSet}
 use Rattle.lotos_check.specs.Acceptance.{IsAccepted, IsDuplicateFault, IsStaticFault, IsNotAccepted}
 use Rattle.lotos_check.specs.Resolution.{IsResolvedBody, IsNameFaultIn, LeftsExit, NeverExits}
 use Rattle.lotos_check.specs.FunctionalityRules.{IsFunctionalityFaultIn, IsFunctionalityFault}
-use Rattle.lotos_check.specs.declared.resolution.ResolvedBody.{ResolvedBody}
+use Rattle.lotos_check.specs.declared.resolved_body.ResolvedBody.{ResolvedBody}
 use Rattle.lotos_check.specs.declared.fault.CheckFault.{CheckFault}
 use Rattle.lotos_check.specs.declared.fault.CheckFault.TheVariants.{E20, E21, E22, E23, E24, E25, E26, E27, E99}
 use Rattle.lotos_check.proofs.UnguardedSets.{unguarded_has_no_ranking}
@@ -29,16 +29,16 @@ repeat_faulty whole (E26 at) h = absurd h
 repeat_faulty whole (E27 name set) h = absurd h
 repeat_faulty whole (E99 e) h = h
 
--- a body that is refused for its names breaks a rule
+-- a body with a fault in its names breaks a rule
 pub misnamed_faulty : (whole : DefinitionView) (fault : CheckFault) → IsNameFaultIn (all_definitions whole) fault → IsStaticFault whole fault
 misnamed_faulty whole (E20 gate) h = absurd h.misnamed
 misnamed_faulty whole (E21 gate) h =
     let m = h.misnamed in
     record {
       scope = h.scoped.scope;
-      known = m.there;
+      in_scope = m.there;
       part = m.part;
-      occurs = record { definition = h.scoped.definition; stands = h.stands; inside = m.stands };
+      occurs = record { definition = h.scoped.definition; located = h.located; inside = m.located };
       uses = m.uses;
       unknown = m.unknown;
     }
@@ -46,20 +46,20 @@ misnamed_faulty whole (E22 name) h =
     let m = h.misnamed in
     record {
       scope = h.scoped.scope;
-      known = m.there;
+      in_scope = m.there;
       actuals = m.actuals;
-      occurs = record { definition = h.scoped.definition; stands = h.stands; inside = m.stands };
+      occurs = record { definition = h.scoped.definition; located = h.located; inside = m.located };
       unknown = m.unseen;
     }
 misnamed_faulty whole (E23 name formal actual) h =
     let m = h.misnamed in
     record {
       scope = h.scoped.scope;
-      known = m.there;
+      in_scope = m.there;
       actuals = m.actuals;
       process = m.process;
       definition = m.definition;
-      occurs = record { definition = h.scoped.definition; stands = h.stands; inside = m.stands };
+      occurs = record { definition = h.scoped.definition; located = h.located; inside = m.located };
       means = m.means;
       declared = m.declared;
       given = m.given;
@@ -71,22 +71,22 @@ misnamed_faulty whole (E26 at) h = absurd h.misnamed
 misnamed_faulty whole (E27 name set) h = absurd h.misnamed
 misnamed_faulty whole (E99 e) h = tt
 
-found_at : (vs : List Scoped) (found : List ResolvedBody) → Pairwise IsResolvedBody vs found → (i : ℕ) (d : DefinitionView) (r : ResolvedBody) →
-    slice_get (map (λ v. v.definition) vs) i ≡ Some d → slice_get found i ≡ Some r → (v : Scoped) × In v vs × (v.definition ≡ d) × IsResolvedBody v r
+found_at : (vs : List ScopedDefinition) (found : List ResolvedBody) → Pairwise IsResolvedBody vs found → (i : ℕ) (d : DefinitionView) (r : ResolvedBody) →
+    slice_get (map (λ v. v.definition) vs) i ≡ Some d → slice_get found i ≡ Some r → (v : ScopedDefinition) × In v vs × (v.definition ≡ d) × IsResolvedBody v r
 found_at [] [] no_pair i d r e f = cc
 found_at (v ∷ vs) (x ∷ found) (one_pair h hs) zero d r e f = let g : x ≡ r = cc in (v, inl refl, (cc), subst (IsResolvedBody v) g h)
 found_at (v ∷ vs) (x ∷ found) (one_pair h hs) (suc i) d r e f = let n = found_at vs found hs i d r e f in (n.0, inr n.1, n.2, n.3)
 found_at [] (x ∷ found) h i d r e f = elim h [ ]
 found_at (v ∷ vs) [] h i d r e f = elim h [ ]
 
-never_at : (v : Scoped) (never : Option ℕ) (at : ℕ) → never ≡ Some at →
+never_at : (v : ScopedDefinition) (never : Option ℕ) (at : ℕ) → never ≡ Some at →
     MatchOption never (LeftsExit v.scope (texts (formals_of v.definition)) (body_of v.definition))
     (NeverExits v.scope (texts (formals_of v.definition)) (body_of v.definition)) →
     NeverExits v.scope (texts (formals_of v.definition)) (body_of v.definition) at
 never_at v None at e h = cc
 never_at v (Some x) at e h = let f : x ≡ at = cc in subst (NeverExits v.scope (texts (formals_of v.definition)) (body_of v.definition)) f h
 
-untyped_one : (whole : DefinitionView) (v : Scoped) (r : ResolvedBody) (fault : CheckFault) → In v (all_definitions whole) → IsResolvedBody v r →
+untyped_one : (whole : DefinitionView) (v : ScopedDefinition) (r : ResolvedBody) (fault : CheckFault) → In v (all_definitions whole) → IsResolvedBody v r →
     IsFunctionalityFault v.definition r fault → IsStaticFault whole fault
 untyped_one whole v r (E20 gate) i b h = absurd h
 untyped_one whole v r (E21 gate) i b h = absurd h
@@ -97,9 +97,9 @@ untyped_one whole v r (E25 name declared) i b h = record {
   scope = v.scope;
   definition = v.definition;
   other = r.functionality;
-  stands = i;
+  located = i;
   named = h.0;
-  says = h.1;
+  declares = h.1;
   has = b.has;
   differ = h.2;
 }
@@ -107,10 +107,10 @@ untyped_one whole v r (E26 at) i b h =
     let n = never_at v r.never_exits at h b.lefts in
     record {
       scope = v.scope;
-      known = n.there;
+      in_scope = n.there;
       left = n.left;
       right = n.right;
-      occurs = record { definition = v.definition; stands = i; inside = n.stands };
+      occurs = record { definition = v.definition; located = i; inside = n.located };
       never_exits = n.never_exits;
     }
 untyped_one whole v r (E27 name set) i b h = absurd h
@@ -121,7 +121,7 @@ pub untyped_faulty : (whole : DefinitionView) (found : List ResolvedBody) (fault
     IsFunctionalityFaultIn (definitions_in whole) found fault → IsStaticFault whole fault
 untyped_faulty whole found fault bodies h =
     let e = everywhere_in_order whole in
-    let n = found_at (all_definitions whole) found bodies h.index h.definition h.body (rw e at h.defined) h.stands in
+    let n = found_at (all_definitions whole) found bodies h.index h.definition h.body (rw e at h.defined) h.located in
     untyped_one whole n.0 h.body fault n.1 n.3 (subst (λ d. IsFunctionalityFault d h.body fault) (sym n.2) h.untyped)
 
 -- a specification with an unguarded set is not accepted
@@ -144,9 +144,9 @@ faulty_refused whole (E26 at) h = λ system a. a.typed.left_exits at h
 faulty_refused whole (E27 name set) h = unguarded_refused whole name set.items h
 faulty_refused whole (E99 e) h = tt
 
--- the definition of a process stands in the list of all behind the specification
-process_at : (vs : List Scoped) (i : ℕ) (d : DefinitionView) → slice_get (map (λ v. v.definition) vs) i ≡ Some d →
-    (v : Scoped) × (slice_get vs i ≡ Some v) × (v.definition ≡ d)
+-- the definition of a process is in the list of all, after the specification
+process_at : (vs : List ScopedDefinition) (i : ℕ) (d : DefinitionView) → slice_get (map (λ v. v.definition) vs) i ≡ Some d →
+    (v : ScopedDefinition) × (slice_get vs i ≡ Some v) × (v.definition ≡ d)
 process_at [] i d e = cc
 process_at (v ∷ vs) zero d e = (v, refl, (cc))
 process_at (v ∷ vs) (suc i) d e = process_at vs i d e
@@ -166,6 +166,6 @@ unguarded_faulty whole system set first others name d flat unguarded begins stan
       others = others;
       begins = begins;
       scoped = at.0;
-      stands = at.1;
+      located = at.1;
       named = named ∙ ap name_of (sym at.2);
     }

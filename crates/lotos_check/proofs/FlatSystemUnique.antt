@@ -5,7 +5,7 @@ use Rattle.lotos_text.specs.AstView.{BehaviourView, DefinitionView, body_of}
 use Rattle.lotos_text.specs.declared.ast.Placed.{Placed}
 use Rattle.lotos_text.specs.declared.ast.Functionality.{Functionality}
 use Rattle.lotos_check.specs.NameLists.{Name, In, Below, IsAscendingNames, none, one, more, IsSetOf}
-use Rattle.lotos_check.specs.Scope.{Scope, Scoped, Binds, IsDistinctScope, processes_of, within}
+use Rattle.lotos_check.specs.Scope.{Scope, ScopedDefinition, Binds, IsDistinctScope, processes_of, within}
 use Rattle.lotos_check.specs.StaticFaults.{IsDistinct}
 use Rattle.lotos_check.specs.Flat.{Flat, FlatProcess, System, Pairwise, no_pair, one_pair, IsProcess, IsFlat, Resolves, of_stop, of_exit, of_prefix, of_choice, of_par, of_par_all, of_hide, of_enable, of_disable, of_call}
 use Rattle.lotos_check.specs.Guard.{Calls, CallsUnguarded, itself, left_choice, right_choice, left_par, right_par, under_hide, left_enable, left_disable, right_disable}
@@ -53,7 +53,7 @@ in_rest x y n xs ys a e to i = elim (to (inr i)) [
   | inr j ↦ j
 ]
 
--- names in order without repeats are known by which they are
+-- lists of names in order without repeats are equal if they have the same members
 pub one_set : (xs ys : List Name) → IsAscendingNames xs → IsAscendingNames ys → ((n : Name) → In n xs → In n ys) → ((n : Name) → In n ys → In n xs) → xs ≡ ys
 one_set [] [] a b to from = refl
 one_set [] (y ∷ ys) a b to from = absurd (from y (inl refl))
@@ -92,7 +92,7 @@ same_parts : (n m : Name) (f g : List Name) (x y : Functionality) (b c : Flat) �
     ◌≡◌ {A = FlatProcess} (record { name = n; formals = f; functionality = x; body = b }) (record { name = m; formals = g; functionality = y; body = c })
 same_parts n m f g x y b c e h k l = rw (e, h, k, l) refl
 
-one_process : (v : Scoped) → IsDistinctScope v.scope → (p q : FlatProcess) → IsProcess v p → IsProcess v q → p ≡ q
+one_process : (v : ScopedDefinition) → IsDistinctScope v.scope → (p q : FlatProcess) → IsProcess v p → IsProcess v q → p ≡ q
 one_process v distinct p q h k =
     let n : p.name ≡ q.name = h.name ∙ sym k.name in
     let f : p.formals ≡ q.formals = h.formals ∙ sym k.formals in
@@ -100,7 +100,7 @@ one_process v distinct p q h k =
     let b : p.body ≡ q.body = one_flat v.scope distinct (body_of v.definition) p.body q.body h.body k.body in
     same_parts p.name q.name p.formals q.formals p.functionality q.functionality p.body q.body n f g b
 
-one_processes : (vs : List Scoped) → ((v : Scoped) → In v vs → IsDistinctScope v.scope) → (ps qs : List FlatProcess) →
+one_processes : (vs : List ScopedDefinition) → ((v : ScopedDefinition) → In v vs → IsDistinctScope v.scope) → (ps qs : List FlatProcess) →
     Pairwise IsProcess vs ps → Pairwise IsProcess vs qs → ps ≡ qs
 one_processes [] distinct [] [] no_pair no_pair = refl
 one_processes (v ∷ vs) distinct (p ∷ ps) (q ∷ qs) (one_pair h hs) (one_pair k ks) =
@@ -148,8 +148,8 @@ called_meant scope t c q of_exit h = elim h [ ]
 called_meant scope t c q (of_prefix x) h = elim h [ ]
 
 -- an item of the second of two lists has its pair
-pub paired_at : (vs : List Scoped) (ps : List FlatProcess) → Pairwise IsProcess vs ps → (i : ℕ) (p : FlatProcess) → slice_get ps i ≡ Some p →
-    (v : Scoped) × In v vs × IsProcess v p
+pub paired_at : (vs : List ScopedDefinition) (ps : List FlatProcess) → Pairwise IsProcess vs ps → (i : ℕ) (p : FlatProcess) → slice_get ps i ≡ Some p →
+    (v : ScopedDefinition) × In v vs × IsProcess v p
 paired_at [] [] no_pair i p e = cc
 paired_at (v ∷ vs) (q ∷ ps) (one_pair h hs) zero p e = let f : q ≡ p = cc in (v, inl refl, subst (IsProcess v) f h)
 paired_at (v ∷ vs) (q ∷ ps) (one_pair h hs) (suc i) p e = let r = paired_at vs ps hs i p e in (r.0, inr r.1, r.2)
@@ -166,7 +166,7 @@ paired_length (x ∷ xs) [] h = elim h [ ]
 -- every unguarded call of a flat system goes to one of its processes
 pub calls_within : (whole : DefinitionView) (s : System) → IsFlat whole s → (p q : ℕ) → Calls s.processes p q → q < length s.processes
 calls_within whole s flat p q h =
-    let at = paired_at (processes_of whole) s.processes flat.processes p h.process h.stands in
+    let at = paired_at (processes_of whole) s.processes flat.processes p h.process h.located in
     let m = called_meant at.0.scope (body_of at.0.definition) h.process.body q at.2.body h.calls in
     let b = meant_below whole at.0 (inr at.1) m.0 q m.1 m.2 in
     let l = paired_length (processes_of whole) s.processes flat.processes in

@@ -7,7 +7,7 @@ use Rattle.lotos_text.specs.declared.ast.Definition.{Definition, out-Definition}
 use Rattle.lotos_check.specs.NameLists.{texts}
 use Rattle.lotos_check.specs.CheckedView.{flat_of, process_of}
 use Rattle.lotos_check.specs.Acceptance.{IsProcessOfBody, AreProcessesOfBodies, no_processes, one_process, IsFlattened, flattens}
-use Rattle.lotos_check.specs.declared.resolution.ResolvedBody.{ResolvedBody}
+use Rattle.lotos_check.specs.declared.resolved_body.ResolvedBody.{ResolvedBody}
 use Rattle.lotos_check.specs.declared.resolved.Code.{Code}
 use Rattle.lotos_check.specs.declared.resolved.Process.{Process}
 use Rattle.lotos_check.proofs.DefinitionOrder.{shown}
@@ -35,7 +35,7 @@ module _ (definitions : List DefinitionView) (found : List ResolvedBody) where
   pub flattens_none : (start : Code) → length definitions ≡ length found → Flattens 0 found start []
   flattens_none start e = record { sized = omega arith; begin = λ _. (refl, refl); more = λ h. absurd (omega arith) }
 
--- the first gives the behaviour
+-- the first becomes the behaviour
 pub flattens_first : (definitions : List DefinitionView) (found : List ResolvedBody) (one : ResolvedBody) (rest : List ResolvedBody) (start : Code) (processes : List Process) →
     Flattens definitions found 0 (one ∷ rest) start processes → Flattens definitions found 1 rest one.code processes
 flattens_first [] found one rest start processes h = absurd (let e = h.sized in omega arith)
@@ -49,7 +49,7 @@ flattens_first (d ∷ ds) found one rest start processes h =
           (subst (λ t. IsFlattened (d ∷ ds) (one ∷ rest) one.code (t ++ others)) (sym b.0) (flattens refl m));
     }
 
--- each other one gives a process
+-- each other one becomes a process
 pub flattens_more : (definitions : List DefinitionView) (found : List ResolvedBody) (index : ℕ) (one : ResolvedBody) (rest : List ResolvedBody) (start : Code)
     (processes : List Process) (d : DefinitionView) (process : Process) → 0 < index → drop index definitions ≡ d ∷ drop (index + 1) definitions →
     IsProcessOfBody d one (process_of process) → Flattens definitions found index (one ∷ rest) start processes →

@@ -2,7 +2,7 @@
 use Rattle.std.proofs.Common.{◌⊎◌, List, [], ◌∷◌, ◌++◌, inl, inr}
 use Rattle.lotos_check.specs.NameLists.{In}
 
--- what holds of each member of a list, and of one that comes behind them, holds of each member of both together
+-- what holds of each member of a list, and of one that is put after them, holds of each member of both together
 pub each_added : {X : Type 0} (P : X → Type 0) (xs : List X) (y : X) → ((x : X) → In x xs → P x) → P y → (x : X) →
     In x (xs ++ y ∷ []) → P x
 each_added P [] y all last x (inl e) = rw (← e) last

@@ -1,9 +1,9 @@
 pub mod UnguardedCalls
 pub mod UnguardedSets
 pub mod CallLists
-pub mod NumbersOf
-pub mod Numbered
-pub mod InScopes
+pub mod RankLists
+pub mod RankedProcesses
+pub mod ListIndices
 pub mod UnrankedProcesses
 pub mod RankRounds
 pub mod SameFault
@@ -17,10 +17,10 @@ pub mod NameSets
 pub mod Bindings
 pub mod BindingUnique
 pub mod Operands
-pub mod Forms
+pub mod ResolvedForms
 pub mod OwnFaults
 pub mod DefinitionParts
-pub mod BodyWalks
+pub mod BodyResolutions
 pub mod Pairs
 pub mod DefinitionOrder
 pub mod Flattening
@@ -29,8 +29,9 @@ pub mod Rules
 pub mod FlatSystemUnique
 pub mod Faults
 pub mod FaultOffsets
-pub mod Joined
+pub mod PassResults
 pub mod CalledProcesses
 pub mod DuplicateNames
+pub mod UsedGates
 pub mod RankedCalls
 pub mod CheckedInvariants

@@ -16,13 +16,13 @@ use Rattle.std.proofs.lemmas.Slice.Eq.{bytes_eq-Decides}
 use Rattle.lotos_text.specs.declared.ast.Placed.{Placed}
 use Rattle.lotos_check.specs.NameLists.{Name, In, texts, Below, IsAscendingNames, none, one, more, IsSetOf}
 
--- a member of the list stands at a place
+-- a member of the list is at an index
 placed_in : {X : Type 0} (x : X) (xs : List X) → In x xs → Contains xs x
 placed_in x [] i = absurd i
 placed_in x (y ∷ ys) (inl e) = (zero, omega arith, e)
 placed_in x (y ∷ ys) (inr i) = let c = placed_in x ys i in (suc c.0, (let within = c.1 in omega arith), c.2)
 
--- what stands at a place is a member
+-- what is at an index is a member
 member_at : {X : Type 0} (x : X) (xs : List X) (k : ℕ) → k < length xs → get_or xs k x ≡ x → In x xs
 member_at x [] k within e = absurd (omega arith)
 member_at x (y ∷ ys) zero within e = inl e
@@ -43,7 +43,7 @@ below [] (b ∷ ys) e = tt
 below (a ∷ xs) [] e = cc
 below (a ∷ xs) (b ∷ ys) e = below_by a b xs ys (below xs ys) (nat_cmp a b) refl e
 
--- names each of which is less than those behind it ascend
+-- names each of which is less than those after it ascend
 ascending : (names : List Name) → IsStrictlySortedBy (slice_cmp nat_cmp) names → IsAscendingNames names
 unfolding IsStrictlySortedBy
 ascending [] sorted = none

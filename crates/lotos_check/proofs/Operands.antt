@@ -24,7 +24,7 @@ pub data Portion (inner known : List Name) (left right body : BehaviourView) : L
   of_left : {there : List Name} {part : BehaviourView} → IsSubexpression inner left there part → Portion inner known left right body there part
   of_right : {there : List Name} {part : BehaviourView} → IsSubexpression inner right there part → Portion inner known left right body there part
 
--- the parts of the behaviour are itself and the parts of its operands; one operand stands on both sides
+-- the parts of the behaviour are itself and the parts of its operands; one operand counts as both sides
 pub record HasOperands (inner known : List Name) (left right body : BehaviourView) : Type 0 where
   pub from_left : Lifts inner left known body
   pub from_right : Lifts inner right known body
@@ -37,14 +37,14 @@ module _ (scope : Scope) (inner known : List Name) (operand body : BehaviourView
   misnamed_lift (E21 gate) h = record {
     there = h.there;
     part = h.part;
-    stands = lift h.there h.part h.stands;
+    located = lift h.there h.part h.located;
     uses = h.uses;
     unknown = h.unknown;
   }
   misnamed_lift (E22 name) h = record {
     there = h.there;
     actuals = h.actuals;
-    stands = lift h.there (call name h.actuals) h.stands;
+    located = lift h.there (call name h.actuals) h.located;
     unseen = h.unseen;
   }
   misnamed_lift (E23 name formal actual) h = record {
@@ -52,7 +52,7 @@ module _ (scope : Scope) (inner known : List Name) (operand body : BehaviourView
     actuals = h.actuals;
     process = h.process;
     definition = h.definition;
-    stands = lift h.there (call name h.actuals) h.stands;
+    located = lift h.there (call name h.actuals) h.located;
     means = h.means;
     declared = h.declared;
     given = h.given;
@@ -64,13 +64,13 @@ module _ (scope : Scope) (inner known : List Name) (operand body : BehaviourView
   misnamed_lift (E27 name set) h = h
   misnamed_lift (E99 e) h = h
 
-  -- a `>>` in an operand stands in the behaviour
+  -- a `>>` in an operand is in the behaviour
   pub never_lift : (at : ℕ) → NeverExits scope inner operand at → NeverExits scope known body at
   never_lift at h = record {
     there = h.there;
     left = h.left;
     right = h.right;
-    stands = lift h.there (enable h.left at h.right) h.stands;
+    located = lift h.there (enable h.left at h.right) h.located;
     never_exits = h.never_exits;
   }
 
@@ -82,7 +82,7 @@ module _ (scope : Scope) (inner known : List Name) (left right body : BehaviourV
   gates_at head first second there part gate (of_left p) uses = first there part gate p uses
   gates_at head first second there part gate (of_right p) uses = second there part gate p uses
 
-  -- the gates are known that the behaviour itself uses, and those that its operands use
+  -- the gates that the behaviour itself uses are in scope, and so are those that its operands use
   pub gates_joined : ((gate : Placed) → UsesGate body gate → In gate.name known) → GatesDeclared inner left → GatesDeclared inner right →
       GatesDeclared known body
   gates_joined head first second there part gate stands uses =
@@ -170,7 +170,7 @@ of_prefix known action body = record {
   splits = splits_prefix known action body;
 }
 
--- the behaviour of a hide form is its one operand, in which its gates are known too
+-- the behaviour of a hide form is its one operand, in which its gates are in scope too
 pub of_hide : (known : List Name) (gates : List Placed) (body : BehaviourView) →
     HasOperands (texts gates ++ known) known body body (hide gates body)
 of_hide known gates body = record {

@@ -12,19 +12,19 @@ use Rattle.lotos_check.specs.Functionality as u
 use Rattle.lotos_check.specs.Flat as r
 use Rattle.lotos_check.specs.CheckedView.{flat_of}
 use Rattle.lotos_check.specs.Resolution.{GatesDeclared, CallsFit, LeftsExit, IsResolved, IsNameFault, IsUndeclaredGate, IsUndeclaredInSync, IsUndeclaredAction}
-use Rattle.lotos_check.specs.declared.resolution.ResolvedBody.{ResolvedBody}
+use Rattle.lotos_check.specs.declared.resolved_body.ResolvedBody.{ResolvedBody}
 use Rattle.lotos_check.specs.declared.fault.CheckFault.{CheckFault}
 use Rattle.lotos_check.specs.declared.fault.CheckFault.TheVariants.{E20, E21, E22, E23, E24, E25, E26, E27, E99}
 
 module _ (scope : Scope) (known : List Name) where
-  -- of a list of gates that the behaviour itself uses, one is not known
+  -- of a list of gates that the behaviour itself uses, one is not in scope
   pub misnamed_own : (body : BehaviourView) (list : List Placed) → ((gate : Placed) → In gate list → UsesGate body gate) →
       (fault : CheckFault) → IsUndeclaredGate known list fault → IsNameFault scope known body fault
   misnamed_own body list uses (E20 gate) h = h
   misnamed_own body list uses (E21 gate) h = record {
     there = known;
     part = body;
-    stands = whole;
+    located = whole;
     uses = uses gate h.0;
     unknown = h.1;
   }
@@ -40,13 +40,13 @@ module _ (scope : Scope) (known : List Name) where
   acts_on g gate body (inl e) = subst (λ x. UsesGate (prefix (Gate g) body) x) e acts
   acts_on g gate body (inr h) = absurd h
 
-  -- the gate of a prefix is not known
+  -- the gate of a prefix is not in scope
   pub misnamed_action : (action : Action) (body : BehaviourView) (fault : CheckFault) → IsUndeclaredAction known action fault →
       IsNameFault scope known (prefix action body) fault
   misnamed_action Internal body fault h = misnamed_own (prefix Internal body) [] (λ gate x. absurd x) fault h
   misnamed_action (Gate g) body fault h = misnamed_own (prefix (Gate g) body) (g ∷ []) (λ gate x. acts_on g gate body x) fault h
 
-  -- a gate of a parallel expression is not known
+  -- a gate of a parallel expression is not in scope
   pub misnamed_sync : (left right : BehaviourView) (sync : SyncView) (fault : CheckFault) → IsUndeclaredInSync known sync fault →
       IsNameFault scope known (par left sync right) fault
   misnamed_sync left right (gates list) fault h =
@@ -54,7 +54,7 @@ module _ (scope : Scope) (known : List Name) where
   misnamed_sync left right all fault h = misnamed_own (par left all right) [] (λ gate x. absurd x) fault h
 
   module _ (name : Placed) (actuals : List Placed) where
-    -- a gate of a call is not known
+    -- a gate of a call is not in scope
     pub misnamed_actual : (fault : CheckFault) → IsUndeclaredGate known actuals fault → IsNameFault scope known (call name actuals) fault
     misnamed_actual fault h = misnamed_own (call name actuals) actuals (λ gate x. passes x) fault h
 
@@ -66,7 +66,7 @@ module _ (scope : Scope) (known : List Name) where
         (record {
           there = known;
           actuals = actuals;
-          stands = whole;
+          located = whole;
           unseen = subst (λ s. (k : ℕ) (d : DefinitionView) → Binds scope s k d → ⊥) same unseen;
         })
 
@@ -82,7 +82,7 @@ module _ (scope : Scope) (known : List Name) where
           actuals = actuals;
           process = process;
           definition = definition;
-          stands = whole;
+          located = whole;
           means = subst (λ s. Binds scope s process definition) same means;
           declared = declared;
           given = given;
@@ -99,7 +99,7 @@ module _ (scope : Scope) (known : List Name) where
     lefts_call : LeftsExit scope known (call name actuals)
     lefts_call there left right at stands = elim stands [ ]
 
-    -- what is found of a call of a visible process with as many gates as its definition has, all of them known
+    -- the resolution of a call of a visible process with as many gates as its definition has, all of them in scope
     pub found_call : (text : Name) (process : ℕ) (definition : DefinitionView) (found : ResolvedBody) → text ≡ name.name →
         Binds scope text process definition → length (formals_of definition) ≡ length actuals →
         ((gate : Placed) → In gate actuals → In gate.name known) → flat_of found.code ≡ r.call process (texts actuals) →

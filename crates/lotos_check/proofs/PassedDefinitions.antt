@@ -16,7 +16,7 @@ use Rattle.lotos_check.specs.declared.fault.CheckFault.TheVariants.{E20, E24}
 use Rattle.lotos_check.proofs.VisibleNames.{Seen, seen_none, seen_more, seen_again, seen_all}
 use Rattle.lotos_check.proofs.Enclosed.{Among, repeat_inside, repeats_gate, repeats_process, distinct_whole}
 
--- a definition of the program is seen by its parts
+-- the view of a definition has its parts
 pub parts_seen : (x : Definition) → definition_view x ≡
     def (out-Definition x).name (out-Definition x).formals.items (out-Definition x).functionality
     (behaviour_view (out-Definition x).body) (definitions_view (out-Definition x).inner.items)
@@ -37,7 +37,7 @@ passed_none now keys all none = record {
   left = λ d a. a;
 }
 
--- x is passed next, with the name n; `added` says whether it was put behind the keys
+-- x is passed next, with the name n; `added` tells whether it was put after the keys
 module _ {K : Type 0} (now : K → Name) (old new : List K) (key : K) (all rest left : List Definition) (x : Definition) (n : Name)
     (passed : Passed now old all rest) (next : rest ≡ x ∷ left) (text : n ≡ (out-Definition x).name.name)
     (added : Bool) (says : added ≡ not (list_any (λ k. bytes_eq n (now k)) old)) where
@@ -50,7 +50,7 @@ module _ {K : Type 0} (now : K → Name) (old new : List K) (key : K) (all rest 
   among_next : Among (definition_view x) (definitions_view all)
   among_next = passed.left (definition_view x) (subst (λ ds. Among (definition_view x) (definitions_view ds)) (sym next) (inl refl))
 
-  -- a definition that repeats nothing, and whose name was put behind the keys, is passed
+  -- a definition without duplicates, whose name was put after the keys, is passed
   pub passed_more : added ≡ true → now key ≡ n → new ≡ (if list_any (λ k. bytes_eq n (now k)) old then old else old ++ key ∷ []) →
       IsDistinct (definition_view x) → Passed now new all left
   passed_more put is_text grows distinct = record {
@@ -71,7 +71,7 @@ module _ {K : Type 0} (now : K → Name) (old new : List K) (key : K) (all rest 
     inner_seen : definitions_view all ≡ inner_of (definition_view whole)
     inner_seen = ap definitions_view inner ∙ ap inner_of (sym (parts_seen whole))
 
-    -- where the name was not put behind the keys, it is declared for the second time
+    -- if the name was not put after the keys, it is declared for the second time
     pub passed_again : (p : Placed) → p ≡ (out-Definition x).name → added ≡ false → IsDuplicateFault (definition_view whole) (E24 p)
     passed_again p same stayed =
         let second = seen_again now old new key _ _ (declared_names (definitions_view left)) (name_of (definition_view x))
@@ -85,7 +85,7 @@ module _ {K : Type 0} (now : K → Name) (old new : List K) (key : K) (all rest 
     passed_inside fault h = repeat_inside (definition_view whole) (definition_view x)
         (subst (Among (definition_view x)) inner_seen among_next) fault h
 
--- a formal gate that stands twice is a fault of the whole
+-- a duplicate formal gate is a fault of the whole
 pub gate_again : (whole : Definition) (gate : Placed) (formals : List Placed) → formals ≡ (out-Definition whole).formals.items →
     IsDuplicate gate formals →
     IsDuplicateFault (definition_view whole) (E20 gate)

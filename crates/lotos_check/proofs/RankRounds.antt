@@ -38,7 +38,7 @@ waiting_set (Some s ∷ ranks) zero r e = cc
 waiting_set (None ∷ ranks) (suc p) r e = let later = waiting_set ranks p r e in omega arith
 waiting_set (Some s ∷ ranks) (suc p) r e = waiting_set ranks p r e
 
--- a process that calls only numbered ones gets the next number, and the order is kept
+-- a process that calls only ranked ones gets the next rank, and the ranks stay consistent
 module _ (edges : List (List ℕ)) (ranks : List (Option ℕ)) (next p : ℕ) (given : AreConsistentRanks edges ranks next)
     (waits : slice_get ranks p ≡ Some None)
     (calls : (q : ℕ) → ListsCall edges p q → (s : ℕ) × (slice_get ranks q ≡ Some (Some s))) where

@@ -12,7 +12,7 @@ pub call_falls : (whole : DefinitionView) (s : System) (ranks : List ℕ) → Is
     (p q : ℕ) → Calls s.processes p q → (r t : ℕ) × (slice_get ranks p ≡ Some r) × (slice_get ranks q ≡ Some t) × (t < r)
 call_falls whole s ranks flat ranked p q h =
     let all = ranked.all in
-    let from : p < length s.processes = slice_get_within s.processes p h.process h.stands in
+    let from : p < length s.processes = slice_get_within s.processes p h.process h.located in
     let to = calls_within whole s flat p q h in
     let a = slice_get-get_or ranks p 0 (omega arith) in
     let b = slice_get-get_or ranks q 0 (omega arith) in

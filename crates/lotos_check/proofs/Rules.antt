@@ -6,7 +6,7 @@ use Rattle.lotos_text.specs.declared.ast.Placed.{Placed}
 use Rattle.lotos_text.specs.declared.ast.Functionality.{Functionality}
 use Rattle.lotos_text.specs.declared.ast.Functionality.TheVariants.{Exit, NoExit}
 use Rattle.lotos_check.specs.NameLists.{Name, In, texts}
-use Rattle.lotos_check.specs.Scope.{Scope, Scoped, IsDistinctScope, IsDefinition, within, processes_of, all_definitions, definitions_in, row_in}
+use Rattle.lotos_check.specs.Scope.{Scope, ScopedDefinition, IsDistinctScope, IsDefinition, within, processes_of, all_definitions, definitions_in, definitions_in_list}
 use Rattle.lotos_check.specs.Functionality.{Func, of_stop, of_exit, of_prefix, of_hide, of_choice, of_disable, of_par, of_enable, of_call}
 use Rattle.lotos_check.specs.Flat.{Pairwise, no_pair, one_pair, IsProcess, IsFlat, Resolves}
 use Rattle.lotos_check.specs.CheckedView.{flat_of, process_of}
@@ -14,7 +14,7 @@ use Rattle.lotos_check.specs.StaticFaults.{IsDistinct, WellTyped, IsE21, IsE22, 
 use Rattle.lotos_check.specs.Resolution.{IsResolvedBody, AddsBodies, LeftsExit, NeverExits}
 use Rattle.lotos_check.specs.FunctionalityRules.{HasDeclaredFunctionality}
 use Rattle.lotos_check.specs.Acceptance.{AreProcessesOfBodies, no_processes, one_process, IsFlattened, flattens}
-use Rattle.lotos_check.specs.declared.resolution.ResolvedBody.{ResolvedBody}
+use Rattle.lotos_check.specs.declared.resolved_body.ResolvedBody.{ResolvedBody}
 use Rattle.lotos_check.specs.declared.resolved.Code.{Code}
 use Rattle.lotos_check.specs.declared.resolved.Process.{Process}
 use Rattle.lotos_check.proofs.BindingUnique.{one_meant}
@@ -36,7 +36,7 @@ one_functionality scope distinct t f g (of_enable x) (of_enable y) = one_functio
 one_functionality scope distinct t f g (of_call {p = p} {k = i} {d = d} x) (of_call {k = j} {d = e} y) =
     ap declared_of (one_meant scope distinct p.name i j d e x y).1
 
--- what stands in the first of two lists has its pair
+-- what is in the first of two lists has its pair
 pub paired : {X Y : Type 0} {P : X → Y → Type 0} {xs : List X} {ys : List Y} → Pairwise P xs ys → (x : X) → In x xs → (y : Y) × P x y
 paired no_pair x i = absurd i
 paired {P = P} (one_pair {y = y} p more) x (inl e) = (y, subst (λ t. P t y) e p)
@@ -50,7 +50,7 @@ paired_twice view [] (y ∷ ys) p q = elim p [ ]
 paired_twice view (x ∷ xs) [] p q = elim p [ ]
 paired_twice view (x ∷ xs) (y ∷ ys) (one_pair a p) (one_pair b q) = one_pair (a, b) (paired_twice view xs ys p q)
 
--- what the walk found, by the definitions where they stand
+-- the results of the walk, by the definitions with their scopes
 pub walked : (whole : DefinitionView) (found : List ResolvedBody) → AddsBodies (all_definitions whole) [] found → Pairwise IsResolvedBody (all_definitions whole) found
 walked whole found adds = subst (λ t. Pairwise IsResolvedBody (all_definitions whole) t) (sym adds.joined) adds.found
 
@@ -65,28 +65,28 @@ module _ (whole : DefinitionView) (found : List ResolvedBody) (distinct : IsDist
 
   no_unknown_gate : (p : Placed) → IsE21 whole p → ⊥
   no_unknown_gate p h =
-      let r = one_found h.scope h.occurs.definition h.occurs.stands in
-      h.unknown (r.1.0.gates h.known h.part p h.occurs.inside h.uses)
+      let r = one_found h.scope h.occurs.definition h.occurs.located in
+      h.unknown (r.1.0.gates h.in_scope h.part p h.occurs.inside h.uses)
 
   no_unseen_process : (p : Placed) → IsE22 whole p → ⊥
   no_unseen_process p h =
-      let r = one_found h.scope h.occurs.definition h.occurs.stands in
-      let c = r.1.0.calls h.known p h.actuals h.occurs.inside in
+      let r = one_found h.scope h.occurs.definition h.occurs.located in
+      let c = r.1.0.calls h.in_scope p h.actuals h.occurs.inside in
       h.unknown c.0 c.1 c.2
 
   no_unfit_call : (p : Placed) (formal actual : ℕ) → IsE23 whole p formal actual → ⊥
   no_unfit_call p formal actual h =
-      let r = one_found h.scope h.occurs.definition h.occurs.stands in
-      let c = r.1.0.calls h.known p h.actuals h.occurs.inside in
-      let scoped = visible_distinct whole distinct (record { scope = h.scope; definition = h.occurs.definition }) h.occurs.stands in
+      let r = one_found h.scope h.occurs.definition h.occurs.located in
+      let c = r.1.0.calls h.in_scope p h.actuals h.occurs.inside in
+      let scoped = visible_distinct whole distinct (record { scope = h.scope; definition = h.occurs.definition }) h.occurs.located in
       let same = one_meant h.scope scoped p.name h.process c.0 h.definition c.1 h.means c.2 in
       h.differ (h.declared ∙ ap (λ d. length (formals_of d)) same.1 ∙ c.3 ∙ sym h.given)
 
   no_other_functionality : (p : Placed) (f : Functionality) → IsE25 whole p f → ⊥
   no_other_functionality p f h =
-      let r = one_found h.scope h.definition h.stands in
-      let scoped = visible_distinct whole distinct (record { scope = h.scope; definition = h.definition }) h.stands in
-      h.differ (one_functionality h.scope scoped (body_of h.definition) h.other r.0.functionality h.has r.1.0.has ∙ r.1.1.same ∙ sym h.says)
+      let r = one_found h.scope h.definition h.located in
+      let scoped = visible_distinct whole distinct (record { scope = h.scope; definition = h.definition }) h.located in
+      h.differ (one_functionality h.scope scoped (body_of h.definition) h.other r.0.functionality h.has r.1.0.has ∙ r.1.1.same ∙ sym h.declares)
 
   all_exit : (scope : Scope) (known : List Name) (body : BehaviourView) (at : Option ℕ) → at ≡ None →
       MatchOption at (LeftsExit scope known body) (NeverExits scope known body) → LeftsExit scope known body
@@ -96,9 +96,9 @@ module _ (whole : DefinitionView) (found : List ResolvedBody) (distinct : IsDist
   no_stuck_enabling : (at : ℕ) → IsE26 whole at → ⊥
   no_stuck_enabling at h =
       let d = h.occurs.definition in
-      let r = one_found h.scope d h.occurs.stands in
-      let scoped = visible_distinct whole distinct (record { scope = h.scope; definition = d }) h.occurs.stands in
-      let exits = all_exit h.scope (texts (formals_of d)) (body_of d) r.0.never_exits r.1.1.exits r.1.0.lefts h.known h.left h.right at h.occurs.inside in
+      let r = one_found h.scope d h.occurs.located in
+      let scoped = visible_distinct whole distinct (record { scope = h.scope; definition = d }) h.occurs.located in
+      let exits = all_exit h.scope (texts (formals_of d)) (body_of d) r.0.never_exits r.1.1.exits r.1.0.lefts h.in_scope h.left h.right at h.occurs.inside in
       let e : Exit ≡ NoExit = one_functionality h.scope scoped h.left Exit NoExit exits h.never_exits in
       cc
 
@@ -113,7 +113,7 @@ module _ (whole : DefinitionView) (found : List ResolvedBody) (distinct : IsDist
     left_exits = no_stuck_enabling;
   }
 
-flat_processes : (vs : List Scoped) (found : List ResolvedBody) (processes : List Process) → Pairwise IsResolvedBody vs found →
+flat_processes : (vs : List ScopedDefinition) (found : List ResolvedBody) (processes : List Process) → Pairwise IsResolvedBody vs found →
     AreProcessesOfBodies (map (λ v. v.definition) vs) found processes → Pairwise IsProcess vs (map process_of processes)
 flat_processes [] [] [] no_pair no_processes = no_pair
 flat_processes (v ∷ vs) (r ∷ found) (p ∷ processes) (one_pair b bodies) (one_process m all) =
@@ -130,7 +130,7 @@ flat_processes (v ∷ vs) [] processes b a = elim b [ ]
 flat_processes [] [] (p ∷ processes) b a = elim a [ ]
 flat_processes (v ∷ vs) (r ∷ found) [] b a = elim a [ ]
 
-flat_all : (v : Scoped) (vs : List Scoped) (ds : List DefinitionView) (found : List ResolvedBody) (start : Code) (processes : List Process) →
+flat_all : (v : ScopedDefinition) (vs : List ScopedDefinition) (ds : List DefinitionView) (found : List ResolvedBody) (start : Code) (processes : List Process) →
     ds ≡ map (λ v. v.definition) vs → Pairwise IsResolvedBody (v ∷ vs) found → IsFlattened (v.definition ∷ ds) found start processes →
     Resolves v.scope (body_of v.definition) (flat_of start) × Pairwise IsProcess vs (map process_of processes)
 flat_all v vs ds (r ∷ found) start processes e (one_pair b bodies) (flattens s all) = (
@@ -141,9 +141,9 @@ flat_all v vs ds [] start processes e b m = elim b [ ]
 
 -- the code of all definitions is the flat system
 pub flat_system : (whole : DefinitionView) (found : List ResolvedBody) (formals : List Name) (start : Code) (processes : List Process) →
-    Pairwise IsResolvedBody (all_definitions whole) found → IsFlattened (whole ∷ row_in (inner_of whole)) found start processes → formals ≡ texts (formals_of whole) →
+    Pairwise IsResolvedBody (all_definitions whole) found → IsFlattened (whole ∷ definitions_in_list (inner_of whole)) found start processes → formals ≡ texts (formals_of whole) →
     IsFlat whole (record { formals = formals; start = flat_of start; processes = map process_of processes })
 flat_system whole found formals start processes bodies flattened named =
-    let both = flat_all (record { scope = within whole 0 []; definition = whole }) (processes_of whole) (row_in (inner_of whole)) found start processes
+    let both = flat_all (record { scope = within whole 0 []; definition = whole }) (processes_of whole) (definitions_in_list (inner_of whole)) found start processes
     (listed_row (within whole 0 []) 0 (inner_of whole)) bodies flattened in
     record { formals = named; start = both.0; processes = both.1 }

@@ -3,7 +3,7 @@ use Rattle.std.proofs.Common.{◌≡◌, ℕ, ◌+◌, ◌<◌, ◌≤◌, ◌�
 use Rattle.std.proofs.lemmas.List.{map-append, length-map}
 use Rattle.lotos_text.specs.AstView.{DefinitionView, def, DefinitionListView, no_defs, more_defs, inner_of}
 use Rattle.lotos_check.specs.NameLists.{Name, In}
-use Rattle.lotos_check.specs.Scope.{Scope, Where, Scoped, Declares, here, later, Binds, nearest, outward, count, within, definitions_in_scope, processes_of, all_definitions, definitions_in, row_in, IsDistinctScope}
+use Rattle.lotos_check.specs.Scope.{Scope, Where, ScopedDefinition, Declares, here, later, Binds, nearest, outward, count, within, definitions_in_scope, processes_of, all_definitions, definitions_in, definitions_in_list, IsDistinctScope}
 use Rattle.lotos_check.specs.StaticFaults.{IsDistinct}
 
 -- how many definitions are listed
@@ -17,14 +17,14 @@ listed_count scope k (more_defs (def name formals declared body inner) ds) =
     omega arith
 
 -- which definitions are listed does not depend on the scope
-pub listed_row : (scope : Scope) (k : ℕ) (ds : DefinitionListView) → row_in ds ≡ map (λ v. v.definition) (definitions_in_scope scope k ds)
+pub listed_row : (scope : Scope) (k : ℕ) (ds : DefinitionListView) → definitions_in_list ds ≡ map (λ v. v.definition) (definitions_in_scope scope k ds)
 listed_row scope k no_defs = refl
 listed_row scope k (more_defs (def name formals declared body inner) ds) =
     let own = record { defs = inner; first = k + 1 } ∷ scope in
     let i = listed_row own (k + 1) inner in
     let r = listed_row scope (k + 1 + count inner) ds in
     let j = map-append (λ v. v.definition) (definitions_in_scope own (k + 1) inner) (definitions_in_scope scope (k + 1 + count inner) ds) in
-    let both : row_in inner ++ row_in ds ≡ map (λ v. v.definition) (definitions_in_scope own (k + 1) inner ++ definitions_in_scope scope (k + 1 + count inner) ds) =
+    let both : definitions_in_list inner ++ definitions_in_list ds ≡ map (λ v. v.definition) (definitions_in_scope own (k + 1) inner ++ definitions_in_scope scope (k + 1 + count inner) ds) =
     rw (i, r) (sym j) in
     ap (λ t. def name formals declared body inner ∷ t) both
 
@@ -41,7 +41,7 @@ definitions_count (def name formals declared body inner) =
     let m = length-map (definitions_in_scope [] 0 inner) (λ v. v.definition) in
     omega arith
 
--- what stands in two lists joined stands in one of them
+-- what is in two lists joined is in one of them
 pub in_joined : {X : Type 0} (x : X) (xs ys : List X) → In x (xs ++ ys) → In x xs ⊎ In x ys
 in_joined x [] ys i = inr i
 in_joined x (y ∷ xs) ys (inl e) = inl (inl e)
@@ -58,8 +58,8 @@ in_right x (y ∷ xs) ys i = inr (in_right x xs ys i)
 
 -- the `where` is that of a definition of the specification, and its processes are among those of the specification
 pub record IsWhereOf (whole : DefinitionView) (w : Where) : Type 0 where
-  pub scoped : Scoped
-  pub stands : In scoped (all_definitions whole)
+  pub scoped : ScopedDefinition
+  pub located : In scoped (all_definitions whole)
   pub same : w.defs ≡ inner_of scoped.definition
   pub fits : w.first + count w.defs ≤ count (inner_of whole)
 
@@ -70,17 +70,17 @@ more_wheres : (whole : DefinitionView) (w : Where) (scope : Scope) → IsWhereOf
 more_wheres whole w scope h all x (inl e) = subst (IsWhereOf whole) e h
 more_wheres whole w scope h all x (inr i) = all x i
 
-listed_wheres : (whole : DefinitionView) (scope : Scope) (k : ℕ) (ds : DefinitionListView) → ((v : Scoped) → In v (definitions_in_scope scope k ds) → In v (all_definitions whole)) →
-    k + count ds ≤ count (inner_of whole) → AllWheres whole scope → (v : Scoped) → In v (definitions_in_scope scope k ds) → AllWheres whole v.scope
+listed_wheres : (whole : DefinitionView) (scope : Scope) (k : ℕ) (ds : DefinitionListView) → ((v : ScopedDefinition) → In v (definitions_in_scope scope k ds) → In v (all_definitions whole)) →
+    k + count ds ≤ count (inner_of whole) → AllWheres whole scope → (v : ScopedDefinition) → In v (definitions_in_scope scope k ds) → AllWheres whole v.scope
 listed_wheres whole scope k no_defs sub fits all v i = absurd i
 listed_wheres whole scope k (more_defs (def name formals declared body inner) ds) sub fits all v i =
     let own = record { defs = inner; first = k + 1 } ∷ scope in
-    let this : Scoped = record { scope = own; definition = def name formals declared body inner } in
+    let this : ScopedDefinition = record { scope = own; definition = def name formals declared body inner } in
     let deep = definitions_in_scope own (k + 1) inner in
     let rest = definitions_in_scope scope (k + 1 + count inner) ds in
     let here_fits : (k + 1) + count inner ≤ count (inner_of whole) = omega arith in
     let here : IsWhereOf whole (record { defs = inner; first = k + 1 }) =
-    record { scoped = this; stands = sub this (inl refl); same = refl; fits = here_fits } in
+    record { scoped = this; located = sub this (inl refl); same = refl; fits = here_fits } in
     let within_own = more_wheres whole (record { defs = inner; first = k + 1 }) scope here all in
     elim i [
       | inl e ↦ subst (λ t. AllWheres whole t.scope) e within_own
@@ -91,11 +91,11 @@ listed_wheres whole scope k (more_defs (def name formals declared body inner) ds
     ]
 
 -- each `where` that is visible in a definition of the specification is that of one
-pub visible_wheres : (whole : DefinitionView) (v : Scoped) → In v (all_definitions whole) → (w : Where) → In w v.scope → IsWhereOf whole w
+pub visible_wheres : (whole : DefinitionView) (v : ScopedDefinition) → In v (all_definitions whole) → (w : Where) → In w v.scope → IsWhereOf whole w
 visible_wheres whole v i =
     let own : Where = record { defs = inner_of whole; first = 0 } in
-    let top : Scoped = record { scope = own ∷ []; definition = whole } in
-    let here : IsWhereOf whole own = record { scoped = top; stands = inl refl; same = refl; fits = omega arith } in
+    let top : ScopedDefinition = record { scope = own ∷ []; definition = whole } in
+    let here : IsWhereOf whole own = record { scoped = top; located = inl refl; same = refl; fits = omega arith } in
     let all = more_wheres whole own [] here (λ w x. absurd x) in
     elim i [
       | inl e ↦ subst (λ t. AllWheres whole t.scope) e all
@@ -103,11 +103,11 @@ visible_wheres whole v i =
     ]
 
 -- where names are distinct, no visible `where` declares one twice
-pub visible_distinct : (whole : DefinitionView) → IsDistinct whole → (v : Scoped) → In v (all_definitions whole) → IsDistinctScope v.scope
+pub visible_distinct : (whole : DefinitionView) → IsDistinct whole → (v : ScopedDefinition) → In v (all_definitions whole) → IsDistinctScope v.scope
 visible_distinct whole distinct v i w j p s =
     let h = visible_wheres whole v i w j in
     let e = h.same in
-    distinct.processes p (record { scope = h.scoped.scope; definition = h.scoped.definition; stands = h.stands; second = rw e at s })
+    distinct.processes p (record { scope = h.scoped.scope; definition = h.scoped.definition; located = h.located; second = rw e at s })
 
 declares_below : (ds : DefinitionListView) (k : ℕ) (n : Name) (q : ℕ) (d : DefinitionView) → Declares ds k n q d → q < k + count ds
 declares_below (more_defs (def name formals declared body inner) ds) k n q d here = omega arith
@@ -122,7 +122,7 @@ means_below whole (w ∷ ws) all n q d (outward none x) = means_below whole ws (
 means_below whole [] all n q d x = elim x [ ]
 
 -- the number that a name means anywhere in the specification is that of one of its processes
-pub meant_below : (whole : DefinitionView) (v : Scoped) → In v (all_definitions whole) → (n : Name) (q : ℕ) (d : DefinitionView) → Binds v.scope n q d → q < length (processes_of whole)
+pub meant_below : (whole : DefinitionView) (v : ScopedDefinition) → In v (all_definitions whole) → (n : Name) (q : ℕ) (d : DefinitionView) → Binds v.scope n q d → q < length (processes_of whole)
 meant_below whole v i n q d m =
     let r = means_below whole v.scope (visible_wheres whole v i) n q d m in
     let c = listed_count (within whole 0 []) 0 (inner_of whole) in

@@ -97,20 +97,20 @@ end_later : {x k q : ℕ} (xs : List ℕ) → In q xs ⊎ (k ≡ q) → In q (x 
 end_later xs (inl i) = inl (inr i)
 end_later xs (inr e) = inr e
 
--- what stands in a list with one more at its end stood in it, or is that one
+-- what is in a list with one more at its end was in it, or is that one
 pub in_end : (xs : List ℕ) (k q : ℕ) → In q (xs ++ k ∷ []) → In q xs ⊎ (k ≡ q)
 in_end [] k q (inl e) = inr e
 in_end [] k q (inr i) = elim i [ ]
 in_end (x ∷ xs) k q (inl e) = inl (inl e)
 in_end (x ∷ xs) k q (inr i) = end_later xs (in_end xs k q i)
 
--- what stands in a list stands in it with one more at its end
+-- what is in a list is in it with one more at its end
 pub in_before_end : (xs : List ℕ) (k q : ℕ) → In q xs → In q (xs ++ k ∷ [])
 in_before_end [] k q i = elim i [ ]
 in_before_end (x ∷ xs) k q (inl e) = inl e
 in_before_end (x ∷ xs) k q (inr i) = inr (in_before_end xs k q i)
 
--- the one at the end stands in the list
+-- the one at the end is in the list
 pub in_at_end : (xs : List ℕ) (k : ℕ) → In k (xs ++ k ∷ [])
 in_at_end [] k = inl refl
 in_at_end (x ∷ xs) k = inr (in_at_end xs k)

@@ -7,7 +7,7 @@ use Rattle.lotos_check.specs.NameLists.{In}
 use Rattle.lotos_check.specs.Guard.{IsAscending, none, one, more}
 use Rattle.lotos_check.specs.RankingSteps.{AreUnranked}
 
--- the places of the list that have no number, where its first place is n
+-- the indices at which the list has no rank, if its first index is n
 abbrev pub places : ℕ → List (Option ℕ) → List ℕ
 places n [] = []
 places n (None ∷ ranks) = n ∷ places (n + 1) ranks

@@ -31,9 +31,9 @@ last_or_before (x ∷ xs) p (b ∷ bs) q after e =
 -- distinct names and one more that is none of them are distinct
 distinct_more : (ps : List Placed) (p : Placed) → AreDistinct ps → (In p.name (texts ps) → ⊥) → AreDistinct (ps ++ p ∷ [])
 distinct_more ps p distinct new q s =
-    elim (last_or_before ps p s.before q s.after s.stands) [
+    elim (last_or_before ps p s.before q s.after s.located) [
       | inl e ↦ new (let a = s.again in let e0 = e.0 in let e1 = e.1 in rw e1 at (rw e0 at a))
-      | inr e ↦ distinct q (record { before = s.before; after = e.0; stands = e.1; again = s.again })
+      | inr e ↦ distinct q (record { before = s.before; after = e.0; located = e.1; again = s.again })
     ]
 
 not_second : (p : Placed) (before after : List Placed) → [] ≡ before ++ p ∷ after → ⊥
@@ -42,16 +42,16 @@ not_second p (b ∷ bs) after e = cc
 
 -- at the start nothing was passed
 pub seen_none : (all : List Placed) → Seen [] all all
-seen_none all = record { before = []; joined = refl; keys_are = refl; distinct = λ p s. not_second p s.before s.after s.stands }
+seen_none all = record { before = []; joined = refl; keys_are = refl; distinct = λ p s. not_second p s.before s.after s.located }
 
--- p is passed next: its text n is looked for among the keys, and `added` says whether it was put behind them
+-- p is passed next: its text n is looked for among the keys, and `added` tells whether it was put after them
 module _ {K : Type 0} (now : K → Name) (old new : List K) (key : K) (all rest left : List Placed) (p : Placed) (n : Name)
     (seen : Seen (map now old) all rest) (next : rest ≡ p ∷ left) (text : n ≡ p.name)
     (added : Bool) (says : added ≡ not (list_any (λ k. bytes_eq n (now k)) old)) where
   here : all ≡ seen.before ++ p ∷ left
   here = seen.joined ∙ ap (λ t. seen.before ++ t) next
 
-  -- where its text was put behind them, p is passed
+  -- if its text was put after them, p is passed
   pub seen_more : added ≡ true → now key ≡ n → new ≡ (if list_any (λ k. bytes_eq n (now k)) old then old else old ++ key ∷ []) →
       Seen (map now new) all left
   seen_more put is_text grows =
@@ -67,14 +67,14 @@ module _ {K : Type 0} (now : K → Name) (old new : List K) (key : K) (all rest 
             (λ i. apart (subst (λ m. In m (map now old)) (sym text) (subst (λ ks. In p.name ks) (sym seen.keys_are) i)));
       }
 
-  -- where it was not, p stands in the list for the second time
+  -- if it was not, p is in the list for the second time
   pub seen_again : added ≡ false → IsDuplicate p all
   seen_again stayed =
       let found = in_if_any now n old (true_of_not _ _ says stayed) in
       record {
         before = seen.before;
         after = left;
-        stands = here;
+        located = here;
         again = subst (λ ks. In p.name ks) seen.keys_are
             (subst (λ m. In m (map now old)) text found);
       }
@@ -84,6 +84,6 @@ pub seen_all : (keys : List Name) (all left : List Placed) → Seen keys all lef
 seen_all keys all left seen none =
     subst AreDistinct (sym (seen.joined ∙ ap (λ t. seen.before ++ t) none ∙ append-nil seen.before)) seen.distinct
 
--- from a place on stand the item of the place and those from the next place on
+-- the items from an index on are the one at the index and those from the next index on
 pub from_place : {X : Type 0} (xs : List X) (i : ℕ) (d x : X) → i < length xs → x ≡ get_or xs i d → drop i xs ≡ x ∷ drop (i + 1) xs
 from_place xs i d x h e = rw (drop-cons xs i d h, add-one) (ap (λ y. y ∷ drop (suc i) xs) (sym e))

@@ -3,7 +3,7 @@ use Rattle.std.specs.Prelude.{◌≡◌, ℕ, ◌<◌, List, [], ◌∷◌, leng
 use Rattle.lotos_text.specs.AstView.{DefinitionView, name_of, formals_of, declared_of}
 use Rattle.lotos_check.specs.NameLists.{texts}
 use Rattle.lotos_check.specs.FlatOf.{flat_of, process_of}
-use Rattle.lotos_check.specs.declared.resolution.ResolvedBody.{ResolvedBody}
+use Rattle.lotos_check.specs.declared.resolved_body.ResolvedBody.{ResolvedBody}
 use Rattle.lotos_check.specs.declared.resolved.Code.{Code}
 use Rattle.lotos_check.specs.declared.resolved.Process.{Process}
 use Rattle.lotos_check.specs.StaticFaults.{WellTyped, IsE20, IsE21, IsE22, IsE23, IsE24, IsE25, IsE26}

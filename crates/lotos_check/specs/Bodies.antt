@@ -4,7 +4,7 @@ use Rattle.lotos_text.specs.AstView as t
 use Rattle.lotos_text.specs.AstView.{DefinitionView, name_of, formals_of, body_of}
 use Rattle.lotos_text.specs.declared.ast.Placed.{Placed}
 use Rattle.lotos_check.specs.NameLists.{Name, In, texts}
-use Rattle.lotos_check.specs.Scope.{Scoped, Binds}
+use Rattle.lotos_check.specs.Scope.{ScopedDefinition, Binds}
 use Rattle.lotos_check.specs.Subexpressions.{IsSubexpression}
 use Rattle.lotos_check.specs.Flat.{Flat, prefix, choice, par, hide, enable, disable, call, FlatProcess, System}
 
@@ -33,7 +33,7 @@ AreDistinctNames names = (before after : List Name) (n : Name) → names ≡ bef
 
 -- the body of the definition contains a call by name with these gates, and the name is bound to the process with this
 -- number
-pub record IsNamed (scoped : Scoped) (k : ℕ) (gates : List Name) : Type 0 where
+pub record IsNamed (scoped : ScopedDefinition) (k : ℕ) (gates : List Name) : Type 0 where
   -- the gates that may be used at the call
   pub there : List Name
   -- the name that is called, with its offset
@@ -48,12 +48,12 @@ pub record IsNamed (scoped : Scoped) (k : ℕ) (gates : List Name) : Type 0 wher
 -- the process with this number has the name and the formal gates of the definition
 pub record IsProcessOf (system : System) (k : ℕ) (definition : DefinitionView) : Type 0 where
   pub process : FlatProcess
-  pub stands : slice_get system.processes k ≡ Some process
+  pub located : slice_get system.processes k ≡ Some process
   pub name : process.name ≡ (name_of definition).name
   pub formals : process.formals ≡ texts (formals_of definition)
 
 -- the call by number comes from one by name, and goes to the definition that the name is bound to
-pub record GoesToNamed (system : System) (scoped : Scoped) (k : ℕ) (gates : List Name) : Type 0 where
+pub record GoesToNamed (system : System) (scoped : ScopedDefinition) (k : ℕ) (gates : List Name) : Type 0 where
   -- the call by name
   pub named : IsNamed scoped k gates
   -- the process that it goes to

@@ -7,7 +7,7 @@ use Rattle.lotos_text.specs.declared.ast.Functionality.{Functionality}
 use Rattle.lotos_text.specs.declared.ast.Action.{Action}
 use Rattle.lotos_text.specs.declared.ast.Action.TheVariants.{Internal, Gate}
 use Rattle.lotos_check.specs.NameLists.{Name, texts, IsSetOf}
-use Rattle.lotos_check.specs.Scope.{Scope, Binds, Scoped, within, processes_of}
+use Rattle.lotos_check.specs.Scope.{Scope, Binds, ScopedDefinition, within, processes_of}
 
 -- a behaviour with calls by number; `None` in a prefix is the internal action, in a parallel expression it means all
 -- gates
@@ -59,7 +59,7 @@ pub data Resolves (scope : Scope) : BehaviourView → Flat → Type 0 where
       Resolves scope (t.call p gs) (call k (texts gs))
 
 -- the process is the definition with calls by number
-pub record IsProcess (v : Scoped) (process : FlatProcess) : Type 0 where
+pub record IsProcess (v : ScopedDefinition) (process : FlatProcess) : Type 0 where
   pub name : process.name ≡ (name_of v.definition).name
   pub formals : process.formals ≡ texts (formals_of v.definition)
   pub functionality : process.functionality ≡ declared_of v.definition

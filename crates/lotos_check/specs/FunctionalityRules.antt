@@ -1,7 +1,7 @@
 -- What the comparison of resolved bodies with their definitions returns.
 use Rattle.std.specs.Prelude.{◌≡◌, ◌≢◌, ℕ, List, Some, None, slice_get}
 use Rattle.lotos_text.specs.AstView.{DefinitionView, name_of, declared_of}
-use Rattle.lotos_check.specs.declared.resolution.ResolvedBody.{ResolvedBody}
+use Rattle.lotos_check.specs.declared.resolved_body.ResolvedBody.{ResolvedBody}
 use Rattle.lotos_check.specs.declared.fault.CheckFault.{CheckFault}
 use Rattle.lotos_check.specs.declared.fault.CheckFault.TheVariants.{E20, E21, E22, E23, E24, E25, E26, E27, E99}
 
@@ -29,5 +29,5 @@ pub record IsFunctionalityFaultIn (definitions : List DefinitionView) (found : L
   pub definition : DefinitionView
   pub body : ResolvedBody
   pub defined : slice_get definitions index ≡ Some definition
-  pub stands : slice_get found index ≡ Some body
+  pub located : slice_get found index ≡ Some body
   pub untyped : IsFunctionalityFault definition body fault

@@ -3,7 +3,7 @@ use Rattle.std.specs.Prelude.{◌≡◌, ℕ, ◌<◌, List, [], ◌∷◌, Opti
 use Rattle.lotos_text.specs.AstView.{DefinitionView, name_of}
 use Rattle.lotos_text.specs.declared.ast.Placed.{Placed}
 use Rattle.lotos_check.specs.NameLists.{Name, In}
-use Rattle.lotos_check.specs.Scope.{Scoped, processes_of}
+use Rattle.lotos_check.specs.Scope.{ScopedDefinition, processes_of}
 use Rattle.lotos_check.specs.Flat.{Flat, choice, par, hide, enable, disable, call, FlatProcess, System, IsFlat}
 
 -- the behaviour calls the process under no prefix and not in the right operand of `>>`
@@ -21,7 +21,7 @@ pub data CallsUnguarded : Flat → ℕ → Type 0 where
 -- the body of process `p` has an unguarded call of process `q`
 pub record Calls (processes : List FlatProcess) (p q : ℕ) : Type 0 where
   pub process : FlatProcess
-  pub stands : slice_get processes p ≡ Some process
+  pub located : slice_get processes p ≡ Some process
   pub calls : CallsUnguarded process.body q
 
 -- a rank for each process that decreases at every unguarded call
@@ -57,6 +57,6 @@ pub record IsE27 (whole : DefinitionView) (name : Placed) (set : List ℕ) : Typ
   pub first : ℕ
   pub others : List ℕ
   pub begins : set ≡ first ∷ others
-  pub scoped : Scoped
-  pub stands : slice_get (processes_of whole) first ≡ Some scoped
+  pub scoped : ScopedDefinition
+  pub located : slice_get (processes_of whole) first ≡ Some scoped
   pub named : name ≡ name_of scoped.definition

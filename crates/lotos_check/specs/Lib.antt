@@ -6,6 +6,7 @@ pub mod StaticFaults
 pub mod Flat
 pub mod Guard
 pub mod Bodies
+pub mod UsedGates
 pub mod FlatOf
 pub mod Acceptance
 pub mod CheckedInvariant

@@ -19,7 +19,7 @@ texts = map (λ p. p.name)
 pub record IsDuplicate (placed : Placed) (names : List Placed) : Type 0 where
   pub before : List Placed
   pub after : List Placed
-  pub stands : names ≡ before ++ placed ∷ after
+  pub located : names ≡ before ++ placed ∷ after
   pub again : In placed.name (texts before)
 
 -- no name of the list occurs twice

@@ -41,34 +41,34 @@ abbrev pub within : DefinitionView → ℕ → Scope → Scope
 within d first scope = record { defs = inner_of d; first = first } ∷ scope
 
 -- a definition with the scope inside it, whose nearest `where` is its own
-pub record Scoped : Type 0 where
+pub record ScopedDefinition : Type 0 where
   pub scope : Scope
   pub definition : DefinitionView
 
 -- the definitions of a `where`, numbered from `first` on, each followed at once by its inner ones, in an enclosing
 -- scope
-abbrev pub definitions_in_scope : Scope → ℕ → DefinitionListView → List Scoped
+abbrev pub definitions_in_scope : Scope → ℕ → DefinitionListView → List ScopedDefinition
 definitions_in_scope scope first no_defs = []
 definitions_in_scope scope first (more_defs (def name formals declared body inner) ds) =
     record { scope = record { defs = inner; first = first + 1 } ∷ scope; definition = def name formals declared body inner }
     ∷ definitions_in_scope (record { defs = inner; first = first + 1 } ∷ scope) (first + 1) inner ++ definitions_in_scope scope (first + 1 + count inner) ds
 
 -- a definition and then its inner ones, which are numbered from `first` on
-abbrev pub definition_in_scope : Scope → ℕ → DefinitionView → List Scoped
+abbrev pub definition_in_scope : Scope → ℕ → DefinitionView → List ScopedDefinition
 definition_in_scope scope first d =
     record { scope = within d first scope; definition = d } ∷ definitions_in_scope (within d first scope) first (inner_of d)
 
 -- the processes of a specification, by number
-abbrev pub processes_of : DefinitionView → List Scoped
+abbrev pub processes_of : DefinitionView → List ScopedDefinition
 processes_of whole = definitions_in_scope (within whole 0 []) 0 (inner_of whole)
 
 -- the specification and then its processes
-abbrev pub all_definitions : DefinitionView → List Scoped
+abbrev pub all_definitions : DefinitionView → List ScopedDefinition
 all_definitions whole = definition_in_scope [] 0 whole
 
 -- the definition is one of the specification, and has this scope
 abbrev pub IsDefinition : DefinitionView → Scope → DefinitionView → Type 0
-IsDefinition whole scope d = In {X = Scoped} (record { scope = scope; definition = d }) (all_definitions whole)
+IsDefinition whole scope d = In {X = ScopedDefinition} (record { scope = scope; definition = d }) (all_definitions whole)
 
 -- no `where` of the scope declares a name twice
 abbrev pub IsDistinctScope : Scope → Type 0
@@ -77,8 +77,8 @@ IsDistinctScope scope = (w : Where) → In w scope → AreDistinct (declared_nam
 -- a definition and all definitions inside it, each followed at once by its inner ones; and the same of a list
 abbrev mutual
   pub definitions_in : DefinitionView → List DefinitionView
-  definitions_in (def name formals declared body inner) = def name formals declared body inner ∷ row_in inner
+  definitions_in (def name formals declared body inner) = def name formals declared body inner ∷ definitions_in_list inner
 
-  pub row_in : DefinitionListView → List DefinitionView
-  row_in no_defs = []
-  row_in (more_defs d ds) = definitions_in d ++ row_in ds
+  pub definitions_in_list : DefinitionListView → List DefinitionView
+  definitions_in_list no_defs = []
+  definitions_in_list (more_defs d ds) = definitions_in d ++ definitions_in_list ds

@@ -10,43 +10,43 @@ use Rattle.lotos_check.specs.Subexpressions.{IsSubexpression, UsesGate}
 use Rattle.lotos_check.specs.Functionality.{Func}
 
 -- the body of a definition has this part, where these processes are visible and these gates are in scope
-pub record Occurs (whole : DefinitionView) (scope : Scope) (known : List Name) (part : BehaviourView) : Type 0 where
+pub record Occurs (whole : DefinitionView) (scope : Scope) (in_scope : List Name) (part : BehaviourView) : Type 0 where
   pub definition : DefinitionView
-  pub stands : IsDefinition whole scope definition
-  pub inside : IsSubexpression (texts (formals_of definition)) (body_of definition) known part
+  pub located : IsDefinition whole scope definition
+  pub inside : IsSubexpression (texts (formals_of definition)) (body_of definition) in_scope part
 
 -- one list declares a formal gate twice
 pub record IsE20 (whole : DefinitionView) (gate : Placed) : Type 0 where
   pub scope : Scope
   pub definition : DefinitionView
-  pub stands : IsDefinition whole scope definition
+  pub located : IsDefinition whole scope definition
   pub second : IsDuplicate gate (formals_of definition)
 
 -- a gate is used where it is not in scope
 pub record IsE21 (whole : DefinitionView) (gate : Placed) : Type 0 where
   pub scope : Scope
-  pub known : List Name
+  pub in_scope : List Name
   pub part : BehaviourView
-  pub occurs : Occurs whole scope known part
+  pub occurs : Occurs whole scope in_scope part
   pub uses : UsesGate part gate
-  pub unknown : In gate.name known → ⊥
+  pub unknown : In gate.name in_scope → ⊥
 
 -- no process with this name is visible
 pub record IsE22 (whole : DefinitionView) (name : Placed) : Type 0 where
   pub scope : Scope
-  pub known : List Name
+  pub in_scope : List Name
   pub actuals : List Placed
-  pub occurs : Occurs whole scope known (call name actuals)
+  pub occurs : Occurs whole scope in_scope (call name actuals)
   pub unknown : (k : ℕ) (d : DefinitionView) → Binds scope name.name k d → ⊥
 
 -- a call has another number of gates than the definition
 pub record IsE23 (whole : DefinitionView) (name : Placed) (formal actual : ℕ) : Type 0 where
   pub scope : Scope
-  pub known : List Name
+  pub in_scope : List Name
   pub actuals : List Placed
   pub process : ℕ
   pub definition : DefinitionView
-  pub occurs : Occurs whole scope known (call name actuals)
+  pub occurs : Occurs whole scope in_scope (call name actuals)
   pub means : Binds scope name.name process definition
   pub declared : formal ≡ length (formals_of definition)
   pub given : actual ≡ length actuals
@@ -56,7 +56,7 @@ pub record IsE23 (whole : DefinitionView) (name : Placed) (formal actual : ℕ) 
 pub record IsE24 (whole : DefinitionView) (name : Placed) : Type 0 where
   pub scope : Scope
   pub definition : DefinitionView
-  pub stands : IsDefinition whole scope definition
+  pub located : IsDefinition whole scope definition
   pub second : IsDuplicate name (declared_names (inner_of definition))
 
 -- the declared functionality differs from the body's
@@ -64,19 +64,19 @@ pub record IsE25 (whole : DefinitionView) (name : Placed) (declared : Functional
   pub scope : Scope
   pub definition : DefinitionView
   pub other : Functionality
-  pub stands : IsDefinition whole scope definition
+  pub located : IsDefinition whole scope definition
   pub named : name ≡ name_of definition
-  pub says : declared ≡ declared_of definition
+  pub declares : declared ≡ declared_of definition
   pub has : Func scope (body_of definition) other
   pub differ : other ≢ declared
 
 -- the left operand of a `>>` has noexit
 pub record IsE26 (whole : DefinitionView) (at : ℕ) : Type 0 where
   pub scope : Scope
-  pub known : List Name
+  pub in_scope : List Name
   pub left : BehaviourView
   pub right : BehaviourView
-  pub occurs : Occurs whole scope known (enable left at right)
+  pub occurs : Occurs whole scope in_scope (enable left at right)
   pub never_exits : Func scope left NoExit
 
 -- no list declares a formal gate twice, no `where` a process

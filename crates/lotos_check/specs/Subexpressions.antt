@@ -9,18 +9,18 @@ use Rattle.lotos_check.specs.NameLists.{Name, In, texts}
 -- with the first gates in scope around the whole, the second are in scope at the part: the first, and those hidden
 -- around it
 pub data IsSubexpression : List Name → BehaviourView → List Name → BehaviourView → Type 0 where
-  whole : {known : List Name} {t : BehaviourView} → IsSubexpression known t known t
-  in_prefix : {known there : List Name} {a : Action} {b t : BehaviourView} → IsSubexpression known b there t → IsSubexpression known (prefix a b) there t
-  in_choice_left : {known there : List Name} {l r t : BehaviourView} → IsSubexpression known l there t → IsSubexpression known (choice l r) there t
-  in_choice_right : {known there : List Name} {l r t : BehaviourView} → IsSubexpression known r there t → IsSubexpression known (choice l r) there t
-  in_par_left : {known there : List Name} {l r t : BehaviourView} {s : SyncView} → IsSubexpression known l there t → IsSubexpression known (par l s r) there t
-  in_par_right : {known there : List Name} {l r t : BehaviourView} {s : SyncView} → IsSubexpression known r there t → IsSubexpression known (par l s r) there t
-  in_hide : {known there : List Name} {gs : List Placed} {b t : BehaviourView} →
-      IsSubexpression (texts gs ++ known) b there t → IsSubexpression known (hide gs b) there t
-  in_enable_left : {known there : List Name} {l r t : BehaviourView} {at : ℕ} → IsSubexpression known l there t → IsSubexpression known (enable l at r) there t
-  in_enable_right : {known there : List Name} {l r t : BehaviourView} {at : ℕ} → IsSubexpression known r there t → IsSubexpression known (enable l at r) there t
-  in_disable_left : {known there : List Name} {l r t : BehaviourView} → IsSubexpression known l there t → IsSubexpression known (disable l r) there t
-  in_disable_right : {known there : List Name} {l r t : BehaviourView} → IsSubexpression known r there t → IsSubexpression known (disable l r) there t
+  whole : {in_scope : List Name} {t : BehaviourView} → IsSubexpression in_scope t in_scope t
+  in_prefix : {in_scope there : List Name} {a : Action} {b t : BehaviourView} → IsSubexpression in_scope b there t → IsSubexpression in_scope (prefix a b) there t
+  in_choice_left : {in_scope there : List Name} {l r t : BehaviourView} → IsSubexpression in_scope l there t → IsSubexpression in_scope (choice l r) there t
+  in_choice_right : {in_scope there : List Name} {l r t : BehaviourView} → IsSubexpression in_scope r there t → IsSubexpression in_scope (choice l r) there t
+  in_par_left : {in_scope there : List Name} {l r t : BehaviourView} {s : SyncView} → IsSubexpression in_scope l there t → IsSubexpression in_scope (par l s r) there t
+  in_par_right : {in_scope there : List Name} {l r t : BehaviourView} {s : SyncView} → IsSubexpression in_scope r there t → IsSubexpression in_scope (par l s r) there t
+  in_hide : {in_scope there : List Name} {gs : List Placed} {b t : BehaviourView} →
+      IsSubexpression (texts gs ++ in_scope) b there t → IsSubexpression in_scope (hide gs b) there t
+  in_enable_left : {in_scope there : List Name} {l r t : BehaviourView} {at : ℕ} → IsSubexpression in_scope l there t → IsSubexpression in_scope (enable l at r) there t
+  in_enable_right : {in_scope there : List Name} {l r t : BehaviourView} {at : ℕ} → IsSubexpression in_scope r there t → IsSubexpression in_scope (enable l at r) there t
+  in_disable_left : {in_scope there : List Name} {l r t : BehaviourView} → IsSubexpression in_scope l there t → IsSubexpression in_scope (disable l r) there t
+  in_disable_right : {in_scope there : List Name} {l r t : BehaviourView} → IsSubexpression in_scope r there t → IsSubexpression in_scope (disable l r) there t
 
 -- the behaviour itself, and not only a part of it, uses the gate
 pub data UsesGate : BehaviourView → Placed → Type 0 where

@@ -14,7 +14,9 @@ pub struct Checked {
     pub(crate) start: Code,
     pub(crate) processes: Vec<Process>,
     pub(crate) ranks: Vec<usize>,
-    ghost kept: { ∥ IsCheckedSystem (record { formals = gates.items; start = flat_of start; processes = map process_of processes.items }) ranks.items ∥₁ },
+    ghost kept: { ∥ IsCheckedSystem
+        (record { formals = gates.items; start = flat_of start; processes = map process_of processes.items })
+        ranks.items ∥₁ },
 }
 
 impl Checked {

@@ -8,14 +8,14 @@ use std::alloc::AllocError;
 
 /// Appends a definition and all definitions inside it, each followed at once by its inner ones.
 pub(crate) fn add_definitions<'a>(
-    of: &'a Definition,
+    definition: &'a Definition,
     into: &mut Vec<&'a Definition>,
 ) -> Result<(), AllocError>
     ensures { OnOk result (map (λ d. definition_view d.now) into.new.items
-        ≡ map (λ d. definition_view d.now) into.old.items ++ definitions_in (definition_view of.now)) }
+        ≡ map (λ d. definition_view d.now) into.old.items ++ definitions_in (definition_view definition.now)) }
 {
-    into.push(of)?;
-    for inner in &of.inner {
+    into.push(definition)?;
+    for inner in &definition.inner {
         add_definitions(inner, into)?;
     }
     Ok(())

@@ -14,9 +14,9 @@ use std::alloc::{AllocError, Global};
 /// list, with E24 if it is a process of one `where`.
 pub(crate) fn check_distinct(alloc: Global, whole: &Definition) -> Result<(), CheckFault>
     ensures distinct { IfOk result (λ _. IsDistinct (definition_view whole.now)) }
-    ensures repeat { IfErr result (IsDuplicateFault (definition_view whole.now)) }
+    ensures fails { IfErr result (IsDuplicateFault (definition_view whole.now)) }
 {
-    if let Some(gate) = first_repeated(alloc, whole.formals.as_slice())? {
+    if let Some(gate) = first_duplicate(alloc, whole.formals.as_slice())? {
         return Err(CheckFault::E20(gate));
     }
     let mut names: IndexSet<&str> = IndexSet::new(alloc);
@@ -30,7 +30,7 @@ pub(crate) fn check_distinct(alloc: Global, whole: &Definition) -> Result<(), Ch
 }
 
 /// The first name that occurs earlier in the list too.
-fn first_repeated(alloc: Global, names: &[Placed]) -> Result<Option<Placed>, AllocError>
+fn first_duplicate(alloc: Global, names: &[Placed]) -> Result<Option<Placed>, AllocError>
     ensures { IfOk result (λ r. MatchOption r (AreDistinct names.now) (λ p. IsDuplicate p names.now)) }
 {
     let mut seen: IndexSet<&str> = IndexSet::new(alloc);

@@ -5,7 +5,7 @@ ghost use Rattle.lotos_check.specs.Flat.{Pairwise};
 ghost use Rattle.lotos_check.specs.FunctionalityRules.{HasDeclaredFunctionality, IsFunctionalityFaultIn, IsFunctionalityFault};
 
 use crate::fault::{CheckFault, copy_placed};
-use crate::resolution::ResolvedBody;
+use crate::resolved_body::ResolvedBody;
 use lotos_text::Definition;
 use std::alloc::Global;
 
@@ -18,8 +18,10 @@ pub(crate) fn check_functionality(
 ) -> Result<(), CheckFault>
     requires { length definitions.now ≡ length found.now }
     ensures typed { IfOk result
-        (λ _. Pairwise HasDeclaredFunctionality (map (λ d. definition_view d.now) definitions.now) found.now) }
-    ensures functionality_fault { IfErr result (IsFunctionalityFaultIn (map (λ d. definition_view d.now) definitions.now) found.now) }
+        (λ _. Pairwise HasDeclaredFunctionality
+        (map (λ d. definition_view d.now) definitions.now) found.now) }
+    ensures functionality_fault { IfErr result
+        (IsFunctionalityFaultIn (map (λ d. definition_view d.now) definitions.now) found.now) }
 {
     for index in 0..found.len() {
         check_body(alloc, definitions[index], &found[index])?;
@@ -34,7 +36,8 @@ fn check_body(
     found: &ResolvedBody,
 ) -> Result<(), CheckFault>
     ensures typed { IfOk result (λ _. HasDeclaredFunctionality (definition_view definition.now) found.now) }
-    ensures functionality_fault { IfErr result (IsFunctionalityFault (definition_view definition.now) found.now) }
+    ensures functionality_fault { IfErr result
+        (IsFunctionalityFault (definition_view definition.now) found.now) }
 {
     if definition.functionality != found.functionality {
         return Err(CheckFault::E25 {

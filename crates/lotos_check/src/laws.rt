@@ -2,9 +2,10 @@
 ghost use Rattle.std.specs.Prelude.{◌≡◌, ◌<◌, ℕ, List, Some, length, slice_get};
 ghost use Rattle.lotos_text.specs.AstView.{DefinitionView, body_of};
 ghost use Rattle.lotos_check.specs.NameLists.{In, Name};
-ghost use Rattle.lotos_check.specs.Scope.{IsDistinctScope, Binds, Scope, Scoped, all_definitions};
+ghost use Rattle.lotos_check.specs.Scope.{IsDistinctScope, Binds, Scope, ScopedDefinition, all_definitions};
 ghost use Rattle.lotos_check.specs.StaticFaults.{IsDistinct};
 ghost use Rattle.lotos_check.specs.Bodies.{GoesToNamed, ContainsCall, IsBodyOf, AreDistinctNames};
+ghost use Rattle.lotos_check.specs.UsedGates.{UsesOnly};
 ghost use Rattle.lotos_check.specs.Acceptance.{AreRanks, IsAccepted, IsStaticFault, IsNotAccepted};
 ghost use Rattle.lotos_check.specs.Flat.{Flat, FlatProcess, IsFlat, Resolves, System};
 ghost use Rattle.lotos_check.specs.Guard.{Calls, IsRanking, IsUnguardedSet};
@@ -41,14 +42,24 @@ pub fn calls_fit()
     ensures fit { (whole : DefinitionView) (s : System) → IsAccepted whole s → (b : Flat) → IsBodyOf s b →
         (k : ℕ) (gates : List Name) → ContainsCall b k gates → (process : FlatProcess)
         × (slice_get s.processes k ≡ Some process) × (length gates ≡ length process.formals) }
-    ensures named { (whole : DefinitionView) (s : System) → IsAccepted whole s → (v : Scoped) →
+    ensures named { (whole : DefinitionView) (s : System) → IsAccepted whole s → (v : ScopedDefinition) →
         In v (all_definitions whole) → (b : Flat) → Resolves v.scope (body_of v.definition) b →
         (k : ℕ) (gates : List Name) → ContainsCall b k gates → GoesToNamed s v k gates }
 {}
 
+/// The behaviour of an accepted specification uses only the formal gates of the specification and gates that it hides,
+/// and the body of each of its processes only those of the process and gates that it hides.
+pub fn bodies_use_formal_gates()
+    ensures specification { (whole : DefinitionView) (s : System) → IsAccepted whole s → UsesOnly s.formals s.start }
+    ensures processes { (whole : DefinitionView) (s : System) → IsAccepted whole s →
+        (p : ℕ) (process : FlatProcess) → slice_get s.processes p ≡ Some process →
+        UsesOnly process.formals process.body }
+{}
+
 /// The formal gates of an accepted specification, and those of each of its processes, are distinct.
 pub fn distinct_formals()
-    ensures specification { (whole : DefinitionView) (s : System) → IsAccepted whole s → AreDistinctNames s.formals }
+    ensures specification { (whole : DefinitionView) (s : System) → IsAccepted whole s →
+        AreDistinctNames s.formals }
     ensures processes { (whole : DefinitionView) (s : System) → IsAccepted whole s →
         (p : ℕ) (process : FlatProcess) → slice_get s.processes p ≡ Some process →
         AreDistinctNames process.formals }

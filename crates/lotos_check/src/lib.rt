@@ -7,7 +7,8 @@
 //! contracts cite are in `specs/`, the laws over them in [`laws`].
 #![tactic(auto)]
 
-mod body_walk;
+mod body_resolution;
+mod call_graph;
 mod checked;
 mod definition_order;
 mod duplicates;
@@ -16,9 +17,12 @@ mod functionality_check;
 mod gate_scope;
 mod guardedness;
 pub mod laws;
+mod name_lists;
+mod pass_laws;
 mod process_scope;
 mod resolution;
 mod resolved;
+mod resolved_body;
 mod static_check;
 
 pub use checked::Checked;

@@ -17,12 +17,12 @@ pub(crate) struct Binding<'a> {
 }
 
 /// The number of definitions inside this one.
-pub(crate) fn count_inner(of: &Definition) -> usize
-    requires { count (inner_of (definition_view of.now)) < 2 ^ 63 }
-    ensures { result ≡ count (inner_of (definition_view of.now)) }
+pub(crate) fn count_inner(definition: &Definition) -> usize
+    requires { count (inner_of (definition_view definition.now)) < 2 ^ 63 }
+    ensures { result ≡ count (inner_of (definition_view definition.now)) }
 {
     let mut total = 0;
-    for inner in &of.inner {
+    for inner in &definition.inner {
         total += 1 + count_inner(inner);
     }
     total
@@ -31,15 +31,15 @@ pub(crate) fn count_inner(of: &Definition) -> usize
 /// The bindings of the names that one `where` declares, whose first definition has the number `first`.
 pub(crate) fn bind_definitions<'a>(
     alloc: Global,
-    of: &'a [Definition],
+    definitions: &'a [Definition],
     first: usize,
 ) -> Result<IndexMap<&'a str, Binding<'a>>, AllocError>
-    requires { first + count (definitions_view of.now) < 2 ^ 63 }
-    ensures { IfOk result (λ t. BindsAll (λ k. k.now) (definitions_view of.now) first t) }
+    requires { first + count (definitions_view definitions.now) < 2 ^ 63 }
+    ensures { IfOk result (λ t. BindsAll (λ k. k.now) (definitions_view definitions.now) first t) }
 {
     let mut bindings: IndexMap<&'a str, Binding<'a>> = IndexMap::new(alloc);
     let mut process = first;
-    for definition in of {
+    for definition in definitions {
         let binding = Binding {
             process,
             definition,

@@ -26,6 +26,7 @@ row_asks : RequestOf row (search (record {
   after = None;
   explain = false;
   strong = false;
+  known = false;
   words = codes "A" ∷ codes "exit" ∷ [];
 }))
 unfolding clap_on_literals
@@ -41,6 +42,7 @@ hyphen_asks : RequestOf hyphen_row (search (record {
   after = None;
   explain = false;
   strong = false;
+  known = false;
   words = codes "-x" ∷ [];
 }))
 unfolding clap_on_literals
@@ -49,7 +51,7 @@ hyphen_asks = record { faultless = refl; reads = refl }
 abbrev full_row : List Text
 full_row =
     codes "lotosseq" ∷ codes "search" ∷ codes "--depth=1" ∷ codes "--after" ∷ codes "A : i A" ∷ codes "<until>" ∷ codes "--limit" ∷ codes "4"
-    ∷ codes "--explain" ∷ codes "--terms=7" ∷ codes "--strong" ∷ codes "B" ∷ []
+    ∷ codes "--explain" ∷ codes "--terms=7" ∷ codes "--strong" ∷ codes "B" ∷ codes "--known" ∷ []
 
 full_asks : RequestOf full_row (search (record {
   depth = 1;
@@ -58,6 +60,7 @@ full_asks : RequestOf full_row (search (record {
   after = Some (codes "A : i A");
   explain = true;
   strong = true;
+  known = true;
   words = codes "<until>" ∷ codes "B" ∷ [];
 }))
 unfolding clap_on_literals
@@ -110,3 +113,7 @@ too_many_states = refl
 ever_has_no_depth : fault_of lotosseq (codes "lotosseq" ∷ codes "ever" ∷ codes "--depth=1" ∷ []) ≡ UnknownArgument ∷ []
 unfolding clap_on_literals
 ever_has_no_depth = refl
+
+ever_has_no_known : fault_of lotosseq (codes "lotosseq" ∷ codes "ever" ∷ codes "--known" ∷ []) ≡ UnknownArgument ∷ []
+unfolding clap_on_literals
+ever_has_no_known = refl

@@ -166,7 +166,7 @@ module _ (s : Shape) (names : Names) (ordinary : Each (IsOrdinary s.rules) s.rul
 
   -- ---- a level
 
-  -- what follows if a level has no fault: its rows are ready, its subcommand is not `help`, and there is no fault below
+  -- what follows if a level has no fault: its entries are ready, its subcommand is not `help`, and there is no fault below
   -- nor in the checks at the end
   pub record Leaves (words : List Text) (has_subcommand : Bool) (below : Kinds) : Type 0 where
     pub ready : Ready (finished s.rules (walk s.rules names nothing_held words).held)

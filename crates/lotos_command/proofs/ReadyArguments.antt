@@ -49,9 +49,9 @@ pub record IsOrdinary (rules : List Rule) (rule : Rule) : Type 0 where
 abbrev pub IsFilled : Rule → List Text → Type 0
 IsFilled rule values = 1 ≤ (unwrap_or_range rule.range).start_inclusive → 1 ≤ length values
 
--- ---- rows
+-- ---- entries
 
--- the row is that of an argument, its values passed the argument's parser, and it has one if one is required
+-- the entry is that of an argument, its values passed the argument's parser, and it has one if one is required
 pub record IsReady (rules : List Rule) (row : Row) : Type 0 where
   pub rule : Rule
   pub is : arg_by_id rules row.id ≡ Some rule
@@ -59,7 +59,7 @@ pub record IsReady (rules : List Rule) (row : Row) : Type 0 where
   pub passed : values_fault rule row.values ≡ []
   pub filled : IsFilled rule row.values
 
--- after a change at one row each row has a property that each had, if the changed and the added rows have it
+-- after a change at one entry each entry has a property that each had, if the changed and the added entries have it
 at_row_keeps : (P : Row → Type 0) (id : Text) (change : Row → List Row) (missing rows : List Row)
     → ((r : Row) → bytes_eq r.id id ≡ true → P r → Each P (change r)) → Each P missing → Each P rows
     → Each P (at_row id change missing rows)
@@ -99,7 +99,7 @@ module _ (rules : List Rule) where
         tt,
       )
 
-  -- values that passed may be put into their argument's row
+  -- values that passed may be put into their argument's entry
   pub values_keep : (a : Rule) (source : ValueSource) (values : List Text) (rows : List Row) → arg_by_id rules a.id ≡ Some a
       → values_fault a values ≡ [] → IsFilled a values → Ready rows
       → Ready (with_values a.id (reading_by a) source values rows)
@@ -107,6 +107,6 @@ module _ (rules : List Rule) where
       at_row_keeps (IsReady rules) a.id (more_values source values) _ rows
       (λ r same ready. grown_row a source values r own passed same ready) (new_row a source values own passed filled) all
 
-  -- a row may be removed
+  -- an entry may be removed
   pub without_keeps : (id : Text) (rows : List Row) → Ready rows → Ready (without id rows)
   without_keeps id rows all = at_row_keeps (IsReady rules) id (λ _. []) [] rows (λ r same ready. tt) tt all

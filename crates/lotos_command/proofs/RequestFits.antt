@@ -187,7 +187,10 @@ search_is_ordinary = (
       is_ordinary_here _ refl refl,
       (
         is_ordinary_here _ refl refl,
-        (is_ordinary_here _ refl refl, (is_ordinary_here _ refl refl, (is_ordinary_here _ refl refl, (is_ordinary_here _ refl refl, tt)))),
+        (
+          is_ordinary_here _ refl refl,
+          (is_ordinary_here _ refl refl, (is_ordinary_here _ refl refl, (is_ordinary_here _ refl refl, (is_ordinary_here _ refl refl, tt)))),
+        ),
       ),
     ),
   ),
@@ -230,6 +233,9 @@ search_fits rows all e = record {
   strong = if_some_more _ IsTruthText (one_of (codes "strong") rows)
       (λ t read. subst IsTruthText (sym read.is) read.accepted)
       (entry_fits search_shape.rules rows all (codes "strong") _ refl);
+  known = if_some_more _ IsTruthText (one_of (codes "known") rows)
+      (λ t read. subst IsTruthText (sym read.is) read.accepted)
+      (entry_fits search_shape.rules rows all (codes "known") _ refl);
 }
 
 ever_fits : (rows : List Row) → Each (IsReady ever_shape.rules) rows → FitsEver rows

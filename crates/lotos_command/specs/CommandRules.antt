@@ -57,6 +57,13 @@ strong_rule = record (new_rule (codes "strong")) {
   action = Some SetTrue;
 }
 
+-- `--known`
+abbrev pub known_rule : Rule
+known_rule = record (new_rule (codes "known")) {
+  long = Some (codes "known");
+  action = Some SetTrue;
+}
+
 -- `WORD ..`, any number of words that are no option, in order
 abbrev pub words_rule : Rule
 words_rule = record (new_rule (codes "words")) {
@@ -65,11 +72,11 @@ words_rule = record (new_rule (codes "words")) {
   value_names = 1;
 }
 
--- `search --depth N [--limit N] [--terms N] [--after LINE] [--explain] [--strong] [WORD ..]`
+-- `search --depth N [--limit N] [--terms N] [--after LINE] [--explain] [--strong] [--known] [WORD ..]`
 abbrev pub search_app : App
 search_app =
-    with_rule (with_rule (with_rule (with_rule (with_rule (with_rule (with_rule (new_app (codes "search"))
-    depth_rule) limit_rule) terms_rule) after_rule) explain_rule) strong_rule) words_rule
+    with_rule (with_rule (with_rule (with_rule (with_rule (with_rule (with_rule (with_rule (new_app (codes "search"))
+    depth_rule) limit_rule) terms_rule) after_rule) explain_rule) strong_rule) known_rule) words_rule
 
 -- `--states N`, with a number from 1 to 100,000,000; 1,000,000 if it is not given
 abbrev pub states_rule : Rule

@@ -22,6 +22,7 @@ pub record FitsSearch (rows : List Row) : Type 0 where
   pub terms : IfSome (one_of (codes "terms") rows) (IsNumberIn 1 1000000)
   pub explain : IfSome (one_of (codes "explain") rows) IsTruthText
   pub strong : IfSome (one_of (codes "strong") rows) IsTruthText
+  pub known : IfSome (one_of (codes "known") rows) IsTruthText
 
 -- the number among the entries of `ever` is within its bounds, and the flags can be read
 pub record FitsEver (rows : List Row) : Type 0 where

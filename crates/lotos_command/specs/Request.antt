@@ -7,7 +7,7 @@ use Rattle.std.specs.Borrow.{Bor}
 use Rattle.clap.specs.Words.{Row, Text, all_of, fault_of, first_of, one_of, subcommand_of}
 use Rattle.lotos_command.specs.CommandRules.{lotosseq}
 use Rattle.lotos_command.specs.declared.command.Request.{Request}
-use Rattle.lotos_command.specs.declared.command.Request.TheVariants as asked
+use Rattle.lotos_command.specs.declared.command.Request.TheVariants as request
 use Rattle.lotos_command.specs.declared.command.SearchRequest.{SearchRequest}
 use Rattle.lotos_command.specs.declared.command.EverRequest.{EverRequest}
 
@@ -23,6 +23,7 @@ pub record SearchView : Type 0 where
   pub after : Option Text
   pub explain : Bool
   pub strong : Bool
+  pub known : Bool
   pub words : List Text
 
 -- the view of a search for a match of any length: texts for strings
@@ -47,6 +48,7 @@ search_view request = record {
   after = option_map string_bytes request.after;
   explain = request.explain;
   strong = request.strong;
+  known = request.known;
   words = map string_bytes request.words.items;
 }
 
@@ -61,9 +63,9 @@ ever_view request = record {
 
 -- the view of this request
 abbrev pub request_view : Request → RequestView
-request_view asked.Check = check
-request_view (asked.Search request) = search (search_view request)
-request_view (asked.Ever request) = ever (ever_view request)
+request_view request.Check = check
+request_view (request.Search request) = search (search_view request)
+request_view (request.Ever request) = ever (ever_view request)
 
 -- the number of a decimal numeral, perhaps after a plus sign
 abbrev pub number : Text → ℕ
@@ -82,6 +84,7 @@ search_from rows = option_map (λ depth. record {
   after = first_of (codes "after") rows;
   explain = flag (codes "explain") rows;
   strong = flag (codes "strong") rows;
+  known = flag (codes "known") rows;
   words = unwrap_or (all_of (codes "words") rows) [];
 }) (one_of (codes "depth") rows)
 
@@ -122,6 +125,6 @@ pub record HasSearchBounds (request : SearchRequest) : Type 0 where
 
 -- the bounds of a search, if the request is one; at least one state, if it is a search for a match of any length
 abbrev pub HasBounds : Request → Type 0
-HasBounds asked.Check = ⊤
-HasBounds (asked.Search request) = HasSearchBounds request
-HasBounds (asked.Ever request) = 1 ≤ request.states
+HasBounds request.Check = ⊤
+HasBounds (request.Search request) = HasSearchBounds request
+HasBounds (request.Ever request) = 1 ≤ request.states

@@ -28,6 +28,8 @@ pub struct SearchRequest {
     pub explain: bool,
     /// Whether internal steps are observed: `i` is then a label like others.
     pub strong: bool,
+    /// Whether a word that names a gate not in the specification's own list is refused.
+    pub known: bool,
     /// The words of the pattern.
     pub words: Vec<String>,
 }

@@ -115,6 +115,17 @@ match it like other labels. For example, `i; i; a; stop` with
 `--depth 3 --strong i i A` lists
   i i A";
 
+pub(crate) const KNOWN_HELP: &str = "Refuses words that name no gate of the specification";
+
+pub(crate) const KNOWN_LONG_HELP: &str = "Refuses words that name no gate of the specification
+
+Each label of the pattern must then be a gate of the specification's own list, `exit`,
+or with `--strong` `i`. Without this option any other label is no fault, and never
+matches. For example, with the specification
+  specification S [a] : exit behaviour a; exit endspec
+the command `lotosseq search --depth 2 --known B exit` is refused with
+  E49 word 1 is no gate of the specification";
+
 pub(crate) const WORDS_HELP: &str = "The words of the pattern: labels and elements";
 
 pub(crate) const WORDS_LONG_HELP: &str = "The words of the pattern
@@ -139,7 +150,7 @@ in `'<any>'`.
 A deadlock is a term that has no step at all, not even an internal one. These last two
 may stand only at the end. `i` is a word of a pattern only with `--strong`, as the
 internal action cannot be observed. The name of a gate that the specification does not
-have is no fault; it never matches.";
+have is no fault, unless `--known` is given; it never matches.";
 
 pub(crate) const SEARCH_STATUSES: &str = "Statuses:
   0  the listing is complete and has lines

@@ -7,8 +7,9 @@
 mod command;
 mod command_line;
 mod help;
+mod request_reading;
 #[cfg(test)]
 mod tests;
 
 pub use command::{CommandFault, EverRequest, Request, SearchRequest};
-pub use command_line::request;
+pub use request_reading::request;

@@ -30,6 +30,7 @@ fn reads_a_search(rt: HostRuntime) {
         "--strong",
         "--limit",
         "3",
+        "--known",
         "--",
         "-x",
         "A",
@@ -43,9 +44,23 @@ fn reads_a_search(rt: HostRuntime) {
     assert_eq!(rt; asked.terms, 100_000);
     assert!(rt; matches!(&asked.after, Some(line) if line.as_str() == "A : i A"));
     assert!(rt; asked.strong);
+    assert!(rt; asked.known);
     assert!(rt; !asked.explain);
     assert_eq!(rt; asked.words.len(), 2);
     assert!(rt; matches!(asked.words.first(), Some(word) if word.as_str() == "-x"));
+}
+
+#[test]
+fn flags_are_off_unless_given(rt: HostRuntime) {
+    let words = &["lotosseq", "search", "--depth", "0", "--", "--known"];
+    let Ok(Request::Search(asked)) = request(rt.alloc(), words) else {
+        assert!(rt; false);
+        return;
+    };
+    assert!(rt; !asked.explain);
+    assert!(rt; !asked.strong);
+    assert!(rt; !asked.known);
+    assert_eq!(rt; asked.words.len(), 1);
 }
 
 #[test]
@@ -82,4 +97,12 @@ fn tells_help_from_faults(rt: HostRuntime) {
     assert!(rt; is_wrong(alloc, &["lotosseq", "search", "--depth", "256"]));
     assert!(rt; is_wrong(alloc, &["lotosseq", "search", "--depth=1", "--limit=0"]));
     assert!(rt; is_wrong(alloc, &["lotosseq", "check", "A"]));
+    assert!(rt; is_wrong(alloc, &["lotosseq", "ever", "--known", "A"]));
+    assert!(rt; is_wrong(alloc, &["lotosseq", "search", "--depth=1", "--known=true"]));
+    assert!(rt;
+        is_wrong(
+            alloc,
+            &["lotosseq", "search", "--depth=1", "--known", "--known"]
+        )
+    );
 }

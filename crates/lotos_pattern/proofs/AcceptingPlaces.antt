@@ -24,7 +24,7 @@ empty_from [] (suc i) k h j = empty_on [] k j
 empty_from (e ∷ p) (suc i) zero h j = absurd (omega arith)
 empty_from (e ∷ p) (suc i) (suc k) h j = empty_from p i k (omega arith) j
 
--- behind the last element
+-- after the last element
 pub none_left : (p : List Element) (k : ℕ) → length p ≤ k → IsJoin Segment (drop k p) []
 none_left p k past = subst (λ q. IsJoin Segment q []) (sym (drop_all k p past)) refl
 

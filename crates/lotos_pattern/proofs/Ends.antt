@@ -1,34 +1,41 @@
 -- What the last element demands, and the elements from one on.
-use Rattle.std.proofs.Common.{◌≡◌, ℕ, suc, ◌+◌, ◌-◌, ◌<◌, List, [], ◌∷◌, length, drop, sym, ap, subst, ◌∙◌, arith, Bool, get_or}
-use Rattle.std.specs.Prelude.{MatchBool}
+use Rattle.std.proofs.Common.{◌≡◌, ℕ, suc, ◌+◌, ◌-◌, ◌<◌, List, [], ◌∷◌, length, drop, refl, sym, ap, subst, ◌∙◌, arith, Bool, get_or}
+use Rattle.std.specs.Prelude.{MatchBool, Some, option_map, slice_get}
 use Rattle.std.proofs.lemmas.List.{drop_more, length-map, get_or-map, drop_all}
-use Rattle.lotos_pattern.specs.Patterns.{Element, LastDemandsDeadlock, IsEnd}
+use Rattle.std.proofs.lemmas.Option.{slice_get-map, slice_get_read}
+use Rattle.lotos_pattern.specs.Patterns.{Element, LastDemandsDeadlock, ElementDemandsDeadlock}
 use Rattle.lotos_pattern.specs.ElementView.{element_of, elements_of}
-use Rattle.lotos_pattern.specs.declared.element.Element.{Element as Kept}
+use Rattle.lotos_pattern.specs.declared.element.Element.{Element as CodeElement}
 
 -- the elements from a kept one on
-elements_from : (kept : List Kept) (i : ℕ) (x : Kept) → i < length kept → x ≡ get_or kept i x → drop i (elements_of kept) ≡ element_of x ∷ drop (i + 1) (elements_of kept)
+elements_from : (kept : List CodeElement) (i : ℕ) (x : CodeElement) → i < length kept → x ≡ get_or kept i x → drop i (elements_of kept) ≡ element_of x ∷ drop (i + 1) (elements_of kept)
 elements_from kept i x within is =
     let there : i < length (elements_of kept) = let h = length-map kept element_of in omega arith in
     drop_more (elements_of kept) i (element_of x) there ∙ ap (λ e. e ∷ drop (i + 1) (elements_of kept)) (get_or-map element_of kept i x (element_of x) within ∙ ap element_of (sym is))
 
 -- the same, of a pattern whose elements these are
-pub elements_at : (p : List Element) (kept : List Kept) (i : ℕ) (x : Kept) → elements_of kept ≡ p → i < length kept → x ≡ get_or kept i x → drop i p ≡ element_of x ∷ drop (i + 1) p
+pub elements_at : (p : List Element) (kept : List CodeElement) (i : ℕ) (x : CodeElement) → elements_of kept ≡ p → i < length kept → x ≡ get_or kept i x → drop i p ≡ element_of x ∷ drop (i + 1) p
 elements_at p kept i x shown within is = subst (λ q. drop i q ≡ element_of x ∷ drop (i + 1) q) shown (elements_from kept i x within is)
 
-pub as_long : (p : List Element) (kept : List Kept) → elements_of kept ≡ p → length kept ≡ length p
+-- and the one element
+pub element_at : (p : List Element) (kept : List CodeElement) (i : ℕ) (x : CodeElement) → elements_of kept ≡ p → i < length kept → x ≡ get_or kept i x → slice_get p i ≡ Some (element_of x)
+element_at p kept i x shown within is =
+    let there : slice_get kept i ≡ Some x = slice_get_read kept (length kept) i x refl within is in
+    subst (λ q. slice_get q i ≡ Some (element_of x)) shown (slice_get-map element_of kept i ∙ ap (option_map element_of) there)
+
+pub as_long : (p : List Element) (kept : List CodeElement) → elements_of kept ≡ p → length kept ≡ length p
 as_long p kept shown = sym (length-map kept element_of) ∙ ap length shown
 
 -- the last element decides
-last_decides : (p : List Element) (e : Element) → drop (length p - 1) p ≡ e ∷ [] → LastDemandsDeadlock p ≡ IsEnd e
+last_decides : (p : List Element) (e : Element) → drop (length p - 1) p ≡ e ∷ [] → LastDemandsDeadlock p ≡ ElementDemandsDeadlock e
 last_decides [] e is = absurd (let none : [] ≡ e ∷ [] = is in let z : ⊥ = cc in z)
-last_decides (f ∷ []) e is = let same : f ∷ [] ≡ e ∷ [] = is in ap IsEnd cc
+last_decides (f ∷ []) e is = let same : f ∷ [] ≡ e ∷ [] = is in ap ElementDemandsDeadlock cc
 last_decides (f ∷ g ∷ p) e is =
     let shorter : length (f ∷ g ∷ p) - 1 ≡ suc (length (g ∷ p) - 1) = omega arith in
     last_decides (g ∷ p) e (subst (λ i. drop i (f ∷ g ∷ p) ≡ e ∷ []) shorter is)
 
-pub last_kept : (kept : List Kept) (x : Kept) (answer : Bool) → 0 < length kept → x ≡ get_or kept (length kept - 1) x →
-    MatchBool answer (IsEnd (element_of x)) (IsEnd (element_of x) → ⊥) → MatchBool answer (LastDemandsDeadlock (elements_of kept)) (LastDemandsDeadlock (elements_of kept) → ⊥)
+pub last_kept : (kept : List CodeElement) (x : CodeElement) (answer : Bool) → 0 < length kept → x ≡ get_or kept (length kept - 1) x →
+    MatchBool answer (ElementDemandsDeadlock (element_of x)) (ElementDemandsDeadlock (element_of x) → ⊥) → MatchBool answer (LastDemandsDeadlock (elements_of kept)) (LastDemandsDeadlock (elements_of kept) → ⊥)
 last_kept kept x answer some is h =
     let i = length kept - 1 in
     let as_long : length (elements_of kept) ≡ length kept = length-map kept element_of in

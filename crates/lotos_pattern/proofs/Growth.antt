@@ -7,10 +7,10 @@ use Rattle.std.proofs.lemmas.List.Elements.{All-cons, All-nil}
 use Rattle.std.proofs.lemmas.Option.{slice_get_within}
 use Rattle.lotos_pattern.specs.Patterns.{Element, LastDemandsDeadlock, OnlyLastDemandsDeadlock, IsJoin, any, deadlock, one, until, until_deadlock, while, while_any}
 use Rattle.lotos_pattern.specs.Spelling.{PatternOf, Spelling, Text, texts_of}
-use Rattle.lotos_pattern.specs.Faults.{BeginsElement, IsCause, SpellsNone, IsAfterPattern}
+use Rattle.lotos_pattern.specs.PatternFaults.{BeginsElement, IsCause, SpellsNone, IsAfterPattern}
 use Rattle.lotos_pattern.specs.ElementView.{CanOccur, IsPattern, element_of, elements_of, pattern_of}
-use Rattle.lotos_pattern.specs.WordKinds.{CanBeFollowed, IsEndFault, ParsesAt}
-use Rattle.lotos_pattern.specs.declared.element.Element.{Element as Kept}
+use Rattle.lotos_pattern.specs.WordKinds.{CanBeFollowed, IsAppendFault, ParsesAt}
+use Rattle.lotos_pattern.specs.declared.element.Element.{Element as CodeElement}
 use Rattle.lotos_pattern.specs.declared.fault.PatternFault.{PatternFault}
 use Rattle.lotos_pattern.proofs.InitialPlaces.{full_cause, full_nothing}
 use Rattle.lotos_pattern.proofs.Words.{take_at, within_texts}
@@ -21,7 +21,7 @@ module _ (strong : Bool) where
     spelled_by_one e spelling = let there = slice_get_within words place first stands in record {
       own = first ∷ [];
       spelling = spelling;
-      stands = take_at words place first stands;
+      located = take_at words place first stands;
       further = omega arith;
       within = omega arith;
     }
@@ -30,7 +30,7 @@ module _ (strong : Bool) where
     spelled_by_two second e follows spelling = let there = slice_get_within words (place + 1) second follows in record {
       own = first ∷ second ∷ [];
       spelling = spelling;
-      stands = take_at words (place + 1) second follows ∙ ap (λ front. front ++ second ∷ []) (take_at words place first stands) ∙
+      located = take_at words (place + 1) second follows ∙ ap (λ front. front ++ second ∷ []) (take_at words place first stands) ∙
           append_assoc (take place words) (first ∷ []) (second ∷ []);
       further = omega arith;
       within = omega arith;
@@ -46,12 +46,12 @@ module _ (strong : Bool) where
   ends_last_more (f ∷ []) e last goes_on = (goes_on, tt)
   ends_last_more (f ∷ g ∷ p) e last goes_on = (last.0, ends_last_more (g ∷ p) e last.1 goes_on)
 
-  -- where there is room, an element more makes a pattern
+  -- below the limit of elements, one element more makes a pattern
   one_more : (words : List Text) (place behind : ℕ) (p : List Element) (e : Element) → PatternOf strong (take place words) (pattern_of strong p) → CanBeFollowed p →
       ParsesAt strong words place e behind → PatternOf strong (take behind words) (pattern_of strong (p ++ e ∷ []))
   one_more words place behind p e spelled has next = record {
     shows = refl;
-    spelled = subst (IsJoin (Spelling strong) (p ++ e ∷ [])) (sym next.stands) (joined_more p e (take place words) next.own spelled.spelled next.spelling);
+    spelled = subst (IsJoin (Spelling strong) (p ++ e ∷ [])) (sym next.located) (joined_more p e (take place words) next.own spelled.spelled next.spelling);
     short =
         let long : length (p ++ e ∷ []) ≡ length p + 1 = length-append p (e ∷ []) in
         let short = spelled.short in
@@ -77,20 +77,20 @@ module _ (strong : Bool) where
   pub is_pattern : (words : List Text) (p : List Element) → PatternOf strong words (pattern_of strong p) → IsPattern (pattern_of strong p)
   is_pattern words p spelled = record { ends_last = spelled.ends_last; observable = all_occur p words spelled.spelled; short = spelled.short }
 
-  -- what is known where the loop stands: the words before the place spell the elements that are kept
-  module _ (words : List (Bor Text)) (place : ℕ) (kept lent : List Kept) (there : place < length words)
+  -- the invariant of the loop: the words before the index spell the elements so far
+  module _ (words : List (Bor Text)) (place : ℕ) (kept lent : List CodeElement) (there : place < length words)
       (spelled : PatternOf strong (take place (texts_of words)) (pattern_of strong (elements_of kept))) (same : lent ≡ kept) where
     stands : IsAfterPattern strong (texts_of words) (place + 1) (pattern_of strong (elements_of kept))
     stands = record { before = place; counted = refl; there = within_texts words place there; spelled = spelled }
 
     -- where no element may follow them, the fault has its cause
-    pub full_here : (fault : PatternFault) → IsEndFault (elements_of lent) (place + 1) fault → IsCause strong (texts_of words) fault × SpellsNone strong (texts_of words) fault
+    pub full_here : (fault : PatternFault) → IsAppendFault (elements_of lent) (place + 1) fault → IsCause strong (texts_of words) fault × SpellsNone strong (texts_of words) fault
     full_here fault full =
-        let own = subst (λ elements. IsEndFault (elements_of elements) (place + 1) fault) same full in
+        let own = subst (λ elements. IsAppendFault (elements_of elements) (place + 1) fault) same full in
         let p = pattern_of strong (elements_of kept) in
         (full_cause strong (texts_of words) place p stands fault own, full_nothing strong (texts_of words) place p stands fault own)
 
-    -- where one may follow, it begins at the place
+    -- if one may follow, it begins at the index
     pub begins_here : CanBeFollowed (elements_of lent) → BeginsElement strong (texts_of words) (place + 1)
     begins_here room =
         let own : CanBeFollowed (elements_of kept) = subst (λ elements. CanBeFollowed (elements_of elements)) same room in
@@ -98,7 +98,7 @@ module _ (strong : Bool) where
         let unfilled = own.room in
         record { pattern = pattern_of strong (elements_of kept); next_index = stands; goes_on = own.goes_on; room = omega arith }
 
-    pub grown_here : (behind : ℕ) (e : Kept) (more : List Kept) → CanBeFollowed (elements_of lent) → ParsesAt strong (texts_of words) place (element_of e) behind → more ≡ kept ++ e ∷ [] →
+    pub grown_here : (behind : ℕ) (e : CodeElement) (more : List CodeElement) → CanBeFollowed (elements_of lent) → ParsesAt strong (texts_of words) place (element_of e) behind → more ≡ kept ++ e ∷ [] →
         PatternOf strong (take behind (texts_of words)) (pattern_of strong (elements_of more))
     grown_here behind e more room next grown =
         let own : CanBeFollowed (elements_of kept) = subst (λ elements. CanBeFollowed (elements_of elements)) same room in

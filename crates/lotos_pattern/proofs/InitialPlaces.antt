@@ -5,18 +5,18 @@ use Rattle.std.proofs.lemmas.List.{length-drop, take-append-drop, length-append}
 use Rattle.lotos_pattern.specs.PatternLabels.{internal}
 use Rattle.lotos_pattern.specs.Patterns.{Element, LastDemandsDeadlock, OnlyLastDemandsDeadlock, IsJoin, Pattern, any, deadlock, one, until, until_deadlock, while, while_any}
 use Rattle.lotos_pattern.specs.Spelling.{Names, PatternOf, EqualsIgnoringCase, Spelling, Text}
-use Rattle.lotos_pattern.specs.Faults.{BeginsElement, BeginsNoElement, EndsNoUntil, HasWord, IsCause, IsInternal, IsLabel, IsUntil, IsWhile, EndsNoWhile, SpellsNone, IsAfterPattern}
-use Rattle.lotos_pattern.specs.WordKinds.{IsFaultAt, IsEndFault}
+use Rattle.lotos_pattern.specs.PatternFaults.{BeginsElement, BeginsNoElement, EndsNoUntil, HasWord, IsCause, IsInternal, IsLabel, IsUntil, IsWhile, EndsNoWhile, SpellsNone, IsAfterPattern}
+use Rattle.lotos_pattern.specs.WordKinds.{IsFaultAt, IsAppendFault}
 use Rattle.lotos_pattern.specs.declared.fault.PatternFault.{PatternFault}
 use Rattle.lotos_pattern.specs.declared.fault.PatternFault.TheVariants.{E41, E42, E43, E44, E45, E48, E99}
 use Rattle.lotos_pattern.proofs.Words.{apart, drop_at, label_no_angle, names_no_internal}
 use Rattle.lotos_pattern.proofs.Spellings.{Marks, angle, first, goes_on, mark, one_mark}
 
--- the word with a number stands at the place before it
+-- a word with a number has the index before it
 pub numbered : (words : List Text) (place : ℕ) (Such : Text → Type 0) (has : HasWord words (place + 1) Such) → slice_get words place ≡ Some has.word
 numbered words place Such has =
     let same : has.before ≡ place = let h = has.counted in omega arith in
-    subst (λ i. slice_get words i ≡ Some has.word) same has.stands
+    subst (λ i. slice_get words i ≡ Some has.word) same has.located
 
 -- nothing follows a demand for a deadlock
 dead_last : (p : List Element) (e : Element) (more : List Element) → LastDemandsDeadlock p → OnlyLastDemandsDeadlock (p ++ e ∷ more) → ⊥
@@ -54,7 +54,7 @@ module _ (strong : Bool) where
   not_begun deadlock front behind rest word (w, i, k) cut none = none.deadlock (subst (λ v. EqualsIgnoringCase v (codes "<deadlock>")) (first_word front behind rest [] w word i cut) k)
   not_begun until_deadlock front behind rest word (w, t, i, k, o) cut none = none.until (subst IsUntil (first_word front behind rest (t ∷ []) w word i cut) k)
 
-  -- an element has the mark of the word that it begins with
+  -- an element is marked by the word that it begins with
   marked : (e : Element) (front behind rest : List Text) (word tail : Text) → Spelling strong e front → word ∷ rest ≡ front ++ behind → EqualsIgnoringCase word (60 ∷ tail) → mark e ≡ 60 ∷ tail
   marked e front behind rest word tail spelling cut is =
       let f = first strong e front spelling in
@@ -79,7 +79,7 @@ module _ (strong : Bool) where
   not_repeated e front behind rest word spelling cut is none =
       let differ : get_or (mark e) 1 0 ≡ 119 = ap (λ text. get_or text 1 0) (marked e front behind rest word _ spelling cut is) in absurd (omega arith)
 
-  -- the element of a pattern that begins at a place
+  -- the element of a pattern that begins at an index
   record Next (words : List Text) (place : ℕ) (p q : List Element) : Type 0 where
     element : Element
     more : List Element
@@ -94,7 +94,7 @@ module _ (strong : Bool) where
   next_of words place p q (e ∷ more) there whole (front, behind, spelling, others, cut) =
       record { element = e; more = more; whole = whole; front = front; next_index = behind; spelling = spelling; cut = cut }
 
-  -- whatever pattern the words spell, it begins with the one that those before the place spell, and an element of it begins there
+  -- whatever pattern the words spell, it begins with the one that those before the index spell, and an element of it begins there
   next : (words : List Text) (place : ℕ) (p q : Pattern) → IsAfterPattern strong words (place + 1) p → PatternOf strong words q → Next words place p.elements q.elements
   next words place p q stands spelled =
       let same : stands.before ≡ place = let h = stands.counted in omega arith in
@@ -104,7 +104,7 @@ module _ (strong : Bool) where
 
   module _ (words : List Text) (place : ℕ) (word : Text) (stands : slice_get words place ≡ Some word) where
     here : (Such : Text → Type 0) → Such word → HasWord words (place + 1) Such
-    here Such such = record { before = place; word = word; counted = refl; stands = stands; such = such }
+    here Such such = record { before = place; word = word; counted = refl; located = stands; such = such }
 
     begins_nowhere : NoBeginning word → BeginsElement strong words (place + 1) → (q : Pattern) → PatternOf strong words q → ⊥
     begins_nowhere none begins q spelled =
@@ -117,13 +117,13 @@ module _ (strong : Bool) where
       begins_nowhere (record { label = none.label; any = none.any; until = none.until; while = none.while; deadlock = none.deadlock }) begins,
     )
 
-    -- behind `<until>` nothing that ends an element
+    -- after `<until>` nothing that ends an element
     ends_nowhere : IsUntil word → NoneEnds (codes "<deadlock>") (drop (place + 1) words) → BeginsElement strong words (place + 1) → (q : Pattern) → PatternOf strong words q → ⊥
     ends_nowhere is none begins q spelled =
         let n = next words place begins.pattern q begins.next_index spelled in
         not_ended n.element n.front n.next_index (drop (place + 1) words) word n.spelling (sym (drop_at words place word stands) ∙ n.cut) is none
 
-    -- behind `<while>` nothing that ends an element
+    -- after `<while>` nothing that ends an element
     repeats_nowhere : IsWhile word → NoneEnds (codes "<any>") (drop (place + 1) words) → BeginsElement strong words (place + 1) → (q : Pattern) → PatternOf strong words q → ⊥
     repeats_nowhere is none begins q spelled =
         let n = next words place begins.pattern q begins.next_index spelled in
@@ -140,7 +140,7 @@ module _ (strong : Bool) where
 
     module _ (second : Text) (follows : slice_get words (place + 1) ≡ Some second) where
       there : (Such : Text → Type 0) → Such second → HasWord words (place + 1 + 1) Such
-      there Such such = record { before = place + 1; word = second; counted = refl; stands = follows; such = such }
+      there Such such = record { before = place + 1; word = second; counted = refl; located = follows; such = such }
 
       second_behind : (last : Text) → NoEnding last second → NoneEnds last (drop (place + 1) words)
       second_behind last none other tail e =
@@ -174,7 +174,7 @@ module _ (strong : Bool) where
         absurd (omega arith)
 
     -- where no element may follow, the fault has its cause
-    pub full_cause : (fault : PatternFault) → IsEndFault p.elements (place + 1) fault → IsCause strong words fault
+    pub full_cause : (fault : PatternFault) → IsAppendFault p.elements (place + 1) fault → IsCause strong words fault
     full_cause (E41 n) h = absurd h
     full_cause (E42 n) h = absurd h
     full_cause (E43 n) (dead, same) = (p, subst (λ i. IsAfterPattern strong words i p) (sym same) stands, dead)
@@ -183,7 +183,7 @@ module _ (strong : Bool) where
     full_cause (E48 n) h = absurd h
     full_cause (E99 e) h = absurd h
 
-    pub full_nothing : (fault : PatternFault) → IsEndFault p.elements (place + 1) fault → SpellsNone strong words fault
+    pub full_nothing : (fault : PatternFault) → IsAppendFault p.elements (place + 1) fault → SpellsNone strong words fault
     full_nothing (E41 n) h = absurd h
     full_nothing (E42 n) h = absurd h
     full_nothing (E43 n) h = dead_spells_none h.0

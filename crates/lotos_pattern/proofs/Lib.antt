@@ -1,7 +1,9 @@
 pub mod Words
 pub mod Segments
 pub mod PlaceTransitions
+pub mod NfaTransitions
 pub mod Places
+pub mod PlaceValues
 pub mod PlacesOfPrefixes
 pub mod Spellings
 pub mod Ends

@@ -7,7 +7,7 @@ use Rattle.lotos_pattern.specs.PatternLabels.{Label}
 use Rattle.lotos_pattern.specs.Patterns.{Element, IsJoin, Segment}
 use Rattle.lotos_pattern.specs.NfaStates.{HasState, IsFirstState, Place}
 use Rattle.lotos_pattern.specs.PlaceTransitions.{HasTransition, IsNextState, CanContinue, IsSuccessorPlace}
-use Rattle.lotos_pattern.specs.Transitions.{Takes}
+use Rattle.lotos_pattern.specs.Transitions.{IsTransition}
 use Rattle.lotos_pattern.specs.declared.element.Transition.{Transition}
 use Rattle.lotos_pattern.specs.declared.element.Transition.TheVariants.{Reject, Advance, Stay}
 
@@ -28,21 +28,21 @@ After Advance e p s = IsJoin Segment p s
 After Stay e p s = IsJoin Segment (e ∷ p) s
 After Reject e p s = ⊥
 
-taken : (t : Transition) (e : Element) (p : List Element) (l : Label) (s front behind : List Label) → Takes e l t → Segment e (l ∷ front) → IsJoin Segment p behind → s ≡ front ++ behind → After t e p s
-unfolding Takes
+taken : (t : Transition) (e : Element) (p : List Element) (l : Label) (s front behind : List Label) → IsTransition e l t → Segment e (l ∷ front) → IsJoin Segment p behind → s ≡ front ++ behind → After t e p s
+unfolding IsTransition
 taken Advance e p l s front behind takes segment j cut =
     let none : front ≡ [] = (takes front).0 segment in
     subst (IsJoin Segment p) (sym (cut ∙ ap (λ f. f ++ behind) none)) j
 taken Stay e p l s front behind takes segment j cut = (front, behind, (takes front).0 segment, j, cut)
 taken Reject e p l s front behind takes segment j cut = takes front segment
 
-untaken : (t : Transition) (e : Element) (p : List Element) (l : Label) (s : List Label) → Takes e l t → After t e p s → IsJoin Segment (e ∷ p) (l ∷ s)
-unfolding Takes
+untaken : (t : Transition) (e : Element) (p : List Element) (l : Label) (s : List Label) → IsTransition e l t → After t e p s → IsJoin Segment (e ∷ p) (l ∷ s)
+unfolding IsTransition
 untaken Advance e p l s takes j = (l ∷ [], s, (takes []).1 refl, j, refl)
 untaken Stay e p l s takes (front, behind, segment, j, cut) = (l ∷ front, behind, (takes front).1 segment, j, ap (λ rest. l ∷ rest) cut)
 untaken Reject e p l s takes j = absurd j
 
--- the place has the positions where the label leads from the ones before `k`, which is reached if an element stands there
+-- the place has the states to which the label leads from those before `k`, which is reached if there is an element
 pub record IsPassing (p : List Element) (from : Place) (l : Label) (k : ℕ) (onward : Place) : Type 0 where
   pub reachable : k < length p → (s : List Label) → IsJoin Segment (drop k p) s → CanContinue p from s
   pub sound : (s : List Label) → CanContinue p onward s → CanContinue p from (l ∷ s)
@@ -55,10 +55,10 @@ later zero (suc j) h = inr (omega arith)
 later (suc k) zero h = absurd (omega arith)
 later (suc k) (suc j) h = elim (later k j (omega arith)) [ inl e ↦ inl (ap suc e) | inr g ↦ inr (omega arith) ]
 
-no_label : (l : Label) (s : List Label) → l ∷ s ≡ [] → ⊥
+pub no_label : (l : Label) (s : List Label) → l ∷ s ≡ [] → ⊥
 no_label l s e = cc
 
--- from the first position on
+-- from the first state on
 pub passing_begins : (p : List Element) (from : Place) (l : Label) (onward : Place) (first : Option ℕ) (end : ℕ) → length p ≤ end → ((k : ℕ) → HasState onward k → ⊥) →
     MatchOption first ((k : ℕ) → 0 ≤ k → HasState from k → ⊥) (IsFirstState from 0) → IsPassing p from l (unwrap_or first end) onward
 passing_begins p from l onward None end long none nowhere = record {
@@ -75,7 +75,7 @@ passing_begins p from l onward (Some k) end long none first = record {
   ];
 }
 
--- behind the last element no label follows
+-- after the last element no label follows
 pub passing_ends : (p : List Element) (from : Place) (l : Label) (k : ℕ) (onward : Place) → length p ≤ k → IsPassing p from l k onward → IsSuccessorPlace p from l onward
 passing_ends p from l k onward past i s =
     let none : (j : ℕ) → k ≤ j → IsJoin Segment (drop j p) (l ∷ s) → ⊥ = λ j far m. no_label l s (subst (λ q. IsJoin Segment q (l ∷ s)) (drop_all j p (omega arith)) m) in (
@@ -87,7 +87,7 @@ passing_ends p from l k onward past i s =
       i.sound s,
     )
 
--- how the places before and after a mark stand to each other
+-- the continuations of a place to which a state was added: those of the old place, and those after the element's transition
 record Marked (t : Transition) (p : List Element) (k : ℕ) (e : Element) (old new : Place) : Type 0 where
   keeps : (s : List Label) → CanContinue p old s → CanContinue p new s
   adds : (s : List Label) → After t e (drop (k + 1) p) s → CanContinue p new s
@@ -118,7 +118,7 @@ marked Reject p k e old new here marks = record {
 
 module _ (p : List Element) (from : Place) (l : Label) (k : ℕ) (e : Element) (here : drop k p ≡ e ∷ drop (k + 1) p) where
   -- a reached element takes the label or is passed over
-  pub passed : (t : Transition) (end n : ℕ) (old new : Place) → k < length p → length p ≤ end → IsPassing p from l k old → Takes e l t → HasTransition t k old new →
+  pub passed : (t : Transition) (end n : ℕ) (old new : Place) → k < length p → length p ≤ end → IsPassing p from l k old → IsTransition e l t → HasTransition t k old new →
       IsNextState e from k end n → IsPassing p from l n new
   passed t end n old new within long i takes marks next =
       let m = marked t p k e old new here marks in
@@ -144,7 +144,7 @@ module _ (p : List Element) (from : Place) (l : Label) (k : ℕ) (e : Element) (
         ];
       }
 
--- the next position that is reached behind an element that may be empty
+-- the next state, which is reached after an element that may be empty
 pub reached_over : (e : Element) (from : Place) (k end : ℕ) → Segment e [] → IsNextState e from k end (k + 1)
 reached_over e from k end empty = record {
   onward = omega arith;
@@ -153,7 +153,7 @@ reached_over e from k end empty = record {
   skips_none = λ j far has. omega arith;
 }
 
--- and behind one that may not
+-- and after one that may not
 pub reached_next : (e : Element) (from : Place) (k end : ℕ) (first : Option ℕ) → k < end → (Segment e [] → ⊥) →
     MatchOption first ((j : ℕ) → k + 1 ≤ j → HasState from j → ⊥) (IsFirstState from (k + 1)) → IsNextState e from k end (unwrap_or first end)
 reached_next e from k end None within needed none = record {

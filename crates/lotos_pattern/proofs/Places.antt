@@ -9,7 +9,7 @@ use Rattle.std.proofs.lemmas.Nat.{shr-shr}
 use Rattle.std.proofs.lemmas.Nat.Bits.{bit_at-trailing_zeros, bit_at-zero, bit_at_above, bit_at_set_other, bit_at_set_same}
 use Rattle.lotos_pattern.specs.NfaStates.{HasState, IsFirstState, Place}
 
--- a word that is 0 has no position
+-- a word that is 0 has no state
 no_bit : (place : Place) (k : ℕ) → get_or place.words (k / 64) 0 ≡ 0 → HasState place k → ⊥
 no_bit place k none has = let off = ap (λ word. bit_at word (k % 64)) none ∙ bit_at-zero (k % 64) in omega (arith, off, has)
 
@@ -23,14 +23,14 @@ bare n k =
       | inr past ↦ get_or_past words (k / 64) 0 (omega arith)
     ])
 
--- behind the words is no position, and where before them is none either, there is none
+-- after the words there is no state; if there is none before them either, there is none
 pub none_past : (place : Place) (from n : ℕ) → length place.words ≤ n → ((j : ℕ) → from ≤ j → j < n * 64 → HasState place j → ⊥) → (k : ℕ) → from ≤ k → HasState place k → ⊥
 none_past place from n past before k behind has = elim (cases_lt k (n * 64)) [
   | inl h ↦ before k behind h has
   | inr h ↦ no_bit place k (get_or_past place.words (k / 64) 0 (omega arith)) has
 ]
 
--- a bit more in a word is a position more
+-- a bit more in a word is a state more
 pub added : (words : List ℕ) (n : ℕ) → n / 64 < length words → (k : ℕ) →
     let new = slice_set words (n / 64) (bit_or (get_or words (n / 64) 0) (1 * 2 ^ (n % 64) % 2 ^ 64)) in
     HasState (record { words = new }) k ↔ (HasState (record { words = words }) k ⊎ (k ≡ n))
@@ -60,7 +60,7 @@ added words n within k =
     ]
 
 module _ (place : Place) (n : ℕ) where
-  -- the positions from `n` on that stand in its word
+  -- the states from `n` on that are in its word
   shifted : (k : ℕ) → n ≤ k → k / 64 ≡ n / 64 → bit_at (get_or place.words (k / 64) 0) (k % 64) ≡ bit_at (get_or place.words (n / 64) 0 / 2 ^ (n % 64)) (k - n)
   shifted k from same =
       let word = get_or place.words (n / 64) 0 in

@@ -57,14 +57,14 @@ module _ (p : Pattern) (r : List Label) (l : Label) (place onward : Place) where
             subst (Matches p) (sym regrouped) ((stands (l ∷ s)).1 (follows p place (l ∷ s) before (All-cons (IsObservable p.strong) l s seen m.matched.observable))),
       )
 
-  -- a place with a position is that of a sequence that goes on to one that is matched
+  -- a place with a state is that of a sequence that some sequence completes to a match
   alive : All (CanOccur p.strong) p.elements → (k : ℕ) → HasState onward k → IsPlaceOf p (r ++ l ∷ []) onward → Viable p (r ++ l ∷ [])
   unfolding IsPlaceOf
   alive occur k has stands =
       let some = some_sequence p (drop k p.elements) (All-drop (CanOccur p.strong) k p.elements occur) in
       (some.0, (stands some.0).1 (record { position = k; has = has; matched = record { joined = some.1; observable = some.2 } }))
 
-  -- a place with a position stands, and the sequence goes on
+  -- if the label leads to a place with a state, the longer prefix can still match, and that place is its place
   pub goes_on : All (CanOccur p.strong) p.elements → IsObservable p.strong l → IsSuccessorPlace p.elements place l onward → (k : ℕ) × HasState onward k → IsPlaceOf p r place →
       Viable p (r ++ l ∷ []) × IsPlaceOf p (r ++ l ∷ []) onward
   goes_on occur seen leads_on (k, has) stands = let next = stepped seen leads_on stands in (alive occur k has next, next)
@@ -77,7 +77,7 @@ module _ (p : Pattern) (r : List Label) (l : Label) (place onward : Place) where
       let after = (leads_on s).0 (leads p place (l ∷ s) before) in
       none after.position after.has
 
--- what stands behind other labels can be observed where all can
+-- if all labels can be observed, so can those after others
 last_seen : (strong : Bool) (r : List Label) (l : Label) (s : List Label) → All (IsObservable strong) (r ++ l ∷ s) → IsObservable strong l
 last_seen strong [] l s h = All-head (IsObservable strong) l s h
 last_seen strong (x ∷ r) l s h = last_seen strong r l s (All-tail (IsObservable strong) x (r ++ l ∷ s) h)

@@ -5,7 +5,7 @@ use Rattle.lotos_pattern.specs.Patterns.{Element, IsJoin, Pattern, any, deadlock
 use Rattle.lotos_pattern.specs.Spelling.{IsWord, PatternOf, EqualsIgnoringCase, Spelling, Text}
 use Rattle.lotos_pattern.proofs.Words.{label_no_angle, no_angle, same_label}
 
--- the text of the word that an element begins with, where that stands in angle brackets
+-- the text of the word that an element begins with, if it is in angle brackets
 abbrev pub mark : Element → Text
 mark (one l) = []
 mark any = codes "<any>"
@@ -66,7 +66,7 @@ module _ (strong : Bool) where
     element : e ≡ f
     next_index : x ≡ y
 
-  -- behind words that mark the same, the second words are the same
+  -- after words that mark the same, the second words are the same
   second : (a b x y : List Text) (w v t u : Text) → a ≡ w ∷ t ∷ [] → b ≡ v ∷ u ∷ [] → a ++ x ≡ b ++ y → Alike t u x y
   second a b x y w v t u i j e = let h = alike a b x y (t ∷ []) (u ∷ []) w v i j e in alike (t ∷ []) (u ∷ []) x y [] [] t u refl refl h.rest
 

@@ -83,7 +83,7 @@ internal_spelled (b ∷ c ∷ bs) e = cc
 pub names_internal : (word : Text) → EqualsIgnoringCase word internal → Names true word internal
 names_internal word is = record { spelled = internal_spelled word is; named = inside is; observable = tt }
 
--- the text of the word at a place
+-- the text of the word at an index
 pub word_at : (words : List (Bor Text)) (place : ℕ) (other : Bor Text) → place < length words → slice_get (texts_of words) place ≡ Some (get_or words place other).now
 word_at [] place other within = absurd (omega arith)
 word_at (w ∷ ws) zero other within = refl
@@ -92,12 +92,12 @@ word_at (w ∷ ws) (suc place) other within = word_at ws place other (omega arit
 pub within_texts : (words : List (Bor Text)) (place : ℕ) → place < length words → place < length (texts_of words)
 within_texts words place within = let h = length-map words (λ word. word.now) in omega arith
 
--- the words from a place on
+-- the words from an index on
 pub drop_at : (words : List Text) (place : ℕ) (word : Text) → slice_get words place ≡ Some word → drop place words ≡ word ∷ drop (place + 1) words
 drop_at words place word is =
     drop_more words place word (slice_get_within words place word is) ∙ ap (λ w. w ∷ drop (place + 1) words) (get_or_from_slice_get words place word word is)
 
--- the words up to and with the one at a place
+-- the words up to and including the one at an index
 pub take_at : (words : List Text) (place : ℕ) (word : Text) → slice_get words place ≡ Some word → take (place + 1) words ≡ take place words ++ word ∷ []
 take_at words place word is =
     take_more words place word (slice_get_within words place word is) ∙ ap (λ w. take place words ++ w ∷ []) (get_or_from_slice_get words place word word is)

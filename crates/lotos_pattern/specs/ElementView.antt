@@ -2,21 +2,21 @@
 use Rattle.std.specs.Prelude.{◌≤◌, Bool, List, All, length, map}
 use Rattle.std.specs.String.{string_bytes}
 use Rattle.lotos_pattern.specs.Patterns.{Element, OnlyLastDemandsDeadlock, IsObservable, Pattern, any, deadlock, one, until, until_deadlock, while, while_any}
-use Rattle.lotos_pattern.specs.declared.element.Element.{Element as Kept}
-use Rattle.lotos_pattern.specs.declared.element.Element.TheVariants as kept
+use Rattle.lotos_pattern.specs.declared.element.Element.{Element as CodeElement}
+use Rattle.lotos_pattern.specs.declared.element.Element.TheVariants as code
 
 -- the view of an element
-abbrev pub element_of : Kept → Element
-element_of (kept.Label text) = one (string_bytes text)
-element_of kept.Any = any
-element_of (kept.Until text) = until (string_bytes text)
-element_of (kept.While text) = while (string_bytes text)
-element_of kept.WhileAny = while_any
-element_of kept.Deadlock = deadlock
-element_of kept.UntilDeadlock = until_deadlock
+abbrev pub element_of : CodeElement → Element
+element_of (code.Label text) = one (string_bytes text)
+element_of code.Any = any
+element_of (code.Until text) = until (string_bytes text)
+element_of (code.While text) = while (string_bytes text)
+element_of code.WhileAny = while_any
+element_of code.Deadlock = deadlock
+element_of code.UntilDeadlock = until_deadlock
 
 -- the views of elements
-abbrev pub elements_of : List Kept → List Element
+abbrev pub elements_of : List CodeElement → List Element
 elements_of = map element_of
 
 -- the pattern of these elements

@@ -1,10 +1,11 @@
 pub mod PatternLabels
 pub mod Patterns
 pub mod Spelling
-pub mod Faults
+pub mod PatternFaults
 pub mod NfaStates
 pub mod Places
 pub mod ElementView
 pub mod Transitions
+pub mod NfaTransitions
 pub mod PlaceTransitions
 pub mod WordKinds

@@ -1,5 +1,5 @@
 -- NFA states, and what may follow at a place.
-use Rattle.std.specs.Prelude.{◌≡◌, ℕ, ◌/◌, ◌%◌, ◌<◌, ◌≤◌, List, slice_index, drop}
+use Rattle.std.specs.Prelude.{◌≡◌, ℕ, ◌/◌, ◌%◌, ◌^◌, ◌<◌, ◌≤◌, List, All, length, slice_index, drop}
 use Rattle.std.specs.Int.{bit_at}
 use Rattle.lotos_pattern.specs.PatternLabels.{Label}
 use Rattle.lotos_pattern.specs.Patterns.{Matches, Pattern}
@@ -7,6 +7,11 @@ use Rattle.lotos_pattern.specs.Patterns.{Matches, Pattern}
 -- a place: a bit for each state, in words of 64 bits
 pub record Place : Type 0 where
   pub words : List ℕ
+
+-- the place is one that the program has: five words of 64 bits
+pub record IsPlaceValue (place : Place) : Type 0 where
+  pub count : length place.words ≡ 5
+  pub bounded : All (λ word. word < 2 ^ 64) place.words
 
 -- the state is in the place: `k` elements are done
 abbrev pub HasState : Place → ℕ → Type 0

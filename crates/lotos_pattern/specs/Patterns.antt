@@ -54,19 +54,19 @@ abbrev pub Viable : Pattern → List Label → Type 0
 Viable p r = (s : List Label) × Matches p (r ++ s)
 
 -- the element demands a deadlock at the end
-abbrev pub IsEnd : Element → Type 0
-IsEnd (one l) = ⊥
-IsEnd any = ⊥
-IsEnd (until l) = ⊥
-IsEnd (while l) = ⊥
-IsEnd while_any = ⊥
-IsEnd deadlock = Unit {0}
-IsEnd until_deadlock = Unit {0}
+abbrev pub ElementDemandsDeadlock : Element → Type 0
+ElementDemandsDeadlock (one l) = ⊥
+ElementDemandsDeadlock any = ⊥
+ElementDemandsDeadlock (until l) = ⊥
+ElementDemandsDeadlock (while l) = ⊥
+ElementDemandsDeadlock while_any = ⊥
+ElementDemandsDeadlock deadlock = Unit {0}
+ElementDemandsDeadlock until_deadlock = Unit {0}
 
 -- the last of the elements demands a deadlock at the end
 abbrev pub LastDemandsDeadlock : List Element → Type 0
 LastDemandsDeadlock [] = ⊥
-LastDemandsDeadlock (e ∷ []) = IsEnd e
+LastDemandsDeadlock (e ∷ []) = ElementDemandsDeadlock e
 LastDemandsDeadlock (e ∷ f ∷ p) = LastDemandsDeadlock (f ∷ p)
 
 -- a matched sequence must end in a deadlock
@@ -77,4 +77,4 @@ DemandsDeadlock p = LastDemandsDeadlock p.elements
 abbrev pub OnlyLastDemandsDeadlock : List Element → Type 0
 OnlyLastDemandsDeadlock [] = Unit {0}
 OnlyLastDemandsDeadlock (e ∷ []) = Unit {0}
-OnlyLastDemandsDeadlock (e ∷ f ∷ p) = (IsEnd e → ⊥) × OnlyLastDemandsDeadlock (f ∷ p)
+OnlyLastDemandsDeadlock (e ∷ f ∷ p) = (ElementDemandsDeadlock e → ⊥) × OnlyLastDemandsDeadlock (f ∷ p)

@@ -4,7 +4,7 @@ use Rattle.lotos_pattern.specs.PatternLabels.{Label}
 use Rattle.lotos_pattern.specs.Patterns.{Element, IsJoin, Segment}
 use Rattle.lotos_pattern.specs.NfaStates.{HasState, Place}
 use Rattle.lotos_pattern.specs.declared.element.Transition.{Transition}
-use Rattle.lotos_pattern.specs.declared.element.Transition.TheVariants as taking
+use Rattle.lotos_pattern.specs.declared.element.Transition.TheVariants as transition
 
 -- at some state of the place, what follows has a segment for each of the elements left
 pub record CanContinue (p : List Element) (place : Place) (s : List Label) : Type 0 where
@@ -26,6 +26,6 @@ pub record IsNextState (e : Element) (place : Place) (k end n : ℕ) : Type 0 wh
 
 -- the place has gained the state that the transition leads to from state `n`, if it leads to one
 abbrev pub HasTransition : Transition → ℕ → Place → Place → Type 0
-HasTransition taking.Advance n old new = (k : ℕ) → HasState new k ↔ (HasState old k ⊎ (k ≡ n + 1))
-HasTransition taking.Stay n old new = (k : ℕ) → HasState new k ↔ (HasState old k ⊎ (k ≡ n))
-HasTransition taking.Reject n old new = (k : ℕ) → HasState new k ↔ HasState old k
+HasTransition transition.Advance n old new = (k : ℕ) → HasState new k ↔ (HasState old k ⊎ (k ≡ n + 1))
+HasTransition transition.Stay n old new = (k : ℕ) → HasState new k ↔ (HasState old k ⊎ (k ≡ n))
+HasTransition transition.Reject n old new = (k : ℕ) → HasState new k ↔ HasState old k

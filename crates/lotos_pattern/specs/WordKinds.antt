@@ -3,21 +3,21 @@ use Rattle.std.specs.Prelude.{◌≡◌, ◌≢◌, ℕ, ◌+◌, ◌<◌, ◌�
 use Rattle.std.specs.String.{string_bytes}
 use Rattle.lotos_pattern.specs.Patterns.{Element, LastDemandsDeadlock}
 use Rattle.lotos_pattern.specs.Spelling.{Names, EqualsIgnoringCase, Spelling, Text}
-use Rattle.lotos_pattern.specs.Faults.{BeginsElement, BeginsNoElement, IsCause, IsInternal, IsUntil, IsWhile, SpellsNone}
+use Rattle.lotos_pattern.specs.PatternFaults.{BeginsElement, BeginsNoElement, IsCause, IsInternal, IsUntil, IsWhile, SpellsNone}
 use Rattle.lotos_pattern.specs.declared.fault.PatternFault.{PatternFault}
 use Rattle.lotos_pattern.specs.declared.fault.PatternFault.TheVariants.{E41, E42, E43, E44, E45, E48, E99}
 use Rattle.lotos_pattern.specs.declared.pattern_parser.WordKind.{WordKind}
-use Rattle.lotos_pattern.specs.declared.pattern_parser.WordKind.TheVariants as meaning
+use Rattle.lotos_pattern.specs.declared.pattern_parser.WordKind.TheVariants as word_kind
 
 -- what the word means on its own
 abbrev pub IsKindOfWord : (strong : Bool) → Text → WordKind → Type 0
-IsKindOfWord strong word (meaning.Label text) = Names strong word (string_bytes text)
-IsKindOfWord strong word meaning.Internal = IsInternal word × (strong ≡ false)
-IsKindOfWord strong word meaning.Any = EqualsIgnoringCase word (codes "<any>")
-IsKindOfWord strong word meaning.Until = IsUntil word
-IsKindOfWord strong word meaning.While = IsWhile word
-IsKindOfWord strong word meaning.Deadlock = EqualsIgnoringCase word (codes "<deadlock>")
-IsKindOfWord strong word meaning.Unknown = BeginsNoElement strong word
+IsKindOfWord strong word (word_kind.Label text) = Names strong word (string_bytes text)
+IsKindOfWord strong word word_kind.Internal = IsInternal word × (strong ≡ false)
+IsKindOfWord strong word word_kind.Any = EqualsIgnoringCase word (codes "<any>")
+IsKindOfWord strong word word_kind.Until = IsUntil word
+IsKindOfWord strong word word_kind.While = IsWhile word
+IsKindOfWord strong word word_kind.Deadlock = EqualsIgnoringCase word (codes "<deadlock>")
+IsKindOfWord strong word word_kind.Unknown = BeginsNoElement strong word
 
 -- another element may follow these
 pub record CanBeFollowed (p : List Element) : Type 0 where
@@ -25,20 +25,20 @@ pub record CanBeFollowed (p : List Element) : Type 0 where
   pub room : length p ≢ 256
 
 -- why no element may follow these, at the word with this number
-abbrev pub IsEndFault : List Element → ℕ → PatternFault → Type 0
-IsEndFault p n (E41 m) = ⊥
-IsEndFault p n (E42 m) = ⊥
-IsEndFault p n (E43 m) = LastDemandsDeadlock p × (m ≡ n)
-IsEndFault p n (E44 m) = (LastDemandsDeadlock p → ⊥) × (length p ≡ 256) × (m ≡ n)
-IsEndFault p n (E45 m) = ⊥
-IsEndFault p n (E48 m) = ⊥
-IsEndFault p n (E99 e) = ⊥
+abbrev pub IsAppendFault : List Element → ℕ → PatternFault → Type 0
+IsAppendFault p n (E41 m) = ⊥
+IsAppendFault p n (E42 m) = ⊥
+IsAppendFault p n (E43 m) = LastDemandsDeadlock p × (m ≡ n)
+IsAppendFault p n (E44 m) = (LastDemandsDeadlock p → ⊥) × (length p ≡ 256) × (m ≡ n)
+IsAppendFault p n (E45 m) = ⊥
+IsAppendFault p n (E48 m) = ⊥
+IsAppendFault p n (E99 e) = ⊥
 
 -- the words from index `place` up to index `behind` spell the element
 pub record ParsesAt (strong : Bool) (words : List Text) (place : ℕ) (e : Element) (behind : ℕ) : Type 0 where
   pub own : List Text
   pub spelling : Spelling strong e own
-  pub stands : take behind words ≡ take place words ++ own
+  pub located : take behind words ≡ take place words ++ own
   pub further : place < behind
   pub within : behind ≤ length words
 

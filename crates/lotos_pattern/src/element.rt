@@ -1,8 +1,8 @@
 //! Elements of a pattern, and their transitions on labels.
 ghost use Rattle.std.specs.Prelude.{◌↔◌, ◌≤◌, ℕ, MatchBool, [], drop};
-ghost use Rattle.lotos_pattern.specs.Patterns.{LastDemandsDeadlock, IsEnd, IsJoin, Segment};
+ghost use Rattle.lotos_pattern.specs.Patterns.{LastDemandsDeadlock, ElementDemandsDeadlock, IsJoin, Segment};
 ghost use Rattle.lotos_pattern.specs.ElementView.{element_of, elements_of};
-ghost use Rattle.lotos_pattern.specs.Transitions.{Takes};
+ghost use Rattle.lotos_pattern.specs.Transitions.{IsTransition};
 
 /// An element of a pattern. Labels are given by their printed texts.
 #[derive(Debug, Drop)]
@@ -36,7 +36,7 @@ pub(crate) enum Transition {
 impl Element {
     /// What the label, given by its printed text, does at the start of this element's segment.
     pub(crate) fn transition_on(&self, label: &str) -> Transition
-        ensures { Takes (element_of self.now) label.now result }
+        ensures { IsTransition (element_of self.now) label.now result }
     {
         match self {
             Element::Label(own) => {
@@ -83,8 +83,8 @@ impl Element {
     }
 
     /// Whether the element demands a deadlock at the end.
-    pub(crate) fn is_end(&self) -> bool
-        ensures { MatchBool result (IsEnd (element_of self.now)) (IsEnd (element_of self.now) → ⊥) }
+    pub(crate) fn demands_deadlock(&self) -> bool
+        ensures { MatchBool result (ElementDemandsDeadlock (element_of self.now)) (ElementDemandsDeadlock (element_of self.now) → ⊥) }
     {
         matches!(self, Element::Deadlock | Element::UntilDeadlock)
     }
@@ -92,10 +92,11 @@ impl Element {
 
 /// Whether the last of the elements demands a deadlock at the end.
 pub(crate) fn demands_deadlock(elements: &[Element]) -> bool
-    ensures { MatchBool result (LastDemandsDeadlock (elements_of elements.now)) (LastDemandsDeadlock (elements_of elements.now) → ⊥) }
+    ensures { MatchBool result (LastDemandsDeadlock (elements_of elements.now))
+        (LastDemandsDeadlock (elements_of elements.now) → ⊥) }
 {
     match elements.last() {
-        Some(last) => last.is_end(),
+        Some(last) => last.demands_deadlock(),
         None => false,
     }
 }

@@ -1,12 +1,14 @@
 //! Patterns, and the places of sequences in them.
-ghost use Rattle.std.specs.Prelude.{◌≡◌, ◌∷◌, ◌++◌, ◌<◌, [], List, IfErr, IfOk, MatchBool, MatchOption};
+ghost use Rattle.std.specs.Prelude.{◌≡◌, ◌↔◌, ◌∷◌, ◌++◌, ◌<◌, ℕ, [], List, IfErr, IfOk, IfSome, MatchBool, MatchOption};
 ghost use Rattle.lotos_pattern.specs.PatternLabels.{Label};
 ghost use Rattle.lotos_pattern.specs.Patterns.{IsObservable, Viable};
 ghost use Rattle.lotos_pattern.specs.ElementView.{element_of};
 ghost use Rattle.lotos_pattern.specs.Spelling.{PatternOf, texts_of};
-ghost use Rattle.lotos_pattern.specs.Faults.{IsCause, SpellsNone};
+ghost use Rattle.lotos_pattern.specs.PatternFaults.{IsCause, SpellsNone};
+ghost use Rattle.lotos_pattern.specs.NfaStates.{HasState, IsPlaceValue};
 ghost use Rattle.lotos_pattern.specs.Places.{Accepts, IsPlaceOf};
 ghost use Rattle.lotos_pattern.specs.PlaceTransitions.{HasTransition, IsNextState, CanContinue, IsSuccessorPlace};
+ghost use Rattle.lotos_pattern.specs.NfaTransitions.{HasStatesAfter, Leads};
 
 use crate::element::{Element, Transition, demands_deadlock, min_accepting_state};
 use crate::fault::PatternFault;
@@ -61,6 +63,8 @@ impl Pattern {
     pub fn begin(&self) -> Place
         ensures begins { IsPlaceOf self.now [] result }
         ensures viable { Viable self.now [] }
+        ensures states { HasStatesAfter self.now [] result }
+        ensures words { IsPlaceValue result }
     {
         // Reading a field brings in the invariant of patterns.
         let _ = &self.elements;
@@ -72,11 +76,14 @@ impl Pattern {
     /// The place after one more label, given by its printed text; `None` if no sequence that the pattern matches goes
     /// on like this.
     pub fn step(&self, place: Place, label: &str) -> Option<Place>
-        ensures { (r : List Label) → IsPlaceOf self.now r place →
+        ensures goes_on { (r : List Label) → IsPlaceOf self.now r place →
             MatchOption result (Viable self.now (r ++ label.now ∷ []) → ⊥)
             (λ q. Viable self.now (r ++ label.now ∷ []) × IsPlaceOf self.now (r ++ label.now ∷ []) q) }
+        ensures states { (r : List Label) → HasStatesAfter self.now r place →
+            IfSome result (HasStatesAfter self.now (r ++ label.now ∷ [])) }
+        ensures words { IfSome result IsPlaceValue }
     {
-        if is_hidden(self.strong, label) {
+        if is_unobservable(self.strong, label) {
             return None;
         }
         let next = self.successor_place(&place, label);
@@ -98,7 +105,10 @@ impl Pattern {
 
     /// The place after one more label, whether or not the label is observed.
     fn successor_place(&self, place: &Place, label: &str) -> Place
-        ensures { IsSuccessorPlace self.now.elements place.now label.now result }
+        ensures follows { IsSuccessorPlace self.now.elements place.now label.now result }
+        ensures states { (k : ℕ) → HasState result k ↔
+            ((j : ℕ) × HasState place.now j × Leads self.now.elements label.now j k) }
+        ensures words { IsPlaceValue result }
     {
         let elements = self.elements.as_slice();
         let end = elements.len();
@@ -114,14 +124,15 @@ impl Pattern {
 
     /// Whether the place has an accepting state.
     fn is_accepting(&self, place: &Place) -> bool
-        ensures { MatchBool result (CanContinue self.now.elements place.now []) (CanContinue self.now.elements place.now [] → ⊥) }
+        ensures { MatchBool result (CanContinue self.now.elements place.now [])
+            (CanContinue self.now.elements place.now [] → ⊥) }
     {
-        place.has_state(min_accepting_state(self.elements.as_slice()))
+        place.has_state_from(min_accepting_state(self.elements.as_slice()))
     }
 }
 
 /// Whether the label is not observed.
-fn is_hidden(strong: bool, label: &str) -> bool
+fn is_unobservable(strong: bool, label: &str) -> bool
     ensures { MatchBool result (IsObservable strong label.now → ⊥) (IsObservable strong label.now) }
 {
     !strong & (label == "i")
@@ -143,7 +154,8 @@ fn skip_empty_elements(element: &Element, place: &Place, state: usize, end: usiz
 /// Adds the state that a transition leads to from `state`, if it leads to one.
 fn apply_transition(place: &mut Place, transition: Transition, state: usize)
     requires { state < 256 }
-    ensures { HasTransition transition state place.old place.new }
+    ensures states { HasTransition transition state place.old place.new }
+    ensures words { IsPlaceValue place.old → IsPlaceValue place.new }
 {
     match transition {
         Transition::Advance => place.add(state + 1),

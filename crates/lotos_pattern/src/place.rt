@@ -28,11 +28,12 @@ impl Model for Place {
 
 impl Place {
     ghost use Rattle.std.specs.Prelude.{◌≡◌, ◌⊎◌, ◌↔◌, ◌<◌, ◌≤◌, ◌/◌, ℕ, MatchBool, MatchOption};
-    ghost use Rattle.lotos_pattern.specs.NfaStates.{HasState, IsFirstState};
+    ghost use Rattle.lotos_pattern.specs.NfaStates.{HasState, IsFirstState, IsPlaceValue};
 
     /// The empty set.
     pub(crate) fn empty() -> Place
-        ensures { (k : ℕ) → HasState result k → ⊥ }
+        ensures none { (k : ℕ) → HasState result k → ⊥ }
+        ensures words { IsPlaceValue result }
     {
         Place { words: [0; WORDS] }
     }
@@ -40,14 +41,16 @@ impl Place {
     /// Adds a state.
     pub(crate) fn add(&mut self, state: usize)
         requires { state < 257 }
-        ensures { (k : ℕ) → HasState self.new k ↔ (HasState self.old k ⊎ (k ≡ state)) }
+        ensures states { (k : ℕ) → HasState self.new k ↔ (HasState self.old k ⊎ (k ≡ state)) }
+        ensures words { IsPlaceValue self.new }
     {
         self.words[state / BITS] |= 1 << (state % BITS);
     }
 
     /// The first state from this one on, if there is one.
     pub(crate) fn first_state_from(&self, state: usize) -> Option<usize>
-        ensures { MatchOption result ((k : ℕ) → state ≤ k → HasState self.now k → ⊥) (IsFirstState self.now state) }
+        ensures { MatchOption result ((k : ℕ) → state ≤ k → HasState self.now k → ⊥)
+            (IsFirstState self.now state) }
     {
         let words = self.words.as_slice();
         let number = state / BITS;
@@ -81,7 +84,7 @@ impl Place {
     }
 
     /// Whether there is a state from this one on.
-    pub(crate) fn has_state(&self, state: usize) -> bool
+    pub(crate) fn has_state_from(&self, state: usize) -> bool
         ensures { MatchBool result ((k : ℕ) × (state ≤ k) × HasState self.now k)
             ((k : ℕ) → state ≤ k → HasState self.now k → ⊥) }
     {

@@ -4,7 +4,7 @@ use Rattle.std.proofs.lemmas.List.{append-nil}
 use Rattle.lotos_text.specs.AstView as t
 use Rattle.lotos_text.specs.AstView.{BehaviourView}
 use Rattle.lotos_text.specs.Grammar.{IsOfKind, located_name, prefixing, Spells, call}
-use Rattle.lotos_text.specs.Follow.{rank}
+use Rattle.lotos_text.specs.Follow.{precedence}
 use Rattle.lotos_text.specs.ParserContracts.{Phrase, DoesNotStartWith, Parses, StartsAlike, Fails}
 use Rattle.lotos_text.specs.Phrases.{Sequence, OptionalGates, BehaviourPhrase}
 use Rattle.lotos_text.specs.declared.token.Sign.TheVariants as s
@@ -19,9 +19,9 @@ use Rattle.lotos_text.proofs.Operands.{below_calls, not_bracket, taken_name}
 use Rattle.lotos_text.proofs.Sequences.{lost_first, lost_second}
 
 module _ (text : List ℕ) where
-  -- a name and its gates, with which nothing goes on, are a call
+  -- a name and its gates, which nothing continues, are a call
   pub found_call : (room : ℕ) (n : Token) (ts rest : List Token) (name : Placed) (names : List Placed) → IsOfKind n Identifier →
-      name ≡ located_name text n → Parses (OptionalGates text) ts names rest → rank rest < 5 →
+      name ≡ located_name text n → Parses (OptionalGates text) ts names rest → precedence rest < 5 →
       Parses (BehaviourPhrase text prefixing (Some room)) (n ∷ ts) (t.call name names) rest
   found_call room n ts rest name names i e f h = record {
     front = n ∷ f.front;
@@ -42,7 +42,7 @@ module _ (text : List ℕ) where
   abbrev Listed : Phrase (List Placed)
   Listed = Sequence alone (OptionalGates text) Ended
 
-  -- what stands behind the name of a call is lost, and so is the call
+  -- if what follows the name of a call fails, so does the call
   lost_listed : (n : Token) (ts rest : List Token) → IsOfKind n Identifier → DoesNotStartWith (Sign s.Semicolon) ts → Fails Listed ts rest →
       Fails (BehaviourPhrase text prefixing None) (n ∷ ts) rest
   lost_listed n ts rest i without l = record {
@@ -68,12 +68,12 @@ module _ (text : List ℕ) where
         ];
   }
 
-  -- where the gates are lost, so is the call
+  -- if the gates fail, so does the call
   pub lost_gates : (n : Token) (ts rest : List Token) → IsOfKind n Identifier → DoesNotStartWith (Sign s.Semicolon) ts →
       Fails (OptionalGates text) ts rest → Fails (BehaviourPhrase text prefixing None) (n ∷ ts) rest
   lost_gates n ts rest i without l = lost_listed n ts rest i without (lost_first alone (OptionalGates text) Ended ts rest l)
 
-  -- where something goes on with the call, it is no operand
+  -- if something continues the call, it is no operand
   pub lost_called : (n : Token) (ts between rest : List Token) (names : List Placed) → IsOfKind n Identifier →
       DoesNotStartWith (Sign s.Semicolon) ts → Parses (OptionalGates text) ts names between → Fails Ended between rest →
       Fails (BehaviourPhrase text prefixing None) (n ∷ ts) rest

@@ -18,12 +18,12 @@ begins_false front text h b =
     both_ways (starts_with nat_eq text front) h
     ((starts_is {E = nat_eq} Decides-eqb text front (starts_with nat_eq text front) refl).1 b.0 b.1)
 
--- where the closing of a piece at the front of a text stands
+-- the offset of the closing in the front of a text
 record Closing (front text : List ℕ) : Type 0 where
   at : ℕ
   behind_opening : 2 ≤ at
   long : length front ≡ at + 2
-  stands : StartsWith comment_closing (drop at text)
+  located : StartsWith comment_closing (drop at text)
 
 closing_of : (front rest text : List ℕ) → text ≡ front ++ rest → IsClosedComment front → Closing front text
 closing_of front rest text e c =
@@ -32,14 +32,14 @@ closing_of front rest text e c =
       at = suc (suc (length body));
       behind_opening = omega arith;
       long = ap length c.1 ∙ omega (arith, length-append body comment_closing);
-      stands = (
+      located = (
         rest,
         ap (drop (suc (suc (length body)))) (e ∙ ap (λ l. l ++ rest) c.1) ∙ ap (drop (length body)) (append_assoc body comment_closing rest) ∙
             drop-append_seam body (comment_closing ++ rest),
       );
     }
 
--- the offset stands behind the opening, and no closing stands between
+-- the offset is after the opening, and no closing is between
 pub record NoneBefore (text : List ℕ) (at : ℕ) : Type 0 where
   pub behind_opening : 2 ≤ at
   pub inside : at ≤ length text
@@ -53,7 +53,7 @@ rest_of text at = take (length text - at) (drop at text)
 pub rest_is : (text : List ℕ) (at : ℕ) → rest_of text at ≡ drop at text
 rest_is text at = take_all (length text - at) (drop at text) (omega (arith, length-drop at text))
 
--- where none stands at the offset either, none stands before the one behind it
+-- if there is none at the offset either, there is none before the next offset
 pub none_step : (text : List ℕ) (at : ℕ) → NoneBefore text at → at < length text → starts_with nat_eq (rest_of text at) comment_closing ≡ false →
     NoneBefore text (at + 1)
 none_step text at n s h = record {
@@ -68,13 +68,13 @@ none_step text at n s h = record {
   ];
 }
 
--- so the closing of a closed beginning stands at the offset or behind it
+-- so a closing is at the offset or after it
 closed_behind : (front rest text : List ℕ) (at : ℕ) → NoneBefore text at → text ≡ front ++ rest → IsClosedComment front → at + 2 ≤ length front
 closed_behind front rest text at n e c =
     let k = closing_of front rest text e c in
     elim (cases_order k.at at) [
       | inl same ↦ omega (arith, same, k.long)
-      | inr (inl less) ↦ absurd (n.none k.at k.behind_opening less k.stands)
+      | inr (inl less) ↦ absurd (n.none k.at k.behind_opening less k.located)
       | inr (inr more) ↦ omega (arith, more, k.long)
     ]
 
@@ -120,7 +120,7 @@ comment_found text at o n h =
       inside,
     )
 
--- where no closing stands before the end, none closes the comment
+-- if there is no closing before the end, none closes the comment
 pub comment_open : (text : List ℕ) (at : ℕ) → StartsWith comment_opening text → NoneBefore text at → length text ≤ at → IsUnclosedComment text
 comment_open text at o n h = record {
   opens = o;

@@ -18,9 +18,9 @@ one_opening : (n : Token) → opens_construct n.kind ≡ true → count_openings
 one_opening n e = ap (λ b. 0 + cond b 1 0) e
 
 module _ (text : List ℕ) where
-  -- rows
+  -- lists of definitions
 
-  -- a process and nothing that is a process behind it are a row
+  -- a process that no other process follows is a list
   pub found_last_process : (inner room : ℕ) (ts after behind : List Token) (n : Token) (d : DefinitionView) → inner + 1 ≤ room →
       ts ≡ n ∷ after →
       IsOfKind n (Reserved w.ProcessWord) → Parses (DefinitionRest text a_process (Some inner)) after d behind →
@@ -34,7 +34,7 @@ module _ (text : List ℕ) where
         whole = record { nesting = q.0 + 1; several = last q.1; ends = g; within = (let j = q.2 in omega (arith, h, j)) };
       }
 
-  -- a process goes before a row
+  -- a process and a list after it are a list
   pub found_more_processes : (inner room : ℕ) (ts after behind rest : List Token) (n : Token) (d : DefinitionView) (ds : DefinitionListView) →
       inner + 1 ≤ room →
       ts ≡ n ∷ after → IsOfKind n (Reserved w.ProcessWord) → Parses (DefinitionRest text a_process (Some inner)) after d behind →
@@ -53,7 +53,7 @@ module _ (text : List ℕ) where
         };
       }
 
-  -- the first token of a row, and the others
+  -- the first token of a list, and the others
   record Begins (own : List Token) : Type 0 where
     pub word : Token
     pub others : List Token
@@ -69,7 +69,7 @@ module _ (text : List ℕ) where
       let b = process_begins d in
       record { word = b.word; others = b.others ++ others; joined = ap (λ m. m ++ others) b.joined; is = b.is }
 
-  -- where the word `process` is lost, so is the row
+  -- if the keyword `process` fails, so does the list
   pub lost_word : (limit : NestingLimit) (ts rest : List Token) → Fails (OneToken (Reserved w.ProcessWord)) ts rest →
       Fails (DefinitionList text limit) ts rest
   lost_word limit ts rest l = record {
@@ -91,7 +91,7 @@ module _ (text : List ℕ) where
       h first (others ++ behind) d (e ∙ append_assoc first others behind)
       (as_definition text inner (others ++ behind) p (to n (within_first limit (n + 1) m v)))
 
-  -- where the first process is lost, so is the row
+  -- if the first process fails, so does the list
   lost_process : (inner limit : NestingLimit) (ts after rest : List Token) (n : Token) →
       ((n : ℕ) → IsNestingWithin limit (n + 1) → IsNestingWithin inner n) →
       ts ≡ n ∷ after → IsOfKind n (Reserved w.ProcessWord) → Fails (DefinitionRest text a_process inner) after rest →
@@ -105,7 +105,7 @@ module _ (text : List ℕ) where
             (λ a b d e q. l.never more a b d st e q) e p.several p.within;
       }
 
-  -- the contents of a process carry to the row what is lost in them
+  -- an error inside a process is an error of the list
   pub carries_process : (inner room : ℕ) (ts after : List Token) (n : Token) → inner + 1 ≡ room → ts ≡ n ∷ after →
       IsOfKind n (Reserved w.ProcessWord) → Carries (DefinitionRest text a_process) inner after (DefinitionList text) room ts
   carries_process inner room ts after n h e i = record {
@@ -132,7 +132,7 @@ module _ (text : List ℕ) where
       (as_definition text None (own ++ rest) q tt) (e ∙ append_assoc first own rest) in
       h own es one.rest (record { nesting = k; several = qs; ends = ends; within = within_second limit (n + 1) k v })
 
-  -- a row that is lost behind a process is lost with it
+  -- if a list fails after a process, so does the list with that process
   lost_more_processes : (inner : ℕ) (limit : NestingLimit) (ts after behind rest others : List Token) (n m : Token) (d : DefinitionView) →
       ts ≡ n ∷ after →
       IsOfKind n (Reserved w.ProcessWord) → Parses (DefinitionRest text a_process (Some inner)) after d behind → behind ≡ m ∷ others →
@@ -150,7 +150,7 @@ module _ (text : List ℕ) where
             (λ a es h r. l.never more a last es st h r) (sym (append_assoc p.front l.front more) ∙ e) q.several q.within;
       }
 
-  -- a row carries to the row with a process before it what is lost in it
+  -- an error in a list is an error of the list with a process before it
   pub carries_more : (inner room : ℕ) (ts after behind others : List Token) (n m : Token) (d : DefinitionView) → ts ≡ n ∷ after →
       IsOfKind n (Reserved w.ProcessWord) → Parses (DefinitionRest text a_process (Some inner)) after d behind → behind ≡ m ∷ others →
       IsOfKind m (Reserved w.ProcessWord) → Carries (DefinitionList text) room behind (DefinitionList text) room ts
@@ -164,7 +164,7 @@ module _ (text : List ℕ) where
         crowds = omega arith;
       }
 
-  -- the whole row carries what is lost in it
+  -- an error inside a list is an error of the list
   pub carries_all : (room : ℕ) (ts : List Token) → Carries (DefinitionList text) room ts (DefinitionList text) room ts
   carries_all room ts = record {
     free = λ rest l. l;
@@ -178,7 +178,7 @@ module _ (text : List ℕ) where
   never_shallow (last d) h = omega (arith, h)
   never_shallow (another d ds) h = omega (arith, h)
 
-  -- where there is no room, the word `process` is one too many
+  -- with no nesting left, the keyword `process` is too deep
   pub deep_process : (room : ℕ) (ts after : List Token) (n : Token) → room ≡ 0 → ts ≡ n ∷ after → IsOfKind n (Reserved w.ProcessWord) →
       IsTooDeepAt (DefinitionList text) room ts n
   deep_process room ts after n h e i = record {
@@ -194,12 +194,12 @@ module _ (text : List ℕ) where
 
   -- inner definitions
 
-  -- where no `where` stands, there are none
+  -- without the keyword `where` there are none
   pub found_no_inner : (limit : NestingLimit) (ts : List Token) → DoesNotStartWith (Reserved w.WhereWord) ts →
       Parses (WherePhrase text limit) ts no_defs ts
   found_no_inner limit ts h = record { front = []; joined = refl; whole = no_inner h }
 
-  -- the word and a row
+  -- the keyword and a list
   pub found_inner : (limit : NestingLimit) (ts after rest : List Token) (n : Token) (ds : DefinitionListView) → ts ≡ n ∷ after →
       IsOfKind n (Reserved w.WhereWord) →
       Parses (DefinitionList text limit) after ds rest → Parses (WherePhrase text limit) ts ds rest
@@ -213,10 +213,10 @@ module _ (text : List ℕ) where
       IsOfKind n (Reserved w.WhereWord) →
       ((a : List Token) → front ++ more ≡ a ++ behind → DefinitionList text limit a said behind → ⊥) →
       n ∷ (front ++ more) ≡ own ++ behind → WherePhrase text limit own said behind → ⊥
-  never_inner limit n front more i h e (no_inner {behind = behind} g) = not_first _ behind (front ++ more) g i (sym e)
-  never_inner limit n front more i h e (some_inner {own = own} j r) = h own (tail_same e) r
+  never_inner limit n front more i h e (no_inner {rest = behind} g) = not_first _ behind (front ++ more) g i (sym e)
+  never_inner limit n front more i h e (some_inner {tokens = own} j r) = h own (tail_same e) r
 
-  -- where the row is lost, so are the inner definitions
+  -- if the list fails, so do the inner definitions
   lost_row : (limit : NestingLimit) (ts after rest : List Token) (n : Token) → ts ≡ n ∷ after → IsOfKind n (Reserved w.WhereWord) →
       Fails (DefinitionList text limit) after rest → Fails (WherePhrase text limit) ts rest
   lost_row limit ts after rest n e i l = record {
@@ -225,7 +225,7 @@ module _ (text : List ℕ) where
     never = λ more own behind said st e p. never_inner limit n l.front more i (λ a e r. l.never more a behind said st e r) e p;
   }
 
-  -- the row carries to the inner definitions what is lost in it
+  -- an error inside the list is an error of the inner definitions
   pub carries_row : (room : ℕ) (ts after : List Token) (n : Token) → ts ≡ n ∷ after → IsOfKind n (Reserved w.WhereWord) →
       Carries (DefinitionList text) room after (WherePhrase text) room ts
   carries_row room ts after n e i = record {

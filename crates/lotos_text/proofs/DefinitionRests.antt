@@ -49,7 +49,7 @@ module _ (text : List ℕ) (what : DefinitionKind) where
   found_open limit ts r q p heading x inner f g h = found_then make_definition (Outer limit) (WherePhrase text limit) ts q p (heading, x) inner
       (make_definition (heading, x) inner) (found_outer limit ts r q heading x f g) h refl
 
-  -- header, body, inner definitions and the last word are the contents
+  -- header, body, inner definitions and the last keyword are a definition after its first keyword
   pub found_contents : (limit : NestingLimit) (ts r q p rest : List Token) (n : Token) (heading : HeaderValue) (x : BehaviourView) (inner : DefinitionListView) →
       Parses (HeaderPhrase text) ts heading r → Parses (BodyPhrase text what limit) r x q → Parses (WherePhrase text limit) q inner p → p ≡ n ∷ rest →
       IsOfKind n (closing_word what) → Parses (DefinitionRest text what limit) ts (make_definition (heading, x) inner) rest
@@ -60,7 +60,7 @@ module _ (text : List ℕ) (what : DefinitionKind) where
   lost_outer limit ts rest l = lost_within (Open limit) (closing_word what) ts rest
       (lost_first make_definition (Outer limit) (WherePhrase text limit) ts rest l)
 
-  -- where the header is lost, so are the contents
+  -- if the header fails, so does the definition
   pub lost_header : (limit : NestingLimit) (ts rest : List Token) → Fails (HeaderPhrase text) ts rest → Fails (DefinitionRest text what limit) ts rest
   lost_header limit ts rest l = lost_outer limit ts rest (lost_first bodied (HeaderPhrase text) (BodyPhrase text what limit) ts rest l)
 
@@ -69,13 +69,13 @@ module _ (text : List ℕ) (what : DefinitionKind) where
   lost_body limit ts r rest heading f l = lost_outer limit ts rest
       (lost_second bodied (HeaderPhrase text) (BodyPhrase text what limit) (firm_header text) ts r rest heading f l)
 
-  -- where the sign behind the header is lost, so are the contents
+  -- if the sign after the header fails, so does the definition
   pub lost_sign : (limit : NestingLimit) (ts r rest : List Token) (heading : HeaderValue) → Parses (HeaderPhrase text) ts heading r →
       Fails (OneToken (defining_sign what)) r rest → Fails (DefinitionRest text what limit) ts rest
   lost_sign limit ts r rest heading f l = lost_body limit ts r rest heading f
       (lost_before (defining_sign what) (BehaviourPhrase text enabling limit) r rest l)
 
-  -- where the behaviour behind the sign is lost, so are the contents
+  -- if the behaviour after the sign fails, so does the definition
   pub lost_behaviour : (limit : NestingLimit) (ts r between rest : List Token) (n : Token) (heading : HeaderValue) →
       Parses (HeaderPhrase text) ts heading r →
       r ≡ n ∷ between → IsOfKind n (defining_sign what) → Fails (BehaviourPhrase text enabling limit) between rest →
@@ -83,7 +83,7 @@ module _ (text : List ℕ) (what : DefinitionKind) where
   lost_behaviour limit ts r between rest n heading f e i l = lost_body limit ts r rest heading f
       (lost_behind (defining_sign what) (BehaviourPhrase text enabling limit) r between rest n e i l)
 
-  -- where the inner definitions behind the body are lost, so are the contents
+  -- if the inner definitions after the body fail, so does the definition
   pub lost_inner : (found limit : NestingLimit) (ts r q rest : List Token) (heading : HeaderValue) (x : BehaviourView) →
       Parses (HeaderPhrase text) ts heading r →
       Parses (BodyPhrase text what found) r x q → Fails (WherePhrase text limit) q rest → Fails (DefinitionRest text what limit) ts rest
@@ -91,14 +91,14 @@ module _ (text : List ℕ) (what : DefinitionKind) where
       (lost_after make_definition Outer (WherePhrase text limit) found limit firm_outer ts q rest (heading, x)
       (found_outer found ts r q heading x f g) l)
 
-  -- where the last word is lost, so are the contents
+  -- if the last keyword fails, so does the definition
   pub lost_closing : (found limit : NestingLimit) (ts r q p rest : List Token) (heading : HeaderValue) (x : BehaviourView) (inner : DefinitionListView) →
       Parses (HeaderPhrase text) ts heading r → Parses (BodyPhrase text what found) r x q → Parses (WherePhrase text found) q inner p →
       Fails (OneToken (closing_word what)) p rest → Fails (DefinitionRest text what limit) ts rest
   lost_closing found limit ts r q p rest heading x inner f g h l = lost_after (λ said token. said) Open (OneToken (closing_word what))
       found limit firm_open ts p rest (make_definition (heading, x) inner) (found_open found ts r q p heading x inner f g h) l
 
-  -- the behaviour carries to the contents what is lost in it
+  -- an error inside the behaviour is an error of the definition
   pub carries_behaviour : (room : ℕ) (ts r between : List Token) (n : Token) (heading : HeaderValue) →
       Parses (HeaderPhrase text) ts heading r →
       r ≡ n ∷ between → IsOfKind n (defining_sign what) →
@@ -111,7 +111,7 @@ module _ (text : List ℕ) (what : DefinitionKind) where
     crowds = omega arith;
   }
 
-  -- so do the inner definitions
+  -- so is one inside the inner definitions
   pub carries_inner : (room : ℕ) (ts r q : List Token) (heading : HeaderValue) (x : BehaviourView) → Parses (HeaderPhrase text) ts heading r →
       Parses (BodyPhrase text what (Some room)) r x q → Carries (WherePhrase text) room q (DefinitionRest text what) room ts
   carries_inner room ts r q heading x f g =

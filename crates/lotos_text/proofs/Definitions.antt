@@ -3,7 +3,7 @@ use Rattle.std.proofs.Common.{◌≡◌, ℕ, ◌+◌, max, List, [], ◌∷◌,
 use Rattle.lotos_text.specs.AstView as t
 use Rattle.lotos_text.specs.AstView.{BehaviourView, DefinitionView, DefinitionListView}
 use Rattle.lotos_text.specs.Grammar.{IsOfKind, located_name, GateList, IsFunctionality, enabling, DefinitionKind, a_specification, a_process, opening_word, defining_sign, closing_word, SpellsDefinition, definition, SpellsWhere, nothing, definitions, SpellsDefinitions, last, another, SpellsSpecification}
-use Rattle.lotos_text.specs.Follow.{kind_rank, rank}
+use Rattle.lotos_text.specs.Follow.{kind_precedence, precedence}
 use Rattle.lotos_text.specs.ParserContracts.{Phrase, NestingLimit, IsNestingWithin, DoesNotStartWith}
 use Rattle.lotos_text.specs.Phrases.{Sequence, BehaviourPhrase, OneFunctionality, HeaderValue, HeaderPhrase, BodyPhrase, DefinitionList, WherePhrase, no_inner, some_inner, make_definition, DefinitionRest, ProcessDefinition}
 use Rattle.lotos_text.specs.declared.token.Token.{Token}
@@ -26,7 +26,7 @@ four_lists a b c d r =
 
 -- what a definition ends with goes on with nothing, and begins no inner definitions
 
-closing_rank : (what : DefinitionKind) → kind_rank (closing_word what) ≡ 0
+closing_rank : (what : DefinitionKind) → kind_precedence (closing_word what) ≡ 0
 closing_rank a_specification = refl
 closing_rank a_process = refl
 
@@ -59,11 +59,11 @@ pub record SameNested {A : Type 0} (a b : List Token) (n m : ℕ) (x y : A) (r q
   pub rest : r ≡ q
 
 module _ (text : List ℕ) where
-  -- no operator stands behind the body of a definition
-  rest_rank : {m : ℕ} {own : List Token} {inner : DefinitionListView} (behind : List Token) → SpellsWhere text m own inner → rank behind ≡ 0 →
-      rank (own ++ behind) ≡ 0
+  -- no operator follows the body of a definition
+  rest_rank : {m : ℕ} {own : List Token} {inner : DefinitionListView} (behind : List Token) → SpellsWhere text m own inner → precedence behind ≡ 0 →
+      precedence (own ++ behind) ≡ 0
   rest_rank behind nothing e = e
-  rest_rank behind (definitions i d) e = ap kind_rank i.same
+  rest_rank behind (definitions i d) e = ap kind_precedence i.same
 
   -- a definition of a process begins with that word
   process_first : {n : ℕ} {own : List Token} {d : DefinitionView} (behind : List Token) → SpellsDefinition text a_process n own d →
@@ -122,7 +122,7 @@ module _ (text : List ℕ) where
           rest = h.rest;
         }
 
-    -- one list begins with one row of definitions, behind which no other follows
+    -- one list begins with one list of definitions that no other definition follows
     pub unique_several : {n m : ℕ} {a b : List Token} {x y : DefinitionListView} (r q : List Token) → SpellsDefinitions text n a x →
         SpellsDefinitions text m b y → a ++ r ≡ b ++ q →
         DoesNotStartWith (Reserved w.ProcessWord) r → DoesNotStartWith (Reserved w.ProcessWord) q → SameNested a b n m x y r q
@@ -160,7 +160,7 @@ module _ (text : List ℕ) where
   abbrev Told : DefinitionKind → NestingLimit → Phrase DefinitionView
   Told what limit = Sequence make_definition (Headed what limit) (WherePhrase text limit)
 
-  -- a row of definitions is the only one
+  -- a list of definitions is unique
   pub firm_row : FirmWithin (DefinitionList text)
   firm_row l m a b r more q x y p st o e =
       let h = unique_several more q p.several o.several e (starts_not _ r more st p.ends) o.ends in
@@ -169,11 +169,11 @@ module _ (text : List ℕ) where
   -- so are the inner definitions
   pub firm_inner : FirmWithin (WherePhrase text)
   firm_inner l m _ _ r more q _ _ (no_inner h) st (no_inner g) e = record { tokens = refl; said = refl; rest = e }
-  firm_inner l m _ _ r more q _ _ (no_inner h) st (some_inner {own = own} i p) e =
+  firm_inner l m _ _ r more q _ _ (no_inner h) st (some_inner {tokens = own} i p) e =
       absurd (not_first _ more (own ++ q) (starts_not _ r more st h) i e)
-  firm_inner l m _ _ r more q _ _ (some_inner {own = own} i p) st (no_inner h) e =
+  firm_inner l m _ _ r more q _ _ (some_inner {tokens = own} i p) st (no_inner h) e =
       absurd (not_first _ q (own ++ more) h i (sym e))
-  firm_inner l m _ _ r more q x y (some_inner {own = a} i p) st (some_inner {own = b} j o) e =
+  firm_inner l m _ _ r more q x y (some_inner {tokens = a} i p) st (some_inner {tokens = b} j o) e =
       let h = firm_row l m a b r more q x y p st o (tail_same e) in
       record { tokens = (let a = head_same e in let b = h.tokens in cc); said = h.said; rest = h.rest }
 
@@ -185,7 +185,7 @@ module _ (text : List ℕ) where
   firm_told : (what : DefinitionKind) → FirmWithin (Told what)
   firm_told what = firm_then_within make_definition (Headed what) (WherePhrase text) (firm_headed what) firm_inner
 
-  -- so is what stands behind the first word of a definition
+  -- so is what follows the first keyword of a definition
   pub firm_contents : (what : DefinitionKind) → FirmWithin (DefinitionRest text what)
   firm_contents what = firm_before_within (Told what) (closing_word what) (firm_told what)
 

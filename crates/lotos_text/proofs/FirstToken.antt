@@ -1,7 +1,7 @@
 -- The first token of a list, and of lists that start alike.
 use Rattle.std.proofs.Common.{◌≡◌, List, [], ◌∷◌, ◌++◌, refl, sym, ◌∙◌, ap}
 use Rattle.lotos_text.specs.Grammar.{IsOfKind}
-use Rattle.lotos_text.specs.Follow.{rank}
+use Rattle.lotos_text.specs.Follow.{precedence}
 use Rattle.lotos_text.specs.ParserContracts.{DoesNotStartWith, StartsAlike}
 use Rattle.lotos_text.specs.declared.token.Token.{Token}
 use Rattle.lotos_text.specs.declared.token.TokenKind.{TokenKind}
@@ -42,11 +42,11 @@ starts_not k (n ∷ ns) [] st h = absurd (let e = st.1 in cc)
 starts_not k (n ∷ ns) (m ∷ ms) st h = λ i. h (same_is i (head_same st.1))
 
 -- its first token ranks alike
-pub starts_rank : (rest more : List Token) → StartsAlike rest more → rank more ≡ rank rest
-starts_rank [] more st = ap rank st
-starts_rank (n ∷ ns) more st = ap rank st.1
+pub starts_rank : (rest more : List Token) → StartsAlike rest more → precedence more ≡ precedence rest
+starts_rank [] more st = ap precedence st
+starts_rank (n ∷ ns) more st = ap precedence st.1
 
--- behind the same front it starts alike still
+-- after the same tokens it still starts alike
 pub starts_behind : (front rest more : List Token) → StartsAlike rest more → StartsAlike (front ++ rest) (front ++ more)
 starts_behind [] rest more st = st
 starts_behind (n ∷ front) rest more st = (front ++ more, refl)

@@ -3,7 +3,7 @@ use Rattle.std.proofs.Common.{◌≡◌, ℕ, ◌+◌, ◌<◌, max, Bool, true,
 use Rattle.lotos_text.specs.AstView as t
 use Rattle.lotos_text.specs.AstView.{BehaviourView}
 use Rattle.lotos_text.specs.Grammar.{IsOfKind, located_name, GateList, gate, internal, Level, enabling, prefixing, BindsTighter, Operator, apply, IsOperator, Spells, stop, exit, parentheses, call, prefix, tighter, operation, hide}
-use Rattle.lotos_text.specs.Follow.{rank, bound}
+use Rattle.lotos_text.specs.Follow.{precedence, bound}
 use Rattle.lotos_text.specs.declared.token.Token.{Token}
 use Rattle.lotos_text.specs.declared.token.TokenKind.TheVariants.{Sign}
 use Rattle.lotos_text.specs.declared.token.Sign.TheVariants as s
@@ -37,7 +37,7 @@ module _ (text : List ℕ) where
   -- the spelling is the only one of its level
   abbrev One : Level → Bool → ℕ → List Token → BehaviourView → List Token → Type 0
   One l o n a x r = (q b : List Token) (p : Bool) (m : ℕ)
-      (y : BehaviourView) → Spells text l p m b y → a ++ r ≡ b ++ q → rank q < bound l p → SameSpelling a b o p n m x y r q
+      (y : BehaviourView) → Spells text l p m b y → a ++ r ≡ b ++ q → precedence q < bound l p → SameSpelling a b o p n m x y r q
 
   same_leaf : {n : Token} {z y : BehaviourView} {p : Bool} {m : ℕ} {b : List Token} (r q : List Token) → Leaf n z p m b y →
       n ∷ r ≡ b ++ q → SameSpelling (n ∷ []) b false p 0 m z y r q
@@ -51,8 +51,8 @@ module _ (text : List ℕ) where
 
   same_call : {n : Token} {p : Bool} {m : ℕ} {ts b : List Token} {names : List Placed} {y : BehaviourView} (r q : List Token) →
       GateList text ts names →
-      Called text n p m b y q (ts ++ r) ⊎ Prefixed text n (Gate (located_name text n)) p m b y q (ts ++ r) → rank r < 5 →
-      rank q < bound prefixing p → SameSpelling (n ∷ ts) b false p 0 m (t.call (located_name text n) names) y r q
+      Called text n p m b y q (ts ++ r) ⊎ Prefixed text n (Gate (located_name text n)) p m b y q (ts ++ r) → precedence r < 5 →
+      precedence q < bound prefixing p → SameSpelling (n ∷ ts) b false p 0 m (t.call (located_name text n) names) y r q
   same_call {p = p} r q g (inl f) hr hq =
       let h = unique_gates text r q g f.gates (sym f.rest) (λ e. not_bracket r hr) (λ e. not_bracket q (below_calls p q hq)) in
       record {
@@ -66,7 +66,7 @@ module _ (text : List ℕ) where
 
   same_prefix : {act c : Token} {o p : Bool} {n m : ℕ} {ts b : List Token} {a : Action} {x y : BehaviourView} (r q : List Token) →
       One prefixing o n ts x r →
-      Prefixed text act a p m b y q (c ∷ ts ++ r) → rank q < bound prefixing p → SameSpelling (act ∷ c ∷ ts) b o p (n + 1) m
+      Prefixed text act a p m b y q (c ∷ ts ++ r) → precedence q < bound prefixing p → SameSpelling (act ∷ c ∷ ts) b o p (n + 1) m
       (t.prefix a x) y r q
   same_prefix {p = p} r q one f hq =
       let h = one q f.body p f.depth f.after f.spells (sym (tail_same f.rest)) hq in
@@ -81,30 +81,30 @@ module _ (text : List ℕ) where
   same_gate : {n c : Token} {o p : Bool} {k m : ℕ} {ts b : List Token} {x y : BehaviourView} (r q : List Token) →
       IsOfKind c (Sign s.Semicolon) → One prefixing o k ts x r →
       Called text n p m b y q (c ∷ ts ++ r) ⊎ Prefixed text n (Gate (located_name text n)) p m b y q (c ∷ ts ++ r) →
-      rank q < bound prefixing p → SameSpelling (n ∷ c ∷ ts) b o p (k + 1) m (t.prefix (Gate (located_name text n)) x) y r q
+      precedence q < bound prefixing p → SameSpelling (n ∷ c ∷ ts) b o p (k + 1) m (t.prefix (Gate (located_name text n)) x) y r q
   same_gate {p = p} {ts = ts} r q i one (inl f) hq = absurd (not_listed text q (ts ++ r) f.gates f.rest i (below_calls p q hq))
   same_gate r q i one (inr f) hq = same_prefix r q one f hq
 
   same_alone : {l m : Level} {o p : Bool} {n k : ℕ} {a b : List Token} {x y : BehaviourView} (r q : List Token) → BindsTighter l m →
       One m o n a x r → Levelled text l m p k b y →
-      a ++ r ≡ b ++ q → rank r < bound l o → rank q < bound l p → SameSpelling a b o p n k x y r q
+      a ++ r ≡ b ++ q → precedence r < bound l o → precedence q < bound l p → SameSpelling a b o p n k x y r q
   same_alone {p = p} r q u one (alone {n = k} {own = b} {x = y} d) e hr hq = one q b p k y d e
       (let h = bound_below p u in omega (arith, h, hq))
   same_alone {l = l} {o = o} r q u one (operated {nl = nl} {left = left} {op = op} {right = right} {x = z} d i f) e hr hq =
       let h = one (op ++ (right ++ q)) left false nl z d (e ∙ join_assoc left op right q)
       (let g = operator_below text u i in let f = operator_rank text (right ++ q) i in omega (arith, f, g)) in
-      absurd (let f = operator_rank text (right ++ q) i in let g = ap rank h.rest in let k = bound_most l o in omega
+      absurd (let f = operator_rank text (right ++ q) i in let g = ap precedence h.rest in let k = bound_most l o in omega
       (arith, f, g, k, hr))
 
   same_operated : {l m : Level} {o p : Bool} {nl nr k : ℕ} {left op right b : List Token} {x y z : BehaviourView} {how : Operator}
       (r q : List Token) → BindsTighter l m →
       One m false nl left x (op ++ (right ++ r)) → IsOperator text l op how → One l o nr right y r → Levelled text l m p k b z →
-      (left ++ op ++ right) ++ r ≡ b ++ q → rank q < bound l p →
+      (left ++ op ++ right) ++ r ≡ b ++ q → precedence q < bound l p →
       SameSpelling (left ++ op ++ right) b o p (max nl (nr + 1)) k (apply how x y) z r q
   same_operated {l = l} {p = p} {left = left} {op = op} {right = right} r q u one i other
       (alone {n = k} {own = b} {x = z} d) e hq =
       let h = one q b p k z d (sym (join_assoc left op right r) ∙ e) (let g = bound_below p u in omega (arith, g, hq)) in
-      absurd (let f = operator_rank text (right ++ r) i in let g = ap rank h.rest in let j = bound_most l p in omega
+      absurd (let f = operator_rank text (right ++ r) i in let g = ap precedence h.rest in let j = bound_most l p in omega
       (arith, f, g, j, hq))
   same_operated {p = p} {left = left} {op = op} {right = right} r q u one i other
       (operated {nl = nl'} {nr = nr'} {left = left'} {op = op'} {right = right'} {x = x'} {y = y'} d j f) e hq =
@@ -121,10 +121,10 @@ module _ (text : List ℕ) where
         rest = g.rest;
       }
 
-  -- the spellings of one level that begin one list, where nothing goes on behind them, are one
+  -- two spellings of one level that begin one list, and that nothing continues, are equal
   pub unique : {l : Level} {o p : Bool} {n m : ℕ} {a b : List Token} {x y : BehaviourView} (r q : List Token) → Spells text l o n a x →
       Spells text l p m b y → a ++ r ≡ b ++ q →
-      rank r < bound l o → rank q < bound l p → SameSpelling a b o p n m x y r q
+      precedence r < bound l o → precedence q < bound l p → SameSpelling a b o p n m x y r q
   unique r q (stop i) d e hr hq = same_leaf r q (taken_stop text q r i d (sym e)) e
   unique r q (exit i) d e hr hq = same_leaf r q (taken_exit text q r i d (sym e)) e
   unique r q (parentheses {right = right} {o = o} {ts = inner} i c j) d e hr hq =

@@ -34,17 +34,17 @@ module _ (text : List ℕ) where
   found_header ts r q rest name formals func f g h = found_then headed Front FunctionalityPhrase ts q rest (name, formals) func
       (name, formals, func) (found_front ts r q name formals f g) h refl
 
-  -- where the name is lost, so is the header
+  -- if the name fails, so does the header
   pub lost_title : (ts rest : List Token) → Fails (OneName text) ts rest → Fails (HeaderPhrase text) ts rest
   lost_title ts rest l = lost_first headed Front FunctionalityPhrase ts rest (lost_first named (OneName text) (OptionalGates text) ts rest l)
 
-  -- where the formal gates are lost, so is the header
+  -- if the formal gates fail, so does the header
   pub lost_formals : (ts r rest : List Token) (name : Placed) → Parses (OneName text) ts name r → Fails (OptionalGates text) r rest →
       Fails (HeaderPhrase text) ts rest
   lost_formals ts r rest name f l = lost_first headed Front FunctionalityPhrase ts rest
       (lost_second named (OneName text) (OptionalGates text) (firm_name text) ts r rest name f l)
 
-  -- where the functionality is lost, so is the header
+  -- if the functionality fails, so does the header
   pub lost_returns : (ts r q rest : List Token) (name : Placed) (formals : List Placed) → Parses (OneName text) ts name r →
       Parses (OptionalGates text) r formals q → Fails FunctionalityPhrase q rest → Fails (HeaderPhrase text) ts rest
   lost_returns ts r q rest name formals f g l = lost_second headed Front FunctionalityPhrase firm_front ts q rest (name, formals)

@@ -3,7 +3,7 @@ use Rattle.std.proofs.Common.{◌≡◌, ℕ, ◌+◌, ◌-◌, ◌<◌, Bool, t
 use Rattle.lotos_text.specs.AstView as t
 use Rattle.lotos_text.specs.AstView.{BehaviourView}
 use Rattle.lotos_text.specs.Grammar.{IsOfKind, Level, enabling, Spells, hide}
-use Rattle.lotos_text.specs.Follow.{rank, bound}
+use Rattle.lotos_text.specs.Follow.{precedence, bound}
 use Rattle.lotos_text.specs.ParserContracts.{Phrase, NestingLimit, Parses, Fails, IsTooDeepAt}
 use Rattle.lotos_text.specs.Phrases.{Sequence, OneToken, Preceded, Followed, NameList, BehaviourPhrase}
 use Rattle.lotos_text.specs.declared.token.Token.{Token}
@@ -19,14 +19,14 @@ use Rattle.lotos_text.proofs.Operands.{taken_hide}
 use Rattle.lotos_text.proofs.Sequences.{Firm, lost_as, between, as_between, found_then, lost_first, lost_second}
 use Rattle.lotos_text.proofs.ParseErrors.{Carries}
 
--- what is said of each level is said of the error for each level
+-- a statement about each level holds of the error at each level
 pub each_level : {T E : Type 0} (P : Level → E → Type 0) (r : Result T E) → ((level : Level) → IfErr r (P level)) →
     IfErr r (λ e. (level : Level) → P level e)
 each_level P (Ok x) h = tt
 each_level P (Err e) h = h
 
--- behind what ends at the loosest level nothing goes on
-quits_open : (l : Level) (ends : Bool) (ts : List Token) → rank ts < bound enabling ends → rank ts < bound l true
+-- no token continues what ends at the loosest level
+quits_open : (l : Level) (ends : Bool) (ts : List Token) → precedence ts < bound enabling ends → precedence ts < bound l true
 quits_open l true ts h = omega (arith, h)
 quits_open l false ts h = omega (arith, h)
 
@@ -112,14 +112,14 @@ module _ (text : List ℕ) where
       (found_then t.hide Hiding (BehaviourPhrase text enabling (Some (room - 1))) (n ∷ ts) after rest names x z
       (hiding n word ts between after names i f e j) g k)
 
-  -- where the names are lost, so is the hide form
+  -- if the names fail, so does the hide form
   pub lost_hidden : (l : Level) (n : Token) (ts rest : List Token) → IsOfKind n (Reserved w.HideWord) → Fails (NameList text) ts rest →
       Fails (BehaviourPhrase text l None) (n ∷ ts) rest
   lost_hidden l n ts rest i lost =
       lost_form l None n ts rest i (lost_first t.hide Hiding (BehaviourPhrase text enabling None) (n ∷ ts) rest
       (lost_within Opened _ (n ∷ ts) rest (lost_behind _ (NameList text) (n ∷ ts) ts rest n refl i lost)))
 
-  -- where `in` is lost, so is the hide form
+  -- if `in` fails, so does the hide form
   pub lost_unentered : (l : Level) (n : Token) (ts between rest : List Token) (names : List Placed) → IsOfKind n (Reserved w.HideWord) →
       Parses (NameList text) ts names between → Fails (OneToken (Reserved w.InWord)) between rest →
       Fails (BehaviourPhrase text l None) (n ∷ ts) rest
@@ -135,7 +135,7 @@ module _ (text : List ℕ) where
       lost_form l limit n ts rest i
       (lost_second t.hide Hiding (BehaviourPhrase text enabling (inside limit)) firm_hiding (n ∷ ts) after rest names (hiding n word ts between after names i f e j) lost)
 
-  -- where the behaviour expression is lost, so is the hide form
+  -- if the behaviour expression fails, so does the hide form
   pub carries_hidden : (l : Level) (room : ℕ) (n word : Token) (ts between after : List Token) (names : List Placed) →
       IsOfKind n (Reserved w.HideWord) → Parses (NameList text) ts names between → between ≡ word ∷ after → IsOfKind word (Reserved w.InWord) →
       Carries (BehaviourPhrase text enabling) (room - 1) after (BehaviourPhrase text l) room (n ∷ ts)
@@ -147,7 +147,7 @@ module _ (text : List ℕ) where
     crowds = (let h = opens_among [] (f.front ++ word ∷ []) n (opens_is i refl) in omega (arith, h));
   }
 
-  -- with no room left, `hide` begins nothing
+  -- with no nesting left, `hide` is too deep
   pub deep_hide : (l : Level) (room : ℕ) (n : Token) (ts : List Token) → room ≡ 0 → IsOfKind n (Reserved w.HideWord) →
       IsTooDeepAt (BehaviourPhrase text l) room (n ∷ ts) n
   deep_hide l room n ts h i = record {

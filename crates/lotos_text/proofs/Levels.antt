@@ -3,7 +3,7 @@ use Rattle.std.proofs.Common.{◌≡◌, ℕ, ◌+◌, ◌<◌, ◌≤◌, max, 
 use Rattle.lotos_text.specs.AstView as t
 use Rattle.lotos_text.specs.AstView.{BehaviourView}
 use Rattle.lotos_text.specs.Grammar.{IsOfKind, Level, enabling, disabling, parallel, choosing, prefixing, BindsTighter, tighter_than_enabling, tighter_than_disabling, tighter_than_parallel, tighter_than_choosing, Operator, enables, synchronizes, apply, IsOperator, enable_sign, disable_sign, interleave_sign, full_sign, sync_on_none, sync_on, choice_sign, Spells, stop, exit, parentheses, call, prefix, tighter, operation, hide}
-use Rattle.lotos_text.specs.Follow.{kind_rank, rank, level_rank, bound}
+use Rattle.lotos_text.specs.Follow.{kind_precedence, precedence, level_precedence, bound}
 use Rattle.lotos_text.specs.Phrases.{SyncList, no_sync, some_sync}
 use Rattle.lotos_text.specs.declared.token.Token.{Token}
 use Rattle.lotos_text.specs.declared.token.TokenKind.{TokenKind}
@@ -12,19 +12,19 @@ use Rattle.lotos_text.proofs.FirstToken.{head_same, tail_same, apart}
 use Rattle.lotos_text.proofs.NameLists.{unique_sync_list}
 
 -- a tighter level ranks higher
-pub below_rank : {l m : Level} → BindsTighter l m → level_rank l < level_rank m
+pub below_rank : {l m : Level} → BindsTighter l m → level_precedence l < level_precedence m
 below_rank tighter_than_enabling = omega arith
 below_rank tighter_than_disabling = omega arith
 below_rank tighter_than_parallel = omega arith
 below_rank tighter_than_choosing = omega arith
 
--- what is whole at a level is whole at the next tighter one
+-- what is complete at a level is complete at the next tighter one
 pub bound_below : {l m : Level} (o : Bool) → BindsTighter l m → bound l o ≤ bound m o
 bound_below true b = omega arith
 bound_below false b = let h = below_rank b in omega (arith, h)
 
--- what is whole ranks below its level, open or not
-pub bound_most : (l : Level) (o : Bool) → bound l o ≤ level_rank l
+-- the bound on the ranks before which a spelling of a level is complete is at most the level's rank
+pub bound_most : (l : Level) (o : Bool) → bound l o ≤ level_precedence l
 bound_most enabling true = omega arith
 bound_most disabling true = omega arith
 bound_most parallel true = omega arith
@@ -33,7 +33,7 @@ bound_most prefixing true = omega arith
 bound_most l false = omega arith
 
 -- what no operator is goes on with nothing
-pub rank_none : (l : Level) (o : Bool) (ts : List Token) → rank ts ≡ 0 → rank ts < bound l o
+pub rank_none : (l : Level) (o : Bool) (ts : List Token) → precedence ts ≡ 0 → precedence ts < bound l o
 rank_none l true ts e = omega (arith, e)
 rank_none enabling false ts e = omega (arith, e)
 rank_none disabling false ts e = omega (arith, e)
@@ -41,19 +41,19 @@ rank_none parallel false ts e = omega (arith, e)
 rank_none choosing false ts e = omega (arith, e)
 rank_none prefixing false ts e = omega (arith, e)
 
--- behind an open spelling nothing goes on, whatever it is then taken for
-pub rank_open : (l m : Level) (o p : Bool) (ts : List Token) → p ≡ true → rank ts < bound l p → rank ts < bound m o
+-- no token continues an open spelling, whatever level it is taken for
+pub rank_open : (l m : Level) (o p : Bool) (ts : List Token) → p ≡ true → precedence ts < bound l p → precedence ts < bound m o
 rank_open l m o true ts e h = rank_none m o ts (omega (arith, h))
 rank_open l m o false ts e h = cc
 
 -- a token ranks as its kind
-pub rank_is : {n : Token} {k : TokenKind} (ts : List Token) → IsOfKind n k → rank (n ∷ ts) ≡ kind_rank k
-rank_is ts i = ap kind_rank i.same
+pub rank_is : {n : Token} {k : TokenKind} (ts : List Token) → IsOfKind n k → precedence (n ∷ ts) ≡ kind_precedence k
+rank_is ts i = ap kind_precedence i.same
 
 module _ (text : List ℕ) where
   -- an operator ranks as its level does
   pub operator_rank : {l : Level} {op : List Token} {how : Operator} (r : List Token) → IsOperator text l op how →
-      rank (op ++ r) ≡ level_rank l
+      precedence (op ++ r) ≡ level_precedence l
   operator_rank r (enable_sign i) = rank_is r i
   operator_rank r (disable_sign i) = rank_is r i
   operator_rank r (interleave_sign i) = rank_is r i
@@ -64,7 +64,7 @@ module _ (text : List ℕ) where
 
   -- below an operator's level the operands bind tighter
   pub operator_below : {l m : Level} {op : List Token} {how : Operator} → BindsTighter l m → IsOperator text l op how →
-      level_rank l < level_rank m
+      level_precedence l < level_precedence m
   operator_below b i = below_rank b
 
   pub record SameOperator (a b : List Token) (how ways : Operator) (r q : List Token) : Type 0 where

@@ -3,7 +3,7 @@ use Rattle.std.proofs.Common.{◌≡◌, ℕ, ◌+◌, ◌<◌, ◌≤◌, List,
 use Rattle.std.proofs.lemmas.List.{drop-drop, append-nil}
 use Rattle.std.proofs.Math.ListN.{drop_of_length-le}
 use Rattle.std.proofs.Math.Seq.{drop-append_seam}
-use Rattle.lotos_text.specs.Lexing.{LexesTo, nothing, blank, comment, word, mark, Lexes, FailsAtByte, FailsAtComment, IsWord, sign_text, token}
+use Rattle.lotos_text.specs.Lexing.{LexesTo, nothing, blank, comment, word, sign_token, Lexes, FailsAtByte, FailsAtComment, IsWord, sign_text, token}
 use Rattle.lotos_text.specs.Lexemes.{IsNextLexeme, a_blank, a_comment, a_word, a_sign, no_end, no_piece}
 use Rattle.lotos_text.specs.declared.lexer.Lexeme.{Lexeme}
 use Rattle.lotos_text.specs.declared.lexer.Lexeme.TheVariants.{Blank, Comment, Token as a_token, Unclosed as Unended, Unknown}
@@ -13,22 +13,22 @@ use Rattle.lotos_text.specs.declared.token.Token.{Token}
 use Rattle.lotos_text.specs.declared.token.TokenKind.{TokenKind}
 use Rattle.lotos_text.proofs.Comments.{rest_of, rest_is, comment_some}
 
--- behind the bytes at an offset the rest follows, and the text reaches so far
+-- after the bytes at an offset the rest follows, and the text is at least as long as they reach
 pub behind : (text : List ℕ) (at : ℕ) (found rest : List ℕ) → drop at text ≡ found ++ rest → drop (at + length found) text ≡ rest
 behind text at found rest e = sym (drop-drop (length found) at text) ∙ ap (drop (length found)) e ∙ drop-append_seam found rest
 
 pub fits : (text : List ℕ) (at : ℕ) (found rest : List ℕ) → at ≤ length text → drop at text ≡ found ++ rest → at + length found ≤ length text
 fits text at found rest h e = omega (arith, ap length e, length-drop at text, length-append found rest)
 
--- a cut goes on with another one
+-- one lexing goes on with another
 join : {at mid end : ℕ} {text more rest : List ℕ} {ts us : List Token} → LexesTo at text ts mid more → LexesTo mid more us end rest → LexesTo at text (ts ++ us) end rest
 join nothing d = d
 join (blank i c) d = blank i (join c d)
 join (comment piece i c) d = comment piece i (join c d)
 join (word found i f c) d = word found i f (join c d)
-join (mark sign i c) d = mark sign i (join c d)
+join (sign_token sign i c) d = sign_token sign i (join c d)
 
--- the piece at the front is cut off
+-- the lexeme at the start is taken off
 cut_blank : (text : List ℕ) (at : ℕ) → IsNextLexeme (drop at text) Blank → LexesTo at (drop at text) [] (at + 1) (drop (at + 1) text)
 cut_blank text at (a_blank b rest e i) =
     let C : List ℕ → List ℕ → Type 0 = λ t r. LexesTo at t [] (at + 1) r in
@@ -47,9 +47,9 @@ cut_token text at n kind (a_word found rest e i f) =
     subst (λ t. C t (drop (at + n) text)) (sym e) (subst (λ r. C (found ++ rest) r) (sym (behind text at found rest e)) (word found i f nothing))
 cut_token text at n kind (a_sign sign rest e i) =
     let C : List ℕ → List ℕ → Type 0 = λ t r. LexesTo at t (token at n kind ∷ []) (at + n) r in
-    subst (λ t. C t (drop (at + n) text)) (sym e) (subst (λ r. C (sign_text sign ++ rest) r) (sym (behind text at (sign_text sign) rest e)) (mark sign i nothing))
+    subst (λ t. C t (drop (at + n) text)) (sym e) (subst (λ r. C (sign_text sign ++ rest) r) (sym (behind text at (sign_text sign) rest e)) (sign_token sign i nothing))
 
--- a word and a mark have a byte at least
+-- a word and a sign have a byte at least
 word_some : (found : List ℕ) → IsWord found → 0 < length found
 word_some [] i = absurd i
 word_some (b ∷ bs) i = omega arith
@@ -63,7 +63,7 @@ pub token_some : {text : List ℕ} {n : ℕ} {kind : TokenKind} → IsNextLexeme
 token_some (a_word found rest e i f) = word_some found i
 token_some (a_sign sign rest e i) = mark_some sign
 
--- a text with a piece at its front is not empty
+-- a text that starts with a lexeme is not empty
 pub front_some : {text : List ℕ} {p : Lexeme} → IsNextLexeme text p → 0 < length text
 front_some (a_blank b rest e i) = omega (arith, ap length e)
 front_some (a_comment piece rest e i) = omega (arith, ap length e, length-append piece rest, comment_some piece i)
@@ -80,26 +80,26 @@ token_fits : (text : List ℕ) (at n : ℕ) (kind : TokenKind) → at ≤ length
 token_fits text at n kind h (a_word found rest e i f) = fits text at found rest h e
 token_fits text at n kind h (a_sign sign rest e i) = fits text at (sign_text sign) rest h e
 
--- up to the offset the text is cut into these tokens
+-- up to the offset the text lexes to these tokens
 pub record Reached (text : List ℕ) (at : ℕ) (found : List Token) : Type 0 where
   pub inside : at ≤ length text
-  pub cut : LexesTo 0 text found at (drop at text)
+  pub lexes : LexesTo 0 text found at (drop at text)
 
--- what stands at the front of the rest stands at the offset
+-- what the rest starts with is what the text has at the offset
 front_at : (text : List ℕ) (at : ℕ) (p : Lexeme) → IsNextLexeme (rest_of text at) p → IsNextLexeme (drop at text) p
 front_at text at p f = subst (λ t. IsNextLexeme t p) (rest_is text at) f
 
--- nothing is cut at the start
+-- up to offset 0 a text lexes to no tokens
 pub reached_start : (text : List ℕ) → Reached text 0 []
-reached_start text = record { inside = omega arith; cut = nothing }
+reached_start text = record { inside = omega arith; lexes = nothing }
 
--- the piece at the offset takes the cut on
+-- the lexeme at the offset extends the lexing
 pub reached_blank : (text : List ℕ) (at : ℕ) (found : List Token) → Reached text at found → IsNextLexeme (rest_of text at) Blank → Reached text (at + 1) found
 reached_blank text at found r f =
     let g = front_at text at Blank f in
     record {
       inside = omega (arith, front_some g, length-drop at text);
-      cut = subst (λ ts. LexesTo 0 text ts (at + 1) (drop (at + 1) text)) (append-nil found) (join r.cut (cut_blank text at g));
+      lexes = subst (λ ts. LexesTo 0 text ts (at + 1) (drop (at + 1) text)) (append-nil found) (join r.lexes (cut_blank text at g));
     }
 
 pub reached_comment : (text : List ℕ) (at n : ℕ) (found : List Token) → Reached text at found → IsNextLexeme (rest_of text at) (Comment n) →
@@ -108,33 +108,33 @@ reached_comment text at n found r f =
     let g = front_at text at (Comment n) f in
     record {
       inside = comment_fits text at n r.inside g;
-      cut = subst (λ ts. LexesTo 0 text ts (at + n) (drop (at + n) text)) (append-nil found) (join r.cut (cut_comment text at n g));
+      lexes = subst (λ ts. LexesTo 0 text ts (at + n) (drop (at + n) text)) (append-nil found) (join r.lexes (cut_comment text at n g));
     }
 
 pub reached_token : (text : List ℕ) (at n : ℕ) (kind : TokenKind) (found : List Token) → Reached text at found → IsNextLexeme (rest_of text at) (a_token n kind) →
     Reached text (at + n) (found ++ token at n kind ∷ [])
 reached_token text at n kind found r f =
     let g = front_at text at (a_token n kind) f in
-    record { inside = token_fits text at n kind r.inside g; cut = join r.cut (cut_token text at n kind g) }
+    record { inside = token_fits text at n kind r.inside g; lexes = join r.lexes (cut_token text at n kind g) }
 
--- at the text's end it is cut
+-- at its end the text is lexed
 pub reached_end : (text : List ℕ) (at : ℕ) (found : List Token) → Reached text at found → length text ≤ at → Lexes text found
 reached_end text at found r h =
     let e : at ≡ length text = omega (arith, r.inside) in
-    subst (λ n. LexesTo 0 text found n []) e (subst (λ t. LexesTo 0 text found at t) (drop_of_length-le text h) r.cut)
+    subst (λ n. LexesTo 0 text found n []) e (subst (λ t. LexesTo 0 text found at t) (drop_of_length-le text h) r.lexes)
 
--- where nothing begins at the offset, or a comment that is not closed, the text sticks there
+-- if no lexeme, or an unclosed comment, begins at the offset, the text fails to lex there
 pub stuck_at_byte : (text : List ℕ) (at : ℕ) (found : List Token) → Reached text at found → IsNextLexeme (rest_of text at) Unknown →
     FailsAtByte text at
 stuck_at_byte text at found r f = here (front_at text at Unknown f)
   where
     here : IsNextLexeme (drop at text) Unknown → FailsAtByte text at
     here (no_piece b rest e i) =
-        record { before = found; byte = b; rest = rest; cut = subst (λ t. LexesTo 0 text found at t) e r.cut; strange = i }
+        record { before = found; byte = b; rest = rest; lexes = subst (λ t. LexesTo 0 text found at t) e r.lexes; strange = i }
 
 pub stuck_at_comment : (text : List ℕ) (at : ℕ) (found : List Token) → Reached text at found → IsNextLexeme (rest_of text at) Unended →
     FailsAtComment text at
 stuck_at_comment text at found r f = here (front_at text at Unended f)
   where
     here : IsNextLexeme (drop at text) Unended → FailsAtComment text at
-    here (no_end u) = record { before = found; rest = drop at text; cut = r.cut; unclosed = u }
+    here (no_end u) = record { before = found; rest = drop at text; lexes = r.lexes; unclosed = u }

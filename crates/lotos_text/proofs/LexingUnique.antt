@@ -1,7 +1,7 @@
 -- A text lexes in one way or fails at one offset, and never both.
 use Rattle.std.proofs.Common.{◌≡◌, ℕ, ◌+◌, List, [], ◌∷◌, length, drop, refl, sym, ap, ◌∙◌, subst, arith}
 use Rattle.std.proofs.Math.Seq.{drop-append_seam}
-use Rattle.lotos_text.specs.Lexing.{LexesTo, nothing, blank, comment, word, mark, Lexes, LexingFailsAt, at_byte, at_comment, sign_text, token, classify}
+use Rattle.lotos_text.specs.Lexing.{LexesTo, nothing, blank, comment, word, sign_token, Lexes, LexingFailsAt, at_byte, at_comment, sign_text, token, classify}
 use Rattle.lotos_text.specs.Lexemes.{IsNextLexeme, a_blank, a_comment, a_word, a_sign, no_end, no_piece}
 use Rattle.lotos_text.specs.declared.lexer.Lexeme.{Lexeme}
 use Rattle.lotos_text.specs.declared.lexer.Lexeme.TheVariants.{Blank, Comment, Token as a_token, Unclosed as Unended, Unknown}
@@ -11,13 +11,13 @@ use Rattle.lotos_text.specs.declared.token.TokenKind.TheVariants.{Sign as of_sig
 use Rattle.lotos_text.proofs.NextLexemes.{one_front}
 use Rattle.lotos_text.proofs.LexingSteps.{front_some}
 
--- no cut goes on here: no blank, comment or token stands at the front
+-- no lexing goes on here: the text starts with no blank, comment or token
 record Halts (text : List ℕ) : Type 0 where
   no_blank : IsNextLexeme text Blank → ⊥
   no_comment : (n : ℕ) → IsNextLexeme text (Comment n) → ⊥
   no_token : (n : ℕ) (kind : TokenKind) → IsNextLexeme text (a_token n kind) → ⊥
 
--- an empty text has no piece
+-- an empty text has no lexeme
 nothing_in : {p : Lexeme} → IsNextLexeme [] p → ⊥
 nothing_in f = omega (arith, front_some f)
 
@@ -38,7 +38,7 @@ halts_unended u = record {
   no_token = λ n kind f. cc (one_front u f);
 }
 
--- how a cut up to the last text begins
+-- how a lexing up to the last text begins
 data Next (at : ℕ) (text : List ℕ) (ts : List Token) (end : ℕ) (last : List ℕ) : Type 0 where
   ended : text ≡ last → ts ≡ [] → at ≡ end → Next at text ts end last
   blank_first : IsNextLexeme text Blank → LexesTo (at + 1) (drop 1 text) ts end last → Next at text ts end last
@@ -46,7 +46,7 @@ data Next (at : ℕ) (text : List ℕ) (ts : List Token) (end : ℕ) (last : Lis
   token_first : (n : ℕ) (kind : TokenKind) (us : List Token) → IsNextLexeme text (a_token n kind) → ts ≡ token at n kind ∷ us →
       LexesTo (at + n) (drop n text) us end last → Next at text ts end last
 
--- what stands at the front of a text begins its cut
+-- the lexeme at the start of a text begins its lexing
 next : {at end : ℕ} {text last : List ℕ} {ts : List Token} → LexesTo at text ts end last → Next at text ts end last
 next nothing = ended refl refl refl
 next (blank {b} {text} i d) = blank_first (a_blank b text refl i) d
@@ -56,33 +56,33 @@ next (comment {at} {end} piece {text} {rest} {ts} i d) =
 next (word {at} {end} found {text} {rest} {ts} i f d) =
     token_first (length found) (classify found) ts (a_word found text refl i f) refl
     (subst (λ t. LexesTo (at + length found) t ts end rest) (sym (drop-append_seam found text)) d)
-next (mark {at} {end} sign {text} {rest} {ts} i d) =
+next (sign_token {at} {end} sign {text} {rest} {ts} i d) =
     token_first (length (sign_text sign)) (of_sign sign) ts (a_sign sign text refl i) refl
     (subst (λ t. LexesTo (at + length (sign_text sign)) t ts end rest) (sym (drop-append_seam (sign_text sign) text)) d)
 
--- a cut goes on behind the token
+-- a lexing goes on after the token
 record Past (at n : ℕ) (kind : TokenKind) (text : List ℕ) (ts : List Token) (end : ℕ) (last : List ℕ) : Type 0 where
   more : List Token
   begins : ts ≡ token at n kind ∷ more
-  cut : LexesTo (at + n) (drop n text) more end last
+  lexes : LexesTo (at + n) (drop n text) more end last
 
--- two cuts end alike
+-- two lexings end alike
 record Alike (us ts : List Token) (fin end : ℕ) (rest last : List ℕ) : Type 0 where
   tokens : us ≡ ts
   place : fin ≡ end
   left : rest ≡ last
 
--- a cut stays where it halts
+-- a lexing stays where it halts
 stays : {at end : ℕ} {text last : List ℕ} {ts : List Token} → Halts text → Next at text ts end last → Alike [] ts at end text last
 stays h (ended e g p) = record { tokens = sym g; place = p; left = e }
 stays h (blank_first f d) = absurd (h.no_blank f)
 stays h (comment_first n f d) = absurd (h.no_comment n f)
 stays h (token_first n kind us f e d) = absurd (h.no_token n kind f)
 
--- cuts that go on until they halt
+-- lexings that go on until they halt
 
 module _ (end : ℕ) (last : List ℕ) (k : Halts last) where
-  -- such a cut takes the piece that stands at the front
+  -- such a lexing takes the lexeme at the start
   past_blank : {at : ℕ} {text : List ℕ} {ts : List Token} → IsNextLexeme text Blank → Next at text ts end last →
       LexesTo (at + 1) (drop 1 text) ts end last
   past_blank f (ended e g p) = absurd (k.no_blank (subst (λ t. IsNextLexeme t Blank) e f))
@@ -112,7 +112,7 @@ module _ (end : ℕ) (last : List ℕ) (k : Halts last) where
       record {
         more = us;
         begins = e ∙ ap (λ l. token at l other ∷ us) length_same ∙ ap (λ l. token at n l ∷ us) kind_same;
-        cut = subst (λ l. LexesTo (at + l) (drop l text) us end last) length_same d;
+        lexes = subst (λ l. LexesTo (at + l) (drop l text) us end last) length_same d;
       }
 
   -- one token more before both
@@ -120,7 +120,7 @@ module _ (end : ℕ) (last : List ℕ) (k : Halts last) where
       Alike us vs fin end rest last → Alike (t ∷ us) ts fin end rest last
   behind_token t ts e a = record { tokens = ap (λ l. t ∷ l) a.tokens ∙ sym e; place = a.place; left = a.left }
 
-  -- two cuts of one text that go on until they halt are alike
+  -- two lexings of one text that go on until they halt are equal
   alike : {at fin : ℕ} {text rest : List ℕ} {us : List Token} → Halts rest → LexesTo at text us fin rest → (ts : List Token) →
       LexesTo at text ts end last → Alike us ts fin end rest last
   alike h nothing ts d = stays h (next d)
@@ -131,17 +131,17 @@ module _ (end : ℕ) (last : List ℕ) (k : Halts last) where
   alike h (word {at} found {text} i f c) ts d =
       let past = past_token (a_word found text refl i f) (next d) in
       behind_token (token at (length found) (classify found)) ts past.begins
-      (alike h c past.more (subst (λ t. LexesTo (at + length found) t past.more end last) (drop-append_seam found text) past.cut))
-  alike h (mark {at} sign {text} i c) ts d =
+      (alike h c past.more (subst (λ t. LexesTo (at + length found) t past.more end last) (drop-append_seam found text) past.lexes))
+  alike h (sign_token {at} sign {text} i c) ts d =
       let past = past_token (a_sign sign text refl i) (next d) in
       behind_token (token at (length (sign_text sign)) (of_sign sign)) ts past.begins
-      (alike h c past.more (subst (λ t. LexesTo (at + length (sign_text sign)) t past.more end last) (drop-append_seam (sign_text sign) text) past.cut))
+      (alike h c past.more (subst (λ t. LexesTo (at + length (sign_text sign)) t past.more end last) (drop-append_seam (sign_text sign) text) past.lexes))
 
--- where the text sticks its cut halts, before the end
+-- if a text fails to lex at an offset, its lexing halts there, before the end
 record Stuck (text : List ℕ) (at : ℕ) : Type 0 where
   before : List Token
   rest : List ℕ
-  cut : LexesTo 0 text before at rest
+  lexes : LexesTo 0 text before at rest
   halts : Halts rest
   more : rest ≡ [] → ⊥
 
@@ -149,31 +149,31 @@ stuck : {text : List ℕ} {at : ℕ} → LexingFailsAt text at → Stuck text at
 stuck (at_byte s) = record {
   before = s.before;
   rest = s.byte ∷ s.rest;
-  cut = s.cut;
+  lexes = s.lexes;
   halts = halts_unknown (no_piece s.byte s.rest refl s.strange);
   more = λ e. cc;
 }
 stuck (at_comment s) = record {
   before = s.before;
   rest = s.rest;
-  cut = s.cut;
+  lexes = s.lexes;
   halts = halts_unended (no_end s.unclosed);
   more = λ e. nothing_in (subst (λ t. IsNextLexeme t Unended) e (no_end s.unclosed));
 }
 
--- a text has one cut
+-- a text lexes in one way
 pub one_cut : (text : List ℕ) (ts us : List Token) → Lexes text ts → Lexes text us → ts ≡ us
 one_cut text ts us c d = (alike (length text) [] halts_end halts_end c us d).tokens
 
--- a text sticks at one offset at most
+-- a text fails to lex at one offset at most
 pub one_place : (text : List ℕ) (at other : ℕ) → LexingFailsAt text at → LexingFailsAt text other → at ≡ other
 one_place text at other s t =
     let first = stuck s in
     let second = stuck t in
-    (alike other second.rest second.halts first.halts first.cut second.before second.cut).place
+    (alike other second.rest second.halts first.halts first.lexes second.before second.lexes).place
 
--- a text that is cut does not stick
+-- a text that lexes fails at no offset
 pub sticks_uncut : (text : List ℕ) (ts : List Token) (at : ℕ) → Lexes text ts → LexingFailsAt text at → ⊥
 sticks_uncut text ts at c s =
     let here = stuck s in
-    here.more (alike (length text) [] halts_end here.halts here.cut ts c).left
+    here.more (alike (length text) [] halts_end here.halts here.lexes ts c).left

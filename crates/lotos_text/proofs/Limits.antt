@@ -40,7 +40,7 @@ opens_among before after n h =
     let g = cond-true {A = ℕ} (opens_construct n.kind) 1 0 h in
     omega (arith, e, f, g)
 
--- where there is no room, a token that opens a construct crowds
+-- with no nesting left, a token that opens a construct is too deep
 pub crowded_here : (ts front after : List Token) (n : Token) (room : ℕ) → ts ≡ front ++ n ∷ after → room ≡ 0 →
     opens_construct n.kind ≡ true → HasTooManyOpen room ts n after
 crowded_here ts front after n room e h i = record {

@@ -11,23 +11,23 @@ use Rattle.lotos_text.specs.Lexemes.{signs_longest_first, longest_sign}
 use Rattle.lotos_text.specs.declared.token.Sign.{Sign}
 use Rattle.lotos_text.specs.declared.token.Sign.TheVariants as s
 
--- the mark begins the text
+-- the sign begins the text
 abbrev pub begins : List ℕ → Sign → Bool
 begins text sign = starts_with nat_eq text (sign_text sign)
 
--- the test says whether the mark begins the text
+-- the test says whether the sign begins the text
 begins_true : (text : List ℕ) (sign : Sign) → begins text sign ≡ true → text ≡ sign_text sign ++ drop (length (sign_text sign)) text
 begins_true text sign = (starts_is {E = nat_eq} Decides-eqb text (sign_text sign) (begins text sign) refl).0
 
 begins_from : (text : List ℕ) (sign : Sign) → StartsWith (sign_text sign) text → begins text sign ≡ true
 begins_from text sign b = (starts_is {E = nat_eq} Decides-eqb text (sign_text sign) (begins text sign) refl).1 b.0 b.1
 
--- no mark is longer than one before it
+-- no sign is longer than one before it
 abbrev descends : List Sign → Bool
 descends [] = true
 descends (m ∷ ms) = list_all (λ n. nat_le (length (sign_text n)) (length (sign_text m))) ms && descends ms
 
--- what holds of each mark in the list holds of every mark
+-- what holds of each sign in the list holds of every sign
 of_each : (P : Sign → Type 0) → AllByRecursion P signs_longest_first → (sign : Sign) → P sign
 of_each P h s.Interleave = h.0
 of_each P h s.Define = h.1.0
@@ -45,7 +45,7 @@ of_each P h s.LeftBracket = h.1.1.1.1.1.1.1.1.1.1.1.1.0
 of_each P h s.RightBracket = h.1.1.1.1.1.1.1.1.1.1.1.1.1.0
 of_each P h s.Bar = h.1.1.1.1.1.1.1.1.1.1.1.1.1.1.0
 
--- a list of which no mark is longer
+-- a list of which no sign is longer
 none_shorter : (m : Sign) (ms : List Sign) (test : Sign → Bool) → list_all (λ n. nat_le (length (sign_text n)) (length (sign_text m))) ms ≡ true →
     AllByRecursion (λ n. test n ≡ true → length (sign_text n) ≤ length (sign_text m)) ms
 none_shorter m [] test h = tt
@@ -53,12 +53,12 @@ none_shorter m (n ∷ ms) test h =
     let parts = and_parts (nat_le (length (sign_text n)) (length (sign_text m))) _ h in
     ((λ _. leb-true _ _ parts.0), none_shorter m ms test parts.1)
 
--- the mark passes, and no longer one of the list does
+-- the sign passes, and no longer one of the list does
 record IsLongestOf (test : Sign → Bool) (ms : List Sign) (m : Sign) : Type 0 where
   passes : test m ≡ true
   longest : AllByRecursion (λ n. test n ≡ true → length (sign_text n) ≤ length (sign_text m)) ms
 
--- the first mark that passes is the longest that does
+-- the first sign that passes is the longest that does
 find_longest : (test : Sign → Bool) (ms : List Sign) (m : Sign) → descends ms ≡ true → find test ms ≡ Some m → IsLongestOf test ms m
 find_longest test [] m d e = absurd (cc)
 find_longest test (n ∷ ms) m d e =
@@ -72,7 +72,7 @@ find_longest test (n ∷ ms) m d e =
           record { passes = found.passes; longest = ((λ t. absurd (both_ways (test n) f t)), found.longest) }
     ]
 
--- where none is found, none passes
+-- if none is found, none passes
 find_none : (test : Sign → Bool) (ms : List Sign) → find test ms ≡ None → AllByRecursion (λ n. test n ≡ true → ⊥) ms
 find_none test [] e = tt
 find_none test (n ∷ ms) e =
@@ -81,11 +81,11 @@ find_none test (n ∷ ms) e =
       | inr f ↦ ((λ t. both_ways (test n) f t), find_none test ms (sym (cond-false (test n) (Some n) (find test ms) f) ∙ e))
     ]
 
--- before the rest the mark is the longest that stands there
+-- the sign is the longest one at the start of the text
 abbrev IsLongest : Sign → List ℕ → Type 0
 IsLongest sign rest = (other : Sign) → StartsWith (sign_text other) (sign_text sign ++ rest) → length (sign_text other) ≤ length (sign_text sign)
 
--- what the mark is followed by, where it is found
+-- what follows the sign, if one is found
 longest_found : (text : List ℕ) (sign : Sign) → longest_sign text ≡ Some sign → (rest : List ℕ) × (text ≡ sign_text sign ++ rest) × IsLongest sign rest
 longest_found text sign e =
     let found = find_longest (begins text) signs_longest_first sign refl e in
@@ -97,23 +97,23 @@ longest_found text sign e =
           (begins_from text other (b.0, front ∙ b.1)),
     )
 
--- the mark that is found stands at the front, where no comment opens there
+-- the sign that is found is the lexeme at the start, if no comment opens there
 pub mark_found : (text : List ℕ) (sign : Sign) → (StartsWith comment_opening text → ⊥) → longest_sign text ≡ Some sign →
     (rest : List ℕ) × (text ≡ sign_text sign ++ rest) × IsSignToken sign rest
 mark_found text sign o e =
     let found = longest_found text sign e in
     (found.0, found.1, record { longest = found.2; no_comment = λ b. o (b.0, found.1 ∙ b.1) })
 
--- where none is found, no mark begins the text
+-- if none is found, no sign begins the text
 pub no_mark_found : (text : List ℕ) → longest_sign text ≡ None → (sign : Sign) → StartsWith (sign_text sign) text → ⊥
 no_mark_found text e sign b = of_each (λ n. begins text n ≡ true → ⊥) (find_none (begins text) signs_longest_first e) sign (begins_from text sign b)
 
--- at the front of its own bytes a mark is found
+-- at the start of its own text a sign is found
 mark_of_spelled : (sign : Sign) → longest_sign (sign_text sign) ≡ Some sign
 mark_of_spelled s.Semicolon = refl
 mark_of_spelled _ = refl
 
--- two marks of one length at the front of one text are one
+-- two signs of one length at the start of one text are equal
 same_mark : (a b : Sign) (text rest more : List ℕ) → text ≡ sign_text a ++ rest → text ≡ sign_text b ++ more → length (sign_text a) ≡ length (sign_text b) → a ≡ b
 same_mark a b text rest more e f h =
     let front = sym (take-append_seam (sign_text a) rest) ∙ ap (take (length (sign_text a))) (sym e ∙ f) in
@@ -121,7 +121,7 @@ same_mark a b text rest more e f h =
     let named : Some a ≡ Some b = sym (mark_of_spelled a) ∙ ap longest_sign (front ∙ back) ∙ mark_of_spelled b in
     cc
 
--- the mark that stands at the front of a text is the one that is found
+-- the sign at the start of a text is the one that is found
 pub mark_of_longest : (text : List ℕ) (sign : Sign) (rest : List ℕ) → text ≡ sign_text sign ++ rest → IsSignToken sign rest → longest_sign text ≡ Some sign
 mark_of_longest text sign rest e h =
     (elim (longest_sign text) as (λ o. longest_sign text ≡ o → o ≡ Some sign) [
@@ -133,7 +133,7 @@ mark_of_longest text sign rest e h =
           ap Some (same_mark m sign text found.0 rest found.1 e (omega (arith, below, above)))
     ]) refl
 
--- no mark begins with a blank or a letter
+-- no sign begins with a blank or a letter
 pub mark_no_blank : (sign : Sign) (rest : List ℕ) → is_blank (slice_index (sign_text sign ++ rest) 0) ≡ false
 mark_no_blank s.Semicolon rest = refl
 mark_no_blank _ rest = refl

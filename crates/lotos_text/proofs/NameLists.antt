@@ -13,7 +13,7 @@ use Rattle.lotos_text.proofs.OneToken.{found_behind, lost_behind, firm_behind, f
 use Rattle.lotos_text.proofs.Sequences.{Same, Firm, lost_as, between, as_between}
 
 module _ (text : List ℕ) where
-  -- a name with no comma behind it is a list
+  -- a name with no comma after it is a list
   pub found_last : (ts behind : List Token) (n : Token) → ts ≡ n ∷ behind → IsOfKind n Identifier → DoesNotStartWith (Sign s.Comma) behind →
       Parses (NameList text) ts (located_name text n ∷ []) behind
   found_last ts behind n e i h = record { front = n ∷ []; joined = e; whole = record { names = one_name i; quits = h } }
@@ -28,7 +28,7 @@ module _ (text : List ℕ) where
     whole = record { names = more_names i j f.whole.names; quits = f.whole.quits };
   }
 
-  -- where the first name is lost, so is the list
+  -- if the first name fails, so does the list
   pub lost_here : (ts rest : List Token) → Fails (OneToken Identifier) ts rest → Fails (NameList text) ts rest
   lost_here ts rest l = record {
     front = l.front;
@@ -43,7 +43,7 @@ module _ (text : List ℕ) where
       never_here front more _ behind _ h e (one_name {n = n} i) = h n behind e i
       never_here front more _ behind _ h e (more_names {n = n} {comma = comma} {ts = ts} i j d) = h n (comma ∷ ts ++ behind) e i
 
-  -- a list that is lost behind a name and a comma is lost with them
+  -- if a list fails after a name and a comma, so does the list with them
   pub lost_more : (ts behind after rest : List Token) (n comma : Token) → ts ≡ n ∷ behind → behind ≡ comma ∷ after →
       IsOfKind comma (Sign s.Comma) →
       Fails (NameList text) after rest → Fails (NameList text) ts rest
@@ -128,7 +128,7 @@ module _ (text : List ℕ) where
         rest = tail_same (tail_same h.rest);
       }
 
-  -- so each of these parts is the only one
+  -- so each of these phrases is unique
 
   pub firm_names : Firm (NameList text)
   firm_names a b r more q x y p st o e = unique_names more q p.names o.names e (starts_not _ r more st p.quits) o.quits
@@ -144,7 +144,7 @@ module _ (text : List ℕ) where
   abbrev InBrackets : Phrase (List Placed)
   InBrackets = Followed Opened (Sign s.RightBracket)
 
-  -- where no bracket stands, there are no gates
+  -- without a bracket there are no gates
   pub found_no_gates : (ts : List Token) → DoesNotStartWith (Sign s.LeftBracket) ts → Parses (OptionalGates text) ts [] ts
   found_no_gates ts h = record { front = []; joined = refl; whole = record { gates = no_gates; quits = λ e. h } }
 
@@ -181,13 +181,13 @@ module _ (text : List ℕ) where
       found_gates ts rest names (found_before Opened _ ts between rest right names
       (found_behind _ (NameList text) ts inside between left names e i f) g j)
 
-  -- where the names in the bracket are lost, so is the gate list
+  -- if the names in the bracket fail, so does the gate list
   pub lost_inside : (ts inside rest : List Token) (left : Token) → ts ≡ left ∷ inside → IsOfKind left (Sign s.LeftBracket) →
       Fails (NameList text) inside rest → Fails (OptionalGates text) ts rest
   lost_inside ts inside rest left e i l = lost_gates ts inside rest left e i
       (lost_within Opened _ ts rest (lost_behind _ (NameList text) ts inside rest left e i l))
 
-  -- where the right bracket is lost, so is the gate list
+  -- if the right bracket fails, so does the gate list
   pub lost_open : (ts inside between rest : List Token) (left : Token) (names : List Placed) → ts ≡ left ∷ inside →
       IsOfKind left (Sign s.LeftBracket) →
       Parses (NameList text) inside names between → Fails (OneToken (Sign s.RightBracket)) between rest → Fails (OptionalGates text) ts rest

@@ -4,7 +4,7 @@ use Rattle.std.specs.List.{AllByRecursion}
 use Rattle.lotos_text.specs.AstView.{BehaviourView, DefinitionView, DefinitionListView}
 use Rattle.lotos_text.specs.Lexing.{IsTokenIn, AreTokensIn}
 use Rattle.lotos_text.specs.Grammar.{Names, one_name, more_names, GateList, no_gates, gates, Level, gate, internal, Operator, apply, IsOperator, enable_sign, disable_sign, interleave_sign, full_sign, sync_on_none, sync_on, choice_sign, Spells, stop, exit, parentheses, call, prefix, tighter, operation, hide, DefinitionKind, SpellsDefinition, definition, SpellsWhere, nothing, definitions, SpellsDefinitions, last, another}
-use Rattle.lotos_text.specs.OffsetsInside.{IsFaultInside, IsTreeInside, IsInside, AreInside}
+use Rattle.lotos_text.specs.OffsetsInside.{IsFaultInside, IsBehaviourInside, IsInside, AreInside}
 use Rattle.lotos_text.specs.TextFaults.{IsLexingFault, IsFaultOfText, IsOffsetOfToken}
 use Rattle.lotos_text.specs.Spelled.{Spelled}
 use Rattle.lotos_text.specs.declared.fault.TextFault.{TextFault}
@@ -14,7 +14,7 @@ use Rattle.lotos_text.specs.declared.ast.Placed.{Placed}
 use Rattle.lotos_text.proofs.LexedLengths.{byte_inside, comment_inside}
 use Rattle.lotos_text.proofs.TokensInText.{all_stand}
 
--- ---- tokens that stand in a text
+-- ---- tokens in a text
 
 module _ (text : List ℕ) where
   pub stand_front : (front rest : List Token) → AreTokensIn text (front ++ rest) → AreTokensIn text front
@@ -40,7 +40,7 @@ module _ (text : List ℕ) where
 
   -- an operator joins trees that lie inside the text to one that does
   join_inside : {l : Level} {op : List Token} {how : Operator} (left right : BehaviourView) → IsOperator text l op how → AreTokensIn text op →
-      IsTreeInside (length text) left → IsTreeInside (length text) right → IsTreeInside (length text) (apply how left right)
+      IsBehaviourInside (length text) left → IsBehaviourInside (length text) right → IsBehaviourInside (length text) (apply how left right)
   join_inside l r (enable_sign {o = o} i) h x y = (x, token_inside o h.0, y)
   join_inside l r (disable_sign i) h x y = (x, y)
   join_inside l r (interleave_sign i) h x y = (x, tt, y)
@@ -51,7 +51,7 @@ module _ (text : List ℕ) where
   join_inside l r (choice_sign i) h x y = (x, y)
 
   tree_inside : {l : Level} {o : Bool} {n : ℕ} {ts : List Token} {x : BehaviourView} → Spells text l o n ts x → AreTokensIn text ts →
-      IsTreeInside (length text) x
+      IsBehaviourInside (length text) x
   tree_inside (stop i) h = tt
   tree_inside (exit i) h = tt
   tree_inside (parentheses {right = right} {ts = ts} i d j) h = tree_inside d (stand_front ts (right ∷ []) h.1)
@@ -96,25 +96,25 @@ module _ (text : List ℕ) where
 module _ (text : List ℕ) where
   placed_within : (at : ℕ) (before : List Token) (t : Token) → IsOffsetOfToken text at before t → at ≤ length text
   placed_within at before t s =
-      let stand = all_stand text (before ++ t ∷ s.after) s.cut in
+      let stand = all_stand text (before ++ t ∷ s.after) s.lexes in
       let inside = token_inside text t (stand_rest text before (t ∷ s.after) stand).0 in
       let place = s.place in omega arith
 
   -- the fault lies inside the text
   pub fault_inside : (fault : TextFault) → IsFaultOfText text fault → IsFaultInside (length text) fault
-  fault_inside (E01 at) h = byte_inside text at h.sticks
-  fault_inside (E02 at) h = comment_inside text at h.sticks
+  fault_inside (E01 at) h = byte_inside text at h.fails
+  fault_inside (E02 at) h = comment_inside text at h.fails
   fault_inside E03 h = tt
-  fault_inside (E04 at) h = placed_within at h.before h.token h.stands
-  fault_inside (E05 at) h = placed_within at h.before h.token h.stands
+  fault_inside (E04 at) h = placed_within at h.before h.token h.located
+  fault_inside (E05 at) h = placed_within at h.before h.token h.located
   fault_inside (E06 at) h = let place = h.place in omega arith
-  fault_inside (E07 at) h = placed_within at h.before h.token h.stands
+  fault_inside (E07 at) h = placed_within at h.before h.token h.located
   fault_inside (E99 e) h = tt
 
-  -- so does the place where the text is not cut
+  -- so does the offset at which the text fails to lex
   pub stuck_fault_inside : (fault : TextFault) → IsLexingFault text fault → IsFaultInside (length text) fault
-  stuck_fault_inside (E01 at) h = byte_inside text at h.sticks
-  stuck_fault_inside (E02 at) h = comment_inside text at h.sticks
+  stuck_fault_inside (E01 at) h = byte_inside text at h.fails
+  stuck_fault_inside (E02 at) h = comment_inside text at h.fails
   stuck_fault_inside E03 h = tt
   stuck_fault_inside (E04 at) h = absurd h
   stuck_fault_inside (E05 at) h = absurd h
@@ -124,4 +124,4 @@ module _ (text : List ℕ) where
 
   -- so does the specification
   pub spelled_inside : (whole : DefinitionView) → Spelled text whole → IsInside (length text) whole
-  spelled_inside whole s = definition_inside text s.spells (all_stand text s.tokens s.cut)
+  spelled_inside whole s = definition_inside text s.spells (all_stand text s.tokens s.lexes)

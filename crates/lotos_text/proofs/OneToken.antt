@@ -12,18 +12,18 @@ use Rattle.lotos_text.specs.declared.ast.Placed.{Placed}
 use Rattle.lotos_text.proofs.FirstToken.{head_same, tail_same, apart, not_first, starts_not, starts_behind}
 use Rattle.lotos_text.proofs.Sequences.{Firm, found_then, firm_then, lost_first, lost_second}
 
--- two lists that each begin with a part of one token
+-- two lists that each begin with a phrase of one token
 same_token : (a b r q : List Token) (n m : Token) → a ≡ n ∷ [] → b ≡ m ∷ [] → a ++ r ≡ b ++ q → n ∷ r ≡ m ∷ q
 same_token a b r q n m i j e = sym (ap (λ l. l ++ r) i) ∙ e ∙ ap (λ l. l ++ q) j
 
--- the first token of a list that begins with a part of one token
+-- the first token of a list that begins with a phrase of one token
 its_first : (own ts behind : List Token) (n : Token) → ts ≡ own ++ behind → own ≡ n ∷ [] → ts ≡ n ∷ behind
 its_first own ts behind n e i = e ∙ ap (λ l. l ++ behind) i
 
 pub found_one : (k : TokenKind) (ts rest : List Token) (n : Token) → ts ≡ n ∷ rest → IsOfKind n k → Parses (OneToken k) ts n rest
 found_one k ts rest n e i = record { front = n ∷ []; joined = e; whole = record { joined = refl; is = i } }
 
--- where no token of the kind stands, it is lost there
+-- if the next token is not of the kind, the token fails there
 pub lost_one : (k : TokenKind) (ts : List Token) → DoesNotStartWith k ts → Fails (OneToken k) ts ts
 lost_one k ts h = record {
   front = [];
@@ -59,7 +59,7 @@ pub found_declared : (ts rest : List Token) (n : Token) (x : Functionality) → 
     Parses OneFunctionality ts x rest
 found_declared ts rest n x e d = record { front = n ∷ []; joined = e; whole = record { token = n; joined = refl; declares = d } }
 
--- no `exit` stands here, and `noexit` is lost there
+-- if the next token is not `exit` and `noexit` fails there, so does the functionality
 pub lost_declared : (ts rest : List Token) → DoesNotStartWith (Reserved w.ExitWord) ts → Fails (OneToken (Reserved w.NoexitWord)) ts rest →
     Fails OneFunctionality ts rest
 lost_declared ts rest h l = record {
@@ -81,7 +81,7 @@ lost_declared ts rest h l = record {
 pub found_nothing : Parses EndOfInput [] tt []
 found_nothing = record { front = []; joined = refl; whole = record { empty = refl; last = refl } }
 
--- where a token stands, the end is lost
+-- if there is a next token, the end of the input fails
 pub lost_nothing : (n : Token) (ts : List Token) → Fails EndOfInput (n ∷ ts) (n ∷ ts)
 lost_nothing n ts = record {
   front = [];
@@ -90,25 +90,25 @@ lost_nothing n ts = record {
       (λ l. l ++ behind) j ∙ k in cc;
 }
 
--- where tokens are left, the end is lost
+-- if tokens are left, the end of the input fails
 pub lost_end : (ts : List Token) → (ts ≡ [] → ⊥) → Fails EndOfInput ts ts
 lost_end [] h = absurd (h refl)
 lost_end (n ∷ ts) h = lost_nothing n ts
 
--- a part behind a token
+-- a phrase after a token
 
 module _ {A : Type 0} (k : TokenKind) (P : Phrase A) where
-  -- the token, and behind it the part
+  -- the token, and after it the phrase
   pub found_behind : (ts between rest : List Token) (n : Token) (x : A) → ts ≡ n ∷ between → IsOfKind n k → Parses P between x rest →
       Parses (Preceded k P) ts x rest
   found_behind ts between rest n x e i f = found_then (λ token said. said) (OneToken k) P ts between rest n x x
       (found_one k ts between n e i) f refl
 
-  -- the token is lost, and so is the part behind it
+  -- the token fails, and so does the token with the phrase after it
   pub lost_before : (ts rest : List Token) → Fails (OneToken k) ts rest → Fails (Preceded k P) ts rest
   lost_before ts rest l = lost_first (λ token said. said) (OneToken k) P ts rest l
 
-  -- the token is found, and the part behind it is lost
+  -- the token parses, and the phrase after it fails
   pub lost_behind : (ts between rest : List Token) (n : Token) → ts ≡ n ∷ between → IsOfKind n k → Fails P between rest →
       Fails (Preceded k P) ts rest
   lost_behind ts between rest n e i l = lost_second (λ token said. said) (OneToken k) P (firm_one k) ts between rest n
@@ -117,7 +117,7 @@ module _ {A : Type 0} (k : TokenKind) (P : Phrase A) where
   pub firm_behind : Firm P → Firm (Preceded k P)
   firm_behind firm = firm_then (λ token said. said) (OneToken k) P (firm_one k) firm
 
-  -- the part behind a token, put together
+  -- the phrase after a token, put together
   pub behind : (n : Token) (own rest : List Token) (x : A) → IsOfKind n k → P own x rest → Preceded k P (n ∷ own) x rest
   behind n own rest x i p = record {
     front = n ∷ [];
@@ -130,7 +130,7 @@ module _ {A : Type 0} (k : TokenKind) (P : Phrase A) where
     same = refl;
   }
 
-  -- the token and the part, taken apart
+  -- the token and the phrase, taken apart
   pub record Uncovered (own : List Token) (x : A) (rest : List Token) : Type 0 where
     pub token : Token
     pub inner : List Token
@@ -147,21 +147,21 @@ module _ {A : Type 0} (k : TokenKind) (P : Phrase A) where
     within = subst (λ y. P t.back y rest) (sym t.same) t.second;
   }
 
--- a part before a token
+-- a phrase before a token
 
 module _ {A : Type 0} (P : Phrase A) (k : TokenKind) where
-  -- the part, and behind it the token
+  -- the phrase, and after it the token
   pub found_before : (ts between rest : List Token) (n : Token) (x : A) → Parses P ts x between → between ≡ n ∷ rest → IsOfKind n k →
       Parses (Followed P k) ts x rest
   found_before ts between rest n x f e i = found_then (λ said token. said) P (OneToken k) ts between rest x n x f
       (found_one k between rest n e i) refl
 
-  -- the part is found, and the token behind it is lost
+  -- the phrase parses, and the token after it fails
   pub lost_unclosed : Firm P → (ts between rest : List Token) (x : A) → Parses P ts x between → Fails (OneToken k) between rest →
       Fails (Followed P k) ts rest
   lost_unclosed firm ts between rest x f l = lost_second (λ said token. said) P (OneToken k) firm ts between rest x f l
 
-  -- the part is lost before the token
+  -- the phrase before the token fails
   pub lost_within : (ts rest : List Token) → Fails P ts rest → Fails (Followed P k) ts rest
   lost_within ts rest l = lost_first (λ said token. said) P (OneToken k) ts rest l
 
@@ -173,7 +173,7 @@ module _ (text : List ℕ) where
       Parses (OneName text) ts x rest
   found_name ts rest n x e i h = record { front = n ∷ []; joined = e; whole = record { token = n; joined = refl; is = i; same = h } }
 
-  -- where the identifier is lost, so is the name
+  -- if the identifier fails, so does the name
   pub lost_name : (ts rest : List Token) → Fails (OneToken Identifier) ts rest → Fails (OneName text) ts rest
   lost_name ts rest l = record {
     front = l.front;

@@ -4,9 +4,9 @@ use Rattle.std.specs.Result.{IsErrAnd}
 use Rattle.lotos_text.specs.AstView as t
 use Rattle.lotos_text.specs.AstView.{BehaviourView}
 use Rattle.lotos_text.specs.Grammar.{IsOfKind, gate, internal, prefixing, Spells, stop, exit, parentheses, call, prefix, tighter, operation, hide}
-use Rattle.lotos_text.specs.Follow.{rank}
+use Rattle.lotos_text.specs.Follow.{precedence}
 use Rattle.lotos_text.specs.OperandStarts.{operand_start}
-use Rattle.lotos_text.specs.ParserContracts.{DoesNotStartWith, Parses, Fails, FailsUnlessMemory, FailsWithin, StopsAt}
+use Rattle.lotos_text.specs.ParserContracts.{DoesNotStartWith, Parses, Fails, FailsAtToken, FailsWithin, StopsAt}
 use Rattle.lotos_text.specs.Phrases.{BehaviourPhrase}
 use Rattle.lotos_text.specs.declared.parse_primitives.ParseError.{ParseError}
 use Rattle.lotos_text.specs.declared.parse_primitives.ParseError.TheVariants.{Unexpected, TooDeep, Memory}
@@ -23,30 +23,30 @@ use Rattle.lotos_text.proofs.ParseErrors.{missed_free}
 -- no token, where nothing goes on with an operand
 pub record Ended (own : List Token) (said : Unit {0}) (behind : List Token) : Type 0 where
   pub empty : own ≡ []
-  pub quits : rank behind < 5
+  pub quits : precedence behind < 5
 
-lost_ended : (ts : List Token) → rank ts ≡ 5 → Fails Ended ts ts
+lost_ended : (ts : List Token) → precedence ts ≡ 5 → Fails Ended ts ts
 lost_ended ts h = record {
   front = [];
   joined = refl;
   never = λ more own behind said st e p.
       let i = starts_rank ts more st in
-      let j = ap rank (e ∙ ap (λ m. m ++ behind) p.empty) in
+      let j = ap precedence (e ∙ ap (λ m. m ++ behind) p.empty) in
       let k = p.quits in
       omega (arith, h, i, j, k);
 }
 
--- where the operand goes on, its end is lost
-pub missed_end : (ts : List Token) (stop : ParseError) → StopsAt ts stop → rank ts ≡ 5 → FailsUnlessMemory Ended ts stop
+-- if the operand is continued, its end fails
+pub missed_end : (ts : List Token) (stop : ParseError) → StopsAt ts stop → precedence ts ≡ 5 → FailsAtToken Ended ts stop
 missed_end ts (Unexpected rest) e h = subst (λ m. Fails Ended ts m) (sym e) (lost_ended ts h)
 missed_end ts (TooDeep token) e h = absurd e
 missed_end ts (Memory x) e h = absurd e
 
 module _ (text : List ℕ) where
-  -- where the end of the operand is lost, so is the operand: the answer is passed on
+  -- if the end of the operand fails, so does the operand; the error is passed on
   pub unended : {T : Type 0} (room : ℕ) (ts us : List Token) →
       ((rest : List Token) → Fails Ended ts rest → Fails (BehaviourPhrase text prefixing None) us rest) →
-      (r : Result T ParseError) (e : ParseError) → IsErrAnd r (λ y. y ≡ e) → StopsAt ts e × (rank ts ≡ 5) →
+      (r : Result T ParseError) (e : ParseError) → IsErrAnd r (λ y. y ≡ e) → StopsAt ts e × (precedence ts ≡ 5) →
       IfErr r (FailsWithin (BehaviourPhrase text prefixing) room us)
   unended room ts us to r e h l =
       missed_free Ended (BehaviourPhrase text prefixing) room ts us to r e h (missed_end ts e l.0 l.1)
@@ -64,8 +64,8 @@ module _ (text : List ℕ) where
         (record { empty = refl; quits = below_calls p.ends behind p.quits });
   }
 
-  -- `stop`, with which nothing goes on, is an operand
-  pub found_stop : (room : ℕ) (n : Token) (ts : List Token) → IsOfKind n (Reserved w.StopWord) → rank ts < 5 →
+  -- `stop`, which nothing continues, is an operand
+  pub found_stop : (room : ℕ) (n : Token) (ts : List Token) → IsOfKind n (Reserved w.StopWord) → precedence ts < 5 →
       Parses (BehaviourPhrase text prefixing (Some room)) (n ∷ ts) t.stop ts
   found_stop room n ts i h = record {
     front = n ∷ [];
@@ -73,13 +73,13 @@ module _ (text : List ℕ) where
     whole = record { ends = false; nesting = 0; spells = stop i; quits = h; within = within_none (Some room) };
   }
 
-  -- where something goes on with `stop`, it is no operand
+  -- if something continues `stop`, it is no operand
   pub lost_stop : (n : Token) (ts rest : List Token) → IsOfKind n (Reserved w.StopWord) → Fails Ended ts rest →
       Fails (BehaviourPhrase text prefixing None) (n ∷ ts) rest
   lost_stop n ts rest i l = lost_leaf n ts rest t.stop (λ ends nesting own behind more x d e. taken_stop text behind more i d e) l
 
-  -- `exit`, with which nothing goes on, is an operand
-  pub found_exit : (room : ℕ) (n : Token) (ts : List Token) → IsOfKind n (Reserved w.ExitWord) → rank ts < 5 →
+  -- `exit`, which nothing continues, is an operand
+  pub found_exit : (room : ℕ) (n : Token) (ts : List Token) → IsOfKind n (Reserved w.ExitWord) → precedence ts < 5 →
       Parses (BehaviourPhrase text prefixing (Some room)) (n ∷ ts) t.exit ts
   found_exit room n ts i h = record {
     front = n ∷ [];
@@ -87,7 +87,7 @@ module _ (text : List ℕ) where
     whole = record { ends = false; nesting = 0; spells = exit i; quits = h; within = within_none (Some room) };
   }
 
-  -- where something goes on with `exit`, it is no operand
+  -- if something continues `exit`, it is no operand
   pub lost_exit : (n : Token) (ts rest : List Token) → IsOfKind n (Reserved w.ExitWord) → Fails Ended ts rest →
       Fails (BehaviourPhrase text prefixing None) (n ∷ ts) rest
   lost_exit n ts rest i l = lost_leaf n ts rest t.exit (λ ends nesting own behind more x d e. taken_exit text behind more i d e) l

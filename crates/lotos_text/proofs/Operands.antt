@@ -3,7 +3,7 @@ use Rattle.std.proofs.Common.{◌≡◌, ℕ, ◌+◌, ◌<◌, Bool, true, fals
 use Rattle.lotos_text.specs.AstView as t
 use Rattle.lotos_text.specs.AstView.{BehaviourView}
 use Rattle.lotos_text.specs.Grammar.{IsOfKind, located_name, Names, GateList, no_gates, gates, IsAction, gate, internal, Level, enabling, prefixing, Spells, stop, exit, parentheses, call, prefix, tighter, operation, hide}
-use Rattle.lotos_text.specs.Follow.{rank, bound}
+use Rattle.lotos_text.specs.Follow.{precedence, bound}
 use Rattle.lotos_text.specs.ParserContracts.{DoesNotStartWith}
 use Rattle.lotos_text.specs.declared.token.Token.{Token}
 use Rattle.lotos_text.specs.declared.token.TokenKind.TheVariants.{Identifier, Reserved, Sign}
@@ -15,13 +15,13 @@ use Rattle.lotos_text.specs.declared.ast.Placed.{Placed}
 use Rattle.lotos_text.proofs.FirstToken.{head_same, tail_same, apart}
 use Rattle.lotos_text.proofs.Levels.{rank_is}
 
--- what is whole at the tightest level goes on with no gates and no semicolon
-pub below_calls : (o : Bool) (ts : List Token) → rank ts < bound prefixing o → rank ts < 5
+-- what is complete at the tightest level is continued by no gates and no semicolon
+pub below_calls : (o : Bool) (ts : List Token) → precedence ts < bound prefixing o → precedence ts < 5
 below_calls true ts h = omega (arith, h)
 below_calls false ts h = h
 
 -- what ranks below a bracket does not begin with one
-pub not_bracket : (ts : List Token) → rank ts < 5 → DoesNotStartWith (Sign s.LeftBracket) ts
+pub not_bracket : (ts : List Token) → precedence ts < 5 → DoesNotStartWith (Sign s.LeftBracket) ts
 not_bracket [] h = tt
 not_bracket (n ∷ ts) h = λ i. let e = rank_is ts i in omega (arith, e, h)
 
@@ -203,15 +203,15 @@ module _ (text : List ℕ) where
 
   -- where a gate list begins with a semicolon, it is empty, and what follows goes on
   pub not_listed : {listed : List Token} {names : List Placed} {n : Token} (behind ts : List Token) → GateList text listed names →
-      listed ++ behind ≡ n ∷ ts → IsOfKind n (Sign s.Semicolon) → rank behind < 5 → ⊥
-  not_listed behind ts no_gates e i h = let f = ap rank e ∙ rank_is ts i in omega (arith, f, h)
+      listed ++ behind ≡ n ∷ ts → IsOfKind n (Sign s.Semicolon) → precedence behind < 5 → ⊥
+  not_listed behind ts no_gates e i h = let f = ap precedence e ∙ rank_is ts i in omega (arith, f, h)
   not_listed behind ts (gates j d k) e i h = apart j i (head_same e) (λ e. cc)
 
   -- what begins with an action and a semicolon is a prefix of it
   pub taken_prefix : {n semicolon : Token} {act : Action} {o : Bool} {m : ℕ} {own : List Token} {x : BehaviourView}
       (behind ts : List Token) →
       IsAction text n act → IsOfKind semicolon (Sign s.Semicolon) → Spells text prefixing o m own x →
-      own ++ behind ≡ n ∷ semicolon ∷ ts → rank behind < bound prefixing o → Prefixed n act o m own x behind (semicolon ∷ ts)
+      own ++ behind ≡ n ∷ semicolon ∷ ts → precedence behind < bound prefixing o → Prefixed n act o m own x behind (semicolon ∷ ts)
   taken_prefix {semicolon = semicolon} behind ts (internal i) j d e h = taken_internal behind (semicolon ∷ ts) i d e
   taken_prefix {n} {semicolon} {o = o} {m = m} {own = own} {x = x} behind ts (gate i) j d e h =
       only (taken_name behind (semicolon ∷ ts) i d e)

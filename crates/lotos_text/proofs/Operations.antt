@@ -2,7 +2,7 @@
 use Rattle.std.proofs.Common.{◌≡◌, ℕ, ◌+◌, ◌-◌, ◌<◌, ◌≤◌, max, Bool, true, false, List, [], ◌∷◌, ◌++◌, Some, None, refl, sym, ◌∙◌, ap, append_assoc, arith, subst}
 use Rattle.lotos_text.specs.AstView.{BehaviourView}
 use Rattle.lotos_text.specs.Grammar.{Level, enabling, disabling, parallel, choosing, prefixing, BindsTighter, tighter_than_enabling, tighter_than_disabling, tighter_than_parallel, tighter_than_choosing, Operator, apply, IsOperator, enable_sign, disable_sign, interleave_sign, full_sign, sync_on_none, sync_on, choice_sign, Spells, tighter, operation}
-use Rattle.lotos_text.specs.Follow.{rank, level_rank, bound}
+use Rattle.lotos_text.specs.Follow.{precedence, level_precedence, bound}
 use Rattle.lotos_text.specs.ConstructOpenings.{opens_construct, count_openings}
 use Rattle.lotos_text.specs.OperandStarts.{infix_of, infix_level}
 use Rattle.lotos_text.specs.ParserContracts.{Phrase, NestingLimit, IsNestingWithin, Parses, StartsAlike, Fails, IsTooDeepAt}
@@ -20,7 +20,7 @@ use Rattle.lotos_text.proofs.SyncLists.{is_mark}
 use Rattle.lotos_text.proofs.GrammarUnique.{unique, join_assoc}
 
 -- the next tighter level ranks one higher
-pub next_rank : {l m : Level} → BindsTighter l m → level_rank m ≡ level_rank l + 1
+pub next_rank : {l m : Level} → BindsTighter l m → level_precedence m ≡ level_precedence l + 1
 next_rank tighter_than_enabling = refl
 next_rank tighter_than_disabling = refl
 next_rank tighter_than_parallel = refl
@@ -33,16 +33,16 @@ not_prefixing tighter_than_disabling e = cc
 not_prefixing tighter_than_parallel e = cc
 not_prefixing tighter_than_choosing e = cc
 
--- what is whole at the tighter level, and goes on with no operator of this one, is whole at this one
-quits_looser : {l m : Level} (ends : Bool) (ts : List Token) → BindsTighter l m → (rank ts ≡ level_rank l → ⊥) → rank ts < bound m ends →
-    rank ts < bound l ends
+-- what is complete at the tighter level, and is continued by no operator of this one, is complete at this one
+quits_looser : {l m : Level} (ends : Bool) (ts : List Token) → BindsTighter l m → (precedence ts ≡ level_precedence l → ⊥) → precedence ts < bound m ends →
+    precedence ts < bound l ends
 quits_looser true ts b without h = h
 quits_looser false ts b without h = let e = next_rank b in smaller _ _ _ e without h
   where
     smaller : (n k j : ℕ) → j ≡ k + 1 → (n ≡ k → ⊥) → n < j → n < k
     smaller n k j e without h = omega (arith, e, without, h)
 
--- a token that is a mark ranks as its level's operators, and opens a construct
+-- a token that is an operator's sign ranks as its level's operators, and opens a construct
 mark_opens : (n : Token) (m : Infix) → infix_of n.kind ≡ Some m → opens_construct n.kind ≡ true
 mark_opens n i.Enable e = opens_is (is_mark n i.Enable e) refl
 mark_opens n i.Disable e = opens_is (is_mark n i.Disable e) refl
@@ -51,7 +51,7 @@ mark_opens n i.Full e = opens_is (is_mark n i.Full e) refl
 mark_opens n i.Sync e = opens_is (is_mark n i.Sync e) refl
 mark_opens n i.Choice e = opens_is (is_mark n i.Choice e) refl
 
-mark_rank : (n : Token) (m : Infix) (ts : List Token) → infix_of n.kind ≡ Some m → rank (n ∷ ts) ≡ level_rank (infix_level m)
+mark_rank : (n : Token) (m : Infix) (ts : List Token) → infix_of n.kind ≡ Some m → precedence (n ∷ ts) ≡ level_precedence (infix_level m)
 mark_rank n i.Enable ts e = rank_is ts (is_mark n i.Enable e)
 mark_rank n i.Disable ts e = rank_is ts (is_mark n i.Disable e)
 mark_rank n i.Interleave ts e = rank_is ts (is_mark n i.Interleave e)
@@ -59,13 +59,13 @@ mark_rank n i.Full ts e = rank_is ts (is_mark n i.Full e)
 mark_rank n i.Sync ts e = rank_is ts (is_mark n i.Sync e)
 mark_rank n i.Choice ts e = rank_is ts (is_mark n i.Choice e)
 
--- the tokens from a mark on rank as its level's operators
+-- the tokens from an operator's sign on rank as its level's operators
 pub marked : {l : Level} (between after : List Token) (n : Token) (m : Infix) → between ≡ n ∷ after → infix_of n.kind ≡ Some m →
-    infix_level m ≡ l → rank between ≡ level_rank l
-marked between after n m e i j = ap rank e ∙ mark_rank n m after i ∙ ap level_rank j
+    infix_level m ≡ l → precedence between ≡ level_precedence l
+marked between after n m e i j = ap precedence e ∙ mark_rank n m after i ∙ ap level_precedence j
 
--- behind what an operator follows nothing is open
-shut : (l m : Level) (ends : Bool) (ts : List Token) → rank ts ≡ level_rank l → rank ts < bound m ends → ends ≡ false
+-- what an operator follows is not open
+shut : (l m : Level) (ends : Bool) (ts : List Token) → precedence ts ≡ level_precedence l → precedence ts < bound m ends → ends ≡ false
 shut l m false ts e h = refl
 shut enabling m true ts e h = absurd (omega (arith, e, h))
 shut disabling m true ts e h = absurd (omega (arith, e, h))
@@ -83,7 +83,7 @@ right_within limit nl nr h = within_inside limit nr (nr + 1) refl (within_less l
 module _ (text : List ℕ) where
   -- the left operand alone, with which no operator of the level goes on
   pub found_alone : {l m : Level} (room : ℕ) (ts rest : List Token) (x : BehaviourView) → BindsTighter l m →
-      Parses (BehaviourPhrase text m (Some room)) ts x rest → (rank rest ≡ level_rank l → l ≡ prefixing) →
+      Parses (BehaviourPhrase text m (Some room)) ts x rest → (precedence rest ≡ level_precedence l → l ≡ prefixing) →
       Parses (BehaviourPhrase text l (Some room)) ts x rest
   found_alone room ts rest x b f without = record {
     front = f.front;
@@ -103,7 +103,7 @@ module _ (text : List ℕ) where
       Parses (BehaviourPhrase text l (Some (room - 1))) after y rest → z ≡ apply how x y →
       Parses (BehaviourPhrase text l (Some room)) ts z rest
   found_operation {l} {m} room ts between after rest how x y z h b f o g e =
-      let ranks : rank between ≡ level_rank l = ap rank o.joined ∙ operator_rank text after o.whole.operates in
+      let ranks : precedence between ≡ level_precedence l = ap precedence o.joined ∙ operator_rank text after o.whole.operates in
       let left : Spells text m false f.whole.nesting f.front x =
       subst (λ ends. Spells text m ends f.whole.nesting f.front x) (shut l m f.whole.ends between ranks f.whole.quits)
       f.whole.spells in
@@ -126,7 +126,7 @@ module _ (text : List ℕ) where
 
   never_left : {l m : Level} (limit : NestingLimit) (ts own behind : List Token) (ends : Bool) (nesting : ℕ) (x : BehaviourView) → BindsTighter l m →
       ((a r : List Token) (y : BehaviourView) → ts ≡ a ++ r → BehaviourPhrase text m limit a y r → ⊥) →
-      ts ≡ own ++ behind → Levelled text l m ends nesting own x → rank behind < bound l ends → IsNestingWithin limit nesting → ⊥
+      ts ≡ own ++ behind → Levelled text l m ends nesting own x → precedence behind < bound l ends → IsNestingWithin limit nesting → ⊥
   never_left limit ts own behind ends nesting x b h e (alone d) q u = h own behind x e
       (record {
         ends = ends;
@@ -155,7 +155,7 @@ module _ (text : List ℕ) where
         (taken_level text b p.spells) p.quits p.within;
   }
 
-  -- where the left operand is lost, so is the whole
+  -- if the left operand fails, so does the whole
   pub carries_left : {l m : Level} (room : ℕ) (ts : List Token) → BindsTighter l m →
       Carries (BehaviourPhrase text m) room ts (BehaviourPhrase text l) room ts
   carries_left room ts b = record {
@@ -166,7 +166,7 @@ module _ (text : List ℕ) where
     crowds = omega arith;
   }
 
-  -- behind the left operand
+  -- after the left operand
 
   abbrev paired : Operator → BehaviourView → Operator × BehaviourView
   paired how y = (how, y)
@@ -176,12 +176,12 @@ module _ (text : List ℕ) where
   Behind l limit = Sequence paired (OneOperator text l) (BehaviourPhrase text l limit)
 
   never_behind : {l m : Level} (limit : NestingLimit) (front more own behind : List Token) (o ends : Bool) (n nesting : ℕ) (x z : BehaviourView) →
-      BindsTighter l m → Spells text m o n front x → rank more ≡ level_rank l → rank more < bound m o →
+      BindsTighter l m → Spells text m o n front x → precedence more ≡ level_precedence l → precedence more < bound m o →
       ((a r : List Token) (said : Operator × BehaviourView) → more ≡ a ++ r → Behind l (inside limit) a said r → ⊥) →
-      front ++ more ≡ own ++ behind → Levelled text l m ends nesting own z → rank behind < bound l ends → IsNestingWithin limit nesting → ⊥
+      front ++ more ≡ own ++ behind → Levelled text l m ends nesting own z → precedence behind < bound l ends → IsNestingWithin limit nesting → ⊥
   never_behind {l = l} limit front more own behind o ends n nesting x z b c ranks quits none e (alone d) q u =
       let h = unique text more behind c d e quits (let g = bound_below ends b in omega (arith, g, q)) in
-      let g = ap rank h.rest in
+      let g = ap precedence h.rest in
       let k = bound_most l ends in
       omega (arith, ranks, g, k, q)
   never_behind limit front more _ behind o ends n _ x _ b c ranks quits none e
@@ -199,9 +199,9 @@ module _ (text : List ℕ) where
         same = refl;
       })
 
-  -- where an operator of the level goes on, and it or its right operand is lost, so is the whole
+  -- if an operator of the level follows, and it or its right operand fails, so does the operation
   lost_behind : {l m : Level} (limit within : NestingLimit) (ts between rest : List Token) (x : BehaviourView) → BindsTighter l m →
-      Parses (BehaviourPhrase text m within) ts x between → rank between ≡ level_rank l → Fails (Behind l (inside limit)) between rest →
+      Parses (BehaviourPhrase text m within) ts x between → precedence between ≡ level_precedence l → Fails (Behind l (inside limit)) between rest →
       Fails (BehaviourPhrase text l limit) ts rest
   lost_behind limit within ts between rest x b f ranks l = record {
     front = f.front ++ l.front;
@@ -215,29 +215,29 @@ module _ (text : List ℕ) where
         (sym (append_assoc f.front l.front more) ∙ e) (taken_level text b p.spells) p.quits p.within;
   }
 
-  -- an operator of the mark's level, as one of this level before the same tokens
+  -- an operator of the sign's level, as one of this level before the same tokens
   pub marked_found : {l k : Level} (between others after : List Token) (how : Operator) → between ≡ others → k ≡ l →
       Parses (OneOperator text k) others how after → Parses (OneOperator text l) between how after
   marked_found {k = k} between others after how e h f =
       subst (λ m. Parses (OneOperator text m) between how after) h
       (subst (λ ts. Parses (OneOperator text k) ts how after) (sym e) f)
 
-  -- the same of an operator that is lost
+  -- the same of an operator that fails
   pub marked_lost : {l k : Level} (between others rest : List Token) → between ≡ others → k ≡ l →
       Fails (OneOperator text k) others rest → Fails (OneOperator text l) between rest
   marked_lost {k = k} between others rest e h f =
       subst (λ m. Fails (OneOperator text m) between rest) h (subst (λ ts. Fails (OneOperator text k) ts rest) (sym e) f)
 
-  -- where the operator is lost, so is the whole
+  -- if the operator fails, so does the whole
   pub lost_operator : {l m : Level} (within : NestingLimit) (ts between rest : List Token) (x : BehaviourView) → BindsTighter l m →
-      Parses (BehaviourPhrase text m within) ts x between → rank between ≡ level_rank l → Fails (OneOperator text l) between rest →
+      Parses (BehaviourPhrase text m within) ts x between → precedence between ≡ level_precedence l → Fails (OneOperator text l) between rest →
       Fails (BehaviourPhrase text l None) ts rest
   lost_operator {l} within ts between rest x b f ranks lost =
       lost_behind None within ts between rest x b f ranks
       (lost_first paired (OneOperator text l) (BehaviourPhrase text l None) between rest lost)
 
   lost_right : {l m : Level} (limit within : NestingLimit) (ts between after rest : List Token) (how : Operator) (x : BehaviourView) → BindsTighter l m →
-      Parses (BehaviourPhrase text m within) ts x between → rank between ≡ level_rank l → Parses (OneOperator text l) between how after →
+      Parses (BehaviourPhrase text m within) ts x between → precedence between ≡ level_precedence l → Parses (OneOperator text l) between how after →
       Fails (BehaviourPhrase text l (inside limit)) after rest → Fails (BehaviourPhrase text l limit) ts rest
   lost_right {l} limit within ts between after rest how x b f ranks o lost =
       lost_behind limit within ts between rest x b f ranks
@@ -255,9 +255,9 @@ module _ (text : List ℕ) where
       opens_among front (ts ++ right ∷ bar ∷ []) o (opens_is i refl)
   operator_opens front _ how (choice_sign {o = o} i) = opens_among front [] o (opens_is i refl)
 
-  -- where the right operand is lost, so is the whole
+  -- if the right operand fails, so does the whole
   pub carries_right : {l m : Level} (room : ℕ) (ts between after : List Token) (how : Operator) (x : BehaviourView) → BindsTighter l m →
-      Parses (BehaviourPhrase text m (Some room)) ts x between → rank between ≡ level_rank l →
+      Parses (BehaviourPhrase text m (Some room)) ts x between → precedence between ≡ level_precedence l →
       Parses (OneOperator text l) between how after →
       Carries (BehaviourPhrase text l) (room - 1) after (BehaviourPhrase text l) room ts
   carries_right room ts between after how x b f ranks o = record {
@@ -268,7 +268,7 @@ module _ (text : List ℕ) where
     crowds = (let h = operator_opens f.front o.front how o.whole.operates in omega (arith, h));
   }
 
-  -- with no room left, an operator that goes on begins nothing
+  -- with no nesting left, an operator that follows is too deep
   pub deep_operation : {l m : Level} (room : ℕ) (ts between after : List Token) (n : Token) (which : Infix) (x : BehaviourView) →
       room ≡ 0 → BindsTighter l m → Parses (BehaviourPhrase text m (Some room)) ts x between → between ≡ n ∷ after →
       infix_of n.kind ≡ Some which → infix_level which ≡ l → IsTooDeepAt (BehaviourPhrase text l) room ts n
@@ -278,7 +278,7 @@ module _ (text : List ℕ) where
       front = f.front;
       joined = f.joined ∙ ap (λ m. f.front ++ m) e;
       never = λ more own behind z st g p.
-          let same : rank more ≡ rank between = starts_rank (n ∷ after) more st ∙ ap rank (sym e) in
+          let same : precedence more ≡ precedence between = starts_rank (n ∷ after) more st ∙ ap precedence (sym e) in
           never_deep f.front more own behind f.whole.ends p.ends f.whole.nesting p.nesting x z b f.whole.spells
           (same ∙ marked between after n which e i j) (let q = f.whole.quits in omega (arith, same, q)) g
           (taken_level text b p.spells) p.quits (let k = p.within in omega (arith, h, k));
@@ -288,11 +288,11 @@ module _ (text : List ℕ) where
   }
     where
       never_deep : {l m : Level} (front more own behind : List Token) (o ends : Bool) (n nesting : ℕ) (x z : BehaviourView) →
-          BindsTighter l m → Spells text m o n front x → rank more ≡ level_rank l → rank more < bound m o →
-          front ++ more ≡ own ++ behind → Levelled text l m ends nesting own z → rank behind < bound l ends → nesting ≤ 0 → ⊥
+          BindsTighter l m → Spells text m o n front x → precedence more ≡ level_precedence l → precedence more < bound m o →
+          front ++ more ≡ own ++ behind → Levelled text l m ends nesting own z → precedence behind < bound l ends → nesting ≤ 0 → ⊥
       never_deep {l = l} front more own behind o ends n nesting x z b c ranks quits e (alone d) q u =
           let h = unique text more behind c d e quits (let g = bound_below ends b in omega (arith, g, q)) in
-          let g = ap rank h.rest in
+          let g = ap precedence h.rest in
           let k = bound_most l ends in
           omega (arith, ranks, g, k, q)
       never_deep front more _ behind o ends n _ x _ b c ranks quits e (operated d i f) q u = omega (arith, u)

@@ -3,7 +3,7 @@ use Rattle.std.proofs.Common.{◌≡◌, ℕ, ◌+◌, ◌-◌, ◌<◌, false, 
 use Rattle.std.proofs.lemmas.List.{append-nil}
 use Rattle.lotos_text.specs.AstView.{BehaviourView}
 use Rattle.lotos_text.specs.Grammar.{IsOfKind, enabling, prefixing, Spells, parentheses}
-use Rattle.lotos_text.specs.Follow.{rank}
+use Rattle.lotos_text.specs.Follow.{precedence}
 use Rattle.lotos_text.specs.ParserContracts.{Phrase, NestingLimit, Parses, Fails, IsTooDeepAt}
 use Rattle.lotos_text.specs.Phrases.{Sequence, OneToken, Preceded, Followed, BehaviourPhrase}
 use Rattle.lotos_text.specs.declared.token.Sign.TheVariants as s
@@ -73,10 +73,10 @@ module _ (text : List ℕ) where
   closed limit n right ts between rest x i f e j = found_before (Opened limit) _ (n ∷ ts) between rest right x
       (opened limit n ts between x i f) e j
 
-  -- a parenthesis, a behaviour expression and a parenthesis, with which nothing goes on, are an operand
+  -- a parenthesis, a behaviour expression and a parenthesis, which nothing continues, are an operand
   pub found_closed : (room : ℕ) (n right : Token) (ts others rest : List Token) (x : BehaviourView) → 0 < room →
       IsOfKind n (Sign s.LeftParenthesis) → Parses (BehaviourPhrase text enabling (Some (room - 1))) ts x others → others ≡ right ∷ rest →
-      IsOfKind right (Sign s.RightParenthesis) → rank rest < 5 → Parses (BehaviourPhrase text prefixing (Some room)) (n ∷ ts) x rest
+      IsOfKind right (Sign s.RightParenthesis) → precedence rest < 5 → Parses (BehaviourPhrase text prefixing (Some room)) (n ∷ ts) x rest
   found_closed room n right ts others rest x h i f e j q =
       let g = closed (Some (room - 1)) n right ts others rest x i f e j in
       let b = between _ _ (BehaviourPhrase text enabling (Some (room - 1))) g.front rest x g.whole in
@@ -100,7 +100,7 @@ module _ (text : List ℕ) where
       (lost_within (Opened (inside limit)) _ (n ∷ ts) rest
       (lost_behind _ (BehaviourPhrase text enabling (inside limit)) (n ∷ ts) ts rest n refl i lost)))
 
-  -- where the behaviour expression in parentheses is lost, so is the operand
+  -- if the behaviour expression in parentheses fails, so does the operand
   pub carries_inside : (room : ℕ) (n : Token) (ts : List Token) → IsOfKind n (Sign s.LeftParenthesis) →
       Carries (BehaviourPhrase text enabling) (room - 1) ts (BehaviourPhrase text prefixing) room (n ∷ ts)
   carries_inside room n ts i = record {
@@ -111,7 +111,7 @@ module _ (text : List ℕ) where
     crowds = (let h = opens_among [] [] n (opens_is i refl) in omega (arith, h));
   }
 
-  -- where the right parenthesis is lost, so is the operand
+  -- if the right parenthesis fails, so does the operand
   pub lost_open : (limit : NestingLimit) (n : Token) (ts between rest : List Token) (x : BehaviourView) → IsOfKind n (Sign s.LeftParenthesis) →
       Parses (BehaviourPhrase text enabling limit) ts x between → Fails (OneToken (Sign s.RightParenthesis)) between rest →
       Fails (BehaviourPhrase text prefixing None) (n ∷ ts) rest
@@ -120,7 +120,7 @@ module _ (text : List ℕ) where
       (lost_after (λ said token. said) Opened (OneToken _) limit None firm_opened (n ∷ ts) between rest x
       (opened limit n ts between x i f) lost))
 
-  -- where something goes on with the parentheses, they are no operand
+  -- if something continues the parentheses, they are no operand
   pub lost_going_on : (limit : NestingLimit) (n right : Token) (ts between after rest : List Token) (x : BehaviourView) →
       IsOfKind n (Sign s.LeftParenthesis) → Parses (BehaviourPhrase text enabling limit) ts x between → between ≡ right ∷ after →
       IsOfKind right (Sign s.RightParenthesis) → Fails Ended after rest → Fails (BehaviourPhrase text prefixing None) (n ∷ ts) rest
@@ -128,7 +128,7 @@ module _ (text : List ℕ) where
       lost_closed None n ts rest i (lost_after alone InBrackets Ended limit None firm_brackets (n ∷ ts) after rest x
       (closed limit n right ts between after x i f e j) lost)
 
-  -- with no room left, a left parenthesis begins nothing
+  -- with no nesting left, a left parenthesis is too deep
   pub deep_parenthesis : (room : ℕ) (n : Token) (ts : List Token) → room ≡ 0 → IsOfKind n (Sign s.LeftParenthesis) →
       IsTooDeepAt (BehaviourPhrase text prefixing) room (n ∷ ts) n
   deep_parenthesis room n ts h i = record {

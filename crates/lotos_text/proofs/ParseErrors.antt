@@ -4,7 +4,7 @@ use Rattle.std.proofs.lemmas.Result.{err_from_is_err_and}
 use Rattle.std.proofs.lemmas.List.Sums.{sum_by-append}
 use Rattle.std.specs.Result.{IsErrAnd}
 use Rattle.lotos_text.specs.ConstructOpenings.{opens_construct, count_openings}
-use Rattle.lotos_text.specs.ParserContracts.{Phrase, NestingLimit, Fails, HasTooManyOpen, IsTooDeepAt, FailsAtAnyNesting, FailsUnlessMemory, FailsWithin}
+use Rattle.lotos_text.specs.ParserContracts.{Phrase, NestingLimit, Fails, HasTooManyOpen, IsTooDeepAt, FailsAtAnyNesting, FailsAtToken, FailsWithin}
 use Rattle.lotos_text.specs.declared.parse_primitives.ParseError.{ParseError}
 use Rattle.lotos_text.specs.declared.parse_primitives.ParseError.TheVariants.{Unexpected, TooDeep, Memory}
 use Rattle.lotos_text.specs.declared.token.Token.{Token}
@@ -15,18 +15,18 @@ stopped P Q ts us to (Unexpected rest) l = to rest.now l
 stopped P Q ts us to (TooDeep token) l = l
 stopped P Q ts us to (Memory e) l = tt
 
-missed_lost : {A : Type 0} (P : Phrase A) (ts : List Token) (e : ParseError) → FailsUnlessMemory P ts e → FailsAtAnyNesting P ts e
+missed_lost : {A : Type 0} (P : Phrase A) (ts : List Token) (e : ParseError) → FailsAtToken P ts e → FailsAtAnyNesting P ts e
 missed_lost P ts (Unexpected rest) l = l
 missed_lost P ts (TooDeep token) l = absurd l
 missed_lost P ts (Memory e) l = tt
 
 missed : {A B : Type 0} (P : Phrase A) (Q : Phrase B) (ts us : List Token) → ((rest : List Token) → Fails P ts rest → Fails Q us rest) →
-    (e : ParseError) → FailsUnlessMemory P ts e → FailsUnlessMemory Q us e
+    (e : ParseError) → FailsAtToken P ts e → FailsAtToken Q us e
 missed P Q ts us to (Unexpected rest) l = to rest.now l
 missed P Q ts us to (TooDeep token) l = l
 missed P Q ts us to (Memory e) l = l
 
--- A `?` passes on where the part stopped, and the whole is lost there too.
+-- A `?` passes on the error of a part, and the whole fails there too.
 pub passed_on : {A B T : Type 0} (P : Phrase A) (Q : Phrase B) (ts us : List Token) →
     ((rest : List Token) → Fails P ts rest → Fails Q us rest) →
     (r : Result T ParseError) (e : ParseError) → IsErrAnd r (λ y. y ≡ e) → FailsAtAnyNesting P ts e → IfErr r (FailsAtAnyNesting Q us)
@@ -34,31 +34,31 @@ passed_on P Q ts us to r e h l =
     let q = err_from_is_err_and r h in
     subst (λ m. IfErr m (FailsAtAnyNesting Q us)) (sym q.1) (subst (λ m. FailsAtAnyNesting Q us m) (sym q.2) (stopped P Q ts us to e l))
 
--- the answer is passed on, and what it found is more
+-- the result is passed on, and it parses the longer phrase
 pub still_found : {T E : Type 0} (P Q : T → Type 0) (r : Result T E) → ((x : T) → P x → Q x) → IfOk r P → IfOk r Q
 still_found P Q (Ok x) to p = to x p
 still_found P Q (Err e) to p = tt
 
--- A `?` passes on where a part that takes no memory stopped, and a whole that may take some is lost there too.
+-- A `?` passes on the error of a part that does not allocate, and a whole that may allocate fails there too.
 pub missed_on : {A B T : Type 0} (P : Phrase A) (Q : Phrase B) (ts us : List Token) →
     ((rest : List Token) → Fails P ts rest → Fails Q us rest) → (r : Result T ParseError) (e : ParseError) → IsErrAnd r (λ y. y ≡ e) →
-    FailsUnlessMemory P ts e → IfErr r (FailsAtAnyNesting Q us)
+    FailsAtToken P ts e → IfErr r (FailsAtAnyNesting Q us)
 missed_on P Q ts us to r e h l = passed_on P Q ts us to r e h (missed_lost P ts e l)
 
--- the same, in one that takes no memory either
+-- the same, in a whole that does not allocate either
 pub still_missed : {A B T : Type 0} (P : Phrase A) (Q : Phrase B) (ts us : List Token) →
     ((rest : List Token) → Fails P ts rest → Fails Q us rest) → (r : Result T ParseError) (e : ParseError) → IsErrAnd r (λ y. y ≡ e) →
-    FailsUnlessMemory P ts e → IfErr r (FailsUnlessMemory Q us)
+    FailsAtToken P ts e → IfErr r (FailsAtToken Q us)
 still_missed P Q ts us to r e h l =
     let q = err_from_is_err_and r h in
-    subst (λ m. IfErr m (FailsUnlessMemory Q us)) (sym q.1) (subst (λ m. FailsUnlessMemory Q us m) (sym q.2) (missed P Q ts us to e l))
+    subst (λ m. IfErr m (FailsAtToken Q us)) (sym q.1) (subst (λ m. FailsAtToken Q us m) (sym q.2) (missed P Q ts us to e l))
 
 -- ---- parts with a limit of nesting
 
 openings_append : (front back : List Token) → count_openings (front ++ back) ≡ count_openings front + count_openings back
 openings_append front back = sum_by-append (λ t. cond (opens_construct t.kind) 1 0) front back
 
--- tokens in front of a crowded list, with so many that open a construct among them, make room for as many more
+-- if a list is too deep, then with tokens before it of which so many open a construct it is too deep for as much more nesting
 pub crowded_behind : (front ts us after : List Token) (token : Token) (room more : ℕ) → us ≡ front ++ ts →
     more ≤ room + count_openings front → HasTooManyOpen room ts token after → HasTooManyOpen more us token after
 crowded_behind front ts us after token room more e h c = record {
@@ -91,7 +91,7 @@ carries_further P Q R inner room outer ts us vs c d = record {
   crowds = (let i = c.crowds in let j = d.crowds in let k = openings_append d.before c.before in omega (arith, i, j, k));
 }
 
--- a token that is one too many in a part is so in the whole
+-- a token that is too deep in a part is too deep in the whole
 pub deeper_on : {A B : Type 0} (P : NestingLimit → Phrase A) (Q : NestingLimit → Phrase B) (inner room : ℕ) (ts us : List Token) →
     Carries P inner ts Q room us → (token : Token) → IsTooDeepAt P inner ts token → IsTooDeepAt Q room us token
 deeper_on P Q inner room ts us c token l = record {
@@ -114,7 +114,7 @@ lost_free P Q room ts us to (Unexpected rest) l = to rest.now l
 lost_free P Q room ts us to (TooDeep token) l = absurd l
 lost_free P Q room ts us to (Memory e) l = tt
 
--- A `?` passes on where a part with a limit stopped, and the whole is lost there too.
+-- A `?` passes on the error of a part with a limit, and the whole fails there too.
 pub carried_on : {A B T : Type 0} (P : NestingLimit → Phrase A) (Q : NestingLimit → Phrase B) (inner room : ℕ) (ts us : List Token) →
     Carries P inner ts Q room us → (r : Result T ParseError) (e : ParseError) → IsErrAnd r (λ y. y ≡ e) → FailsWithin P inner ts e →
     IfErr r (FailsWithin Q room us)
@@ -132,13 +132,13 @@ freed_on P Q room ts us to r e h l =
     subst (λ m. IfErr m (FailsWithin Q room us)) (sym q.1)
     (subst (λ m. FailsWithin Q room us m) (sym q.2) (lost_free P Q room ts us to e l))
 
--- the same of a part that takes no memory
+-- the same of a part that does not allocate
 pub missed_free : {A B T : Type 0} (P : Phrase A) (Q : NestingLimit → Phrase B) (room : ℕ) (ts us : List Token) →
     ((rest : List Token) → Fails P ts rest → Fails (Q None) us rest) → (r : Result T ParseError) (e : ParseError) → IsErrAnd r (λ y. y ≡ e) →
-    FailsUnlessMemory P ts e → IfErr r (FailsWithin Q room us)
+    FailsAtToken P ts e → IfErr r (FailsWithin Q room us)
 missed_free P Q room ts us to r e h l = freed_on P Q room ts us to r e h (missed_lost P ts e l)
 
--- an answer is passed on as it is, and the whole is lost where the part stopped
+-- a result is passed on as it is, and the whole fails where the part does
 pub still_carried : {A B T : Type 0} (P : NestingLimit → Phrase A) (Q : NestingLimit → Phrase B) (inner room : ℕ) (ts us : List Token) →
     Carries P inner ts Q room us → (r : Result T ParseError) → IfErr r (FailsWithin P inner ts) → IfErr r (FailsWithin Q room us)
 still_carried P Q inner room ts us c (Ok x) l = tt

@@ -20,10 +20,10 @@ use Rattle.lotos_text.proofs.Definitions.{one_specification}
 use Rattle.lotos_text.proofs.FirstToken.{starts_same}
 use Rattle.lotos_text.proofs.WholeSpecification.{as_whole, from_whole}
 
--- a text that is not cut spells nothing
+-- a text that does not lex spells nothing
 pub stuck_spells_nothing : (text : List ℕ) (e : TextFault) → IsLexingFault text e → SpellsNoSpecification text e
-stuck_spells_nothing text (E01 at) h = λ whole s. sticks_uncut text s.tokens at s.cut (at_byte h.sticks)
-stuck_spells_nothing text (E02 at) h = λ whole s. sticks_uncut text s.tokens at s.cut (at_comment h.sticks)
+stuck_spells_nothing text (E01 at) h = λ whole s. sticks_uncut text s.tokens at s.lexes (at_byte h.fails)
+stuck_spells_nothing text (E02 at) h = λ whole s. sticks_uncut text s.tokens at s.lexes (at_comment h.fails)
 stuck_spells_nothing text E03 h = λ whole s. let short = s.short in omega (arith, h, short)
 stuck_spells_nothing text (E04 at) h = absurd h
 stuck_spells_nothing text (E05 at) h = absurd h
@@ -36,20 +36,20 @@ module _ (text : List ℕ) (ts : List Token) (short : length text ≤ max_text_l
   found_specifies whole f = from_whole text (Some max_nesting) ts whole
       (subst (λ m. SpecificationPhrase text (Some max_nesting) m whole []) (sym (f.joined ∙ append-nil f.front)) f.whole)
 
-  -- the answer is what the text spells
+  -- the result is what the text spells
   pub found_spelled : (whole : DefinitionView) → Parses (SpecificationPhrase text (Some max_nesting)) ts whole [] → Spelled text whole
   found_spelled whole f =
       let s = found_specifies whole f in
-      record { tokens = ts; nesting = s.0; short = short; cut = cut; spells = s.1; shallow = s.2 }
+      record { tokens = ts; nesting = s.0; short = short; lexes = cut; spells = s.1; shallow = s.2 }
 
-  -- the answer is the only one
+  -- the result is unique
   pub found_only : (whole other : DefinitionView) → Parses (SpecificationPhrase text (Some max_nesting)) ts whole [] → Spelled text other → other ≡ whole
   found_only whole other f s =
       let found = found_specifies whole f in
       let same = one_specification text ts s.nesting found.0 other whole
-      (subst (λ m. SpellsSpecification text s.nesting m other) (one_cut text s.tokens ts s.cut cut) s.spells) found.1 in same.0
+      (subst (λ m. SpellsSpecification text s.nesting m other) (one_cut text s.tokens ts s.lexes cut) s.spells) found.1 in same.0
 
-  -- what was lost is no specification within the limit, however its tokens go on behind the first of the rest
+  -- if the parser fails, no tokens that start with those up to the first of the rest are a specification within the limit
   never_begun : (limit : NestingLimit) (rest more : List Token) (n : ℕ) (whole : DefinitionView) (l : Fails (SpecificationPhrase text limit) ts rest) →
       StartsAlike rest more → SpellsSpecification text n (l.front ++ more) whole → IsNestingWithin limit n → ⊥
   never_begun limit rest more n whole l st s h =
@@ -60,19 +60,19 @@ module _ (text : List ℕ) (ts : List Token) (short : length text ≤ max_text_l
       ((n : ℕ) → n ≤ max_nesting → IsNestingWithin limit n) → Spelled text whole → ⊥
   never_spelled limit rest whole l to s =
       never_begun limit rest rest s.nesting whole l (starts_same rest)
-      (subst (λ m. SpellsSpecification text s.nesting m whole) (one_cut text s.tokens ts s.cut cut ∙ l.joined) s.spells)
+      (subst (λ m. SpellsSpecification text s.nesting m whole) (one_cut text s.tokens ts s.lexes cut ∙ l.joined) s.spells)
       (to s.nesting s.shallow)
 
-  -- the token stands in the text behind those before it
+  -- the token is in the text, after those before it
   stands : (before after : List Token) (t : Token) → ts ≡ before ++ t ∷ after → IsOffsetOfToken text t.at before t
-  stands before after t e = record { after = after; short = short; cut = subst (λ m. Lexes text m) e cut; place = refl }
+  stands before after t e = record { after = after; short = short; lexes = subst (λ m. Lexes text m) e cut; place = refl }
 
   token_refused : (after : List Token) (t : Token) → Fails (SpecificationPhrase text None) ts (t ∷ after) → (full : Bool) →
       is_full_lotos t.kind ≡ full → IsFaultOfText text (if full then E07 t.at else E04 t.at)
   token_refused after t l true e = record {
     before = l.front;
     token = t;
-    stands = stands l.front after t l.joined;
+    located = stands l.front after t l.joined;
     never = λ b. never_begun None (t ∷ after) (t ∷ b.more) b.nesting b.whole l (b.more, refl)
         (subst (λ m. SpellsSpecification text b.nesting m b.whole) (append_assoc l.front (t ∷ []) b.more) b.spells) tt;
     full = e;
@@ -80,7 +80,7 @@ module _ (text : List ℕ) (ts : List Token) (short : length text ≤ max_text_l
   token_refused after t l false e = record {
     before = l.front;
     token = t;
-    stands = stands l.front after t l.joined;
+    located = stands l.front after t l.joined;
     never = λ b. never_begun None (t ∷ after) (t ∷ b.more) b.nesting b.whole l (b.more, refl)
         (subst (λ m. SpellsSpecification text b.nesting m b.whole) (append_assoc l.front (t ∷ []) b.more) b.spells) tt;
     basic = e;
@@ -95,7 +95,7 @@ module _ (text : List ℕ) (ts : List Token) (short : length text ≤ max_text_l
   at_refused [] l = record {
     tokens = ts;
     short = short;
-    cut = cut;
+    lexes = cut;
     place = refl;
     never = λ n whole s. never_begun None [] [] n whole l refl (subst (λ m. SpellsSpecification text n m whole) l.joined s) tt;
   }
@@ -113,7 +113,7 @@ module _ (text : List ℕ) (ts : List Token) (short : length text ≤ max_text_l
       record {
         before = l.front;
         token = t;
-        stands = stands l.front d.after t l.joined;
+        located = stands l.front d.after t l.joined;
         never = λ b. never_begun (Some max_nesting) (t ∷ d.after) (t ∷ b.more) b.nesting b.whole l (b.more, refl)
             (subst (λ m. SpellsSpecification text b.nesting m b.whole) (append_assoc l.front (t ∷ []) b.more) b.spells) b.within;
         opening = d.opens;
@@ -130,7 +130,7 @@ module _ (text : List ℕ) (ts : List Token) (short : length text ≤ max_text_l
   lost_refused (TooDeep token) e l h = subst (λ m. IsFaultOfText text m) (sym h) (deep_refused token l)
   lost_refused (Memory x) e l h = subst (λ m. IsFaultOfText text m) (sym h) short
 
-  -- but for want of memory, the text spells nothing
+  -- unless memory ran out, the text spells nothing
   pub lost_spells_nothing : (stop : ParseError) (e : TextFault) → FailsWithin (SpecificationPhrase text) max_nesting ts stop →
       e ≡ fault_of_error stop (length text) → SpellsNoSpecification text e
   lost_spells_nothing (Unexpected rest) e l h = subst (λ m. SpellsNoSpecification text m) (sym h) (at_nothing rest.now l)

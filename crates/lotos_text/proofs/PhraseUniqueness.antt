@@ -20,11 +20,11 @@ abbrev pub FirmWithin : {A : Type 0} → (NestingLimit → Phrase A) → Type 0
 FirmWithin {A} P = (l m : NestingLimit) (a b r more q : List Token) (x y : A) → P l a x r → StartsAlike r more → P m b y q →
     a ++ more ≡ b ++ q → Same a b x y more q
 
--- a part without a limit is the only one within each
+-- a phrase without a limit is unique within each limit
 pub firm_always : {A : Type 0} (P : Phrase A) → Firm P → FirmWithin (λ _. P)
 firm_always P firm l m a b r more q x y p st o e = firm a b r more q x y p st o e
 
--- the first part is found within one limit, and the second is lost: both are lost within the other limit
+-- the first phrase parses within one limit and the second fails: both together fail within the other limit
 pub lost_after : {A B C : Type 0} (together : A → B → C) (P : NestingLimit → Phrase A) (Q : Phrase B) (l m : NestingLimit) → FirmWithin P →
     (ts between rest : List Token) (x : A) → Parses (P l) ts x between → Fails Q between rest → Fails (Sequence together (P m) Q) ts rest
 lost_after together P Q l m firm ts between rest x f lost = record {
@@ -37,7 +37,7 @@ lost_after together P Q l m firm ts between rest x f lost = record {
       lost.never more t.back behind t.other st one.rest t.second;
 }
 
--- where each part is the only one within each limit, so are both together
+-- if each of two phrases is unique within each limit, so are both together
 pub firm_then_within : {A B C : Type 0} (together : A → B → C) (P : NestingLimit → Phrase A) (Q : NestingLimit → Phrase B) → FirmWithin P →
     FirmWithin Q → FirmWithin (λ l. Sequence together (P l) (Q l))
 firm_then_within together P Q firm_p firm_q l m a b r more q x y t st u e =
@@ -53,12 +53,12 @@ firm_then_within together P Q firm_p firm_q l m a b r more q x y t st u e =
       rest = other.rest;
     }
 
--- so are a token and the part behind it
+-- so are a token and the phrase after it
 pub firm_behind_within : {A : Type 0} (k : TokenKind) (P : NestingLimit → Phrase A) → FirmWithin P → FirmWithin (λ l. Preceded k (P l))
 firm_behind_within k P firm =
     firm_then_within (λ token said. said) (λ _. OneToken k) P (firm_always (OneToken k) (firm_one k)) firm
 
--- so are the part and a token behind it
+-- so are the phrase and a token after it
 pub firm_before_within : {A : Type 0} (P : NestingLimit → Phrase A) (k : TokenKind) → FirmWithin P → FirmWithin (λ l. Followed (P l) k)
 firm_before_within P k firm =
     firm_then_within (λ said token. said) P (λ _. OneToken k) firm (firm_always (OneToken k) (firm_one k))

@@ -16,7 +16,7 @@ use Rattle.lotos_text.proofs.Limits.{inside, within_inside, opens_is, opens_amon
 use Rattle.lotos_text.proofs.Operands.{taken_internal, taken_prefix}
 use Rattle.lotos_text.proofs.ParseErrors.{Carries}
 
--- where a token of the kind is lost, the list does not begin with one
+-- if a token of the kind fails, the list does not begin with one
 pub lost_not_first : (k : TokenKind) (ts rest : List Token) → Fails (OneToken k) ts rest → DoesNotStartWith k ts
 lost_not_first k [] rest l = tt
 lost_not_first k (n ∷ ts) rest l = λ i.
@@ -41,7 +41,7 @@ module _ (text : List ℕ) where
     };
   }
 
-  -- where the semicolon behind `i` is lost, so is the operand
+  -- if the semicolon after `i` fails, so does the operand
   pub lost_unseparated : (n : Token) (ts rest : List Token) → IsOfKind n (Reserved w.IWord) → Fails (OneToken (Sign s.Semicolon)) ts rest →
       Fails (BehaviourPhrase text prefixing None) (n ∷ ts) rest
   lost_unseparated n ts rest i l = record {
@@ -70,7 +70,7 @@ module _ (text : List ℕ) where
         });
   }
 
-  -- where the operand behind the semicolon is lost, so is the whole
+  -- if the operand after the semicolon fails, so does the whole
   pub carries_body : (room : ℕ) (n semicolon : Token) (act : Action) (ts after : List Token) → IsAction text n act →
       ts ≡ semicolon ∷ after → IsOfKind semicolon (Sign s.Semicolon) →
       Carries (BehaviourPhrase text prefixing) (room - 1) after (BehaviourPhrase text prefixing) room (n ∷ ts)
@@ -82,7 +82,7 @@ module _ (text : List ℕ) where
     crowds = (let h = opens_among (n ∷ []) [] semicolon (opens_is j refl) in omega (arith, h));
   }
 
-  -- with no room left, an action and a semicolon begin nothing
+  -- with no nesting left, the semicolon of a prefix is too deep
   pub deep_prefix : (room : ℕ) (n semicolon : Token) (act : Action) (ts after : List Token) → room ≡ 0 → IsAction text n act →
       ts ≡ semicolon ∷ after → IsOfKind semicolon (Sign s.Semicolon) → IsTooDeepAt (BehaviourPhrase text prefixing) room (n ∷ ts) semicolon
   deep_prefix room n semicolon act ts after h i e j = record {

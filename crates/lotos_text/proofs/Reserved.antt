@@ -15,7 +15,7 @@ use Rattle.lotos_text.specs.declared.token.Word.{Word}
 abbrev pub Row : Type 0
 Row = Bor (List ℕ) × Word
 
--- the kind that the first row gives whose spelling the word has, in upper or lower case
+-- the kind in the first entry whose spelling the word has, in upper or lower case
 abbrev pub kind_by : List Row → List ℕ → TokenKind
 kind_by [] found = Identifier
 kind_by (row ∷ rows) found = cond (equals_ignoring_case row.0.now found) (Reserved row.1) (kind_by rows found)
@@ -24,7 +24,7 @@ kind_by (row ∷ rows) found = cond (equals_ignoring_case row.0.now found) (Rese
 abbrev pub are_lower : List Row → Bool
 are_lower rows = list_all (λ row. bytes_eq (map to_ascii_lowercase row.0.now) row.0.now) rows
 
--- what is known of the rows that are left
+-- what holds of the entries that are left
 pub record Left (rows : List Row) (found : List ℕ) : Type 0 where
   pub decides : kind_by rows found ≡ classify found
   pub lower : are_lower rows ≡ true
@@ -38,7 +38,7 @@ is_not word found h k =
     let lower = (bytes_eq-Decides (map to_ascii_lowercase word) word).0 h in
     false_from_ne_true (equals_ignoring_case word found) (λ t. k (sym (lower ∙ (bytes_eq-Decides word (map to_ascii_lowercase found)).0 t)))
 
--- the first row is left out
+-- the first entry is left out
 first_out : (row : Row) (rows : List Row) (found : List ℕ) → (Alike found row.0.now → ⊥) → Left (row ∷ rows) found → Left rows found
 first_out row rows found h left =
     let parts = and_parts (bytes_eq (map to_ascii_lowercase row.0.now) row.0.now) (are_lower rows) left.lower in
@@ -48,7 +48,7 @@ first_out row rows found h left =
 first_left : (rows : List Row) (i : ℕ) (row : Row) (found : List ℕ) → i < length rows → Left (drop i rows) found → Left (get_or rows i row ∷ drop (suc i) rows) found
 first_left rows i row found lt left = subst (λ r. Left r found) (drop-cons rows i row lt) left
 
--- a row with another spelling is left out
+-- an entry with another spelling is left out
 pub row_out : (rows : List Row) (i : ℕ) (row : Row) (found : List ℕ) → i < length rows → (Alike found (get_or rows i row).0.now → ⊥) →
     Left (drop i rows) found → Left (drop (i + 1) rows) found
 row_out rows i row found lt h left =

@@ -12,11 +12,11 @@ pub record Same {A : Type 0} (a b : List Token) (x y : A) (r q : List Token) : T
   pub said : x ≡ y
   pub rest : r ≡ q
 
--- A part that is whole before one list stays the only one before each list that starts alike.
+-- A phrase that is complete before one list stays unique before each list that starts alike.
 abbrev pub Firm : {A : Type 0} → Phrase A → Type 0
 Firm {A} P = (a b r more q : List Token) (x y : A) → P a x r → StartsAlike r more → P b y q → a ++ more ≡ b ++ q → Same a b x y more q
 
--- Of tokens that begin with the one, what is lost as one part is lost as each part that comes down to it.
+-- If each spelling as P of tokens that begin with the given one is a spelling as Q, and Q fails, so does P.
 pub lost_as : {A B : Type 0} (P : Phrase A) (Q : Phrase B) (n : Token) (ts others rest : List Token) → ts ≡ n ∷ others →
     ((own behind more : List Token) (x : A) → own ++ behind ≡ n ∷ more → P own x behind → (y : B) × Q own y behind) →
     Fails Q ts rest → Fails P ts rest
@@ -31,7 +31,7 @@ lost_as P Q n ts others rest begins down l = record {
 }
 
 module _ {A B C : Type 0} (together : A → B → C) (P : Phrase A) (Q : Phrase B) where
-  -- both parts are found
+  -- both phrases parse
   pub found_then : (ts between rest : List Token) (x : A) (y : B) (z : C) → Parses P ts x between → Parses Q between y rest →
       z ≡ together x y → Parses (Sequence together P Q) ts z rest
   found_then ts between rest x y z f g e = record {
@@ -49,7 +49,7 @@ module _ {A B C : Type 0} (together : A → B → C) (P : Phrase A) (Q : Phrase 
     };
   }
 
-  -- the first part is lost
+  -- the first phrase fails
   pub lost_first : (ts rest : List Token) → Fails P ts rest → Fails (Sequence together P Q) ts rest
   lost_first ts rest l = record {
     front = l.front;
@@ -59,7 +59,7 @@ module _ {A B C : Type 0} (together : A → B → C) (P : Phrase A) (Q : Phrase 
         (e ∙ ap (λ m. m ++ behind) t.joined ∙ append_assoc t.front t.back behind) t.first;
   }
 
-  -- the first part is found, and the second is lost
+  -- the first phrase parses, and the second fails
   pub lost_second : Firm P → (ts between rest : List Token) (x : A) → Parses P ts x between → Fails Q between rest →
       Fails (Sequence together P Q) ts rest
   lost_second firm ts between rest x f l = record {
@@ -72,7 +72,7 @@ module _ {A B C : Type 0} (together : A → B → C) (P : Phrase A) (Q : Phrase 
         l.never more t.back behind t.other st one.rest t.second;
   }
 
-  -- where each part is the only one, so are both together
+  -- if each phrase is unique, so are both together
   pub firm_then : Firm P → Firm Q → Firm (Sequence together P Q)
   firm_then firm_p firm_q a b r more q x y t st u e =
       let e' : t.front ++ (t.back ++ more) ≡ u.front ++ (u.back ++ q) =
@@ -87,7 +87,7 @@ module _ {A B C : Type 0} (together : A → B → C) (P : Phrase A) (Q : Phrase 
         rest = other.rest;
       }
 
--- a part between two tokens, as tokens in a row
+-- a phrase between two tokens, as one list of tokens
 pub record Between {A : Type 0} (opens closes : TokenKind) (P : Phrase A) (own : List Token) (said : A)
     (behind : List Token) : Type 0 where
   pub left : Token
@@ -98,7 +98,7 @@ pub record Between {A : Type 0} (opens closes : TokenKind) (P : Phrase A) (own :
   pub within : P inner said (right ∷ behind)
   pub ends : IsOfKind right closes
 
--- the part between two tokens, taken apart
+-- the phrase between two tokens, taken apart
 pub between : {A : Type 0} (opens closes : TokenKind) (P : Phrase A) (own behind : List Token) (said : A) →
     Followed (Preceded opens P) closes own said behind → Between opens closes P own said behind
 between opens closes P own behind said t = record {
@@ -113,7 +113,7 @@ between opens closes P own behind said t = record {
   ends = t.second.is;
 }
 
--- the part between two tokens, put together
+-- the phrase between two tokens, put together
 pub as_between : {A : Type 0} (opens closes : TokenKind) (P : Phrase A) (left right : Token) (inner behind : List Token) (said : A) →
     IsOfKind left opens → P inner said (right ∷ behind) → IsOfKind right closes → Followed (Preceded opens P) closes
     (left ∷ inner ++ right ∷ []) said behind

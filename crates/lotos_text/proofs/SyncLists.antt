@@ -17,7 +17,7 @@ use Rattle.lotos_text.proofs.FirstToken.{head_same, tail_same, apart, is_first, 
 use Rattle.lotos_text.proofs.NameLists.{firm_names}
 use Rattle.lotos_text.proofs.OneToken.{found_before, lost_unclosed, lost_within, firm_before}
 
--- the sign of a mark
+-- the sign of an operator
 abbrev pub sign_of : Infix → SignKind
 sign_of i.Enable = s.Enable
 sign_of i.Disable = s.Disable
@@ -44,17 +44,17 @@ means Identifier = tt
 means (Reserved _) = tt
 means (Sign x) = means_sign x
 
--- a token that is a mark is of the mark's sign
+-- a token that is an operator's sign is of that sign
 pub is_mark : (n : Token) (m : Infix) → infix_of n.kind ≡ Some m → IsOfKind n (Sign (sign_of m))
 is_mark n m e = record { same = subst (λ x. Means n.kind x) e (means n.kind) }
 
 module _ (text : List ℕ) where
-  -- a mark that is an operator by itself
+  -- a sign that is an operator by itself
   pub found_sign : {l : Level} {how : Operator} (n : Token) (ts : List Token) → IsOperator text l (n ∷ []) how →
       Parses (OneOperator text l) (n ∷ ts) how ts
   found_sign n ts i = record { front = n ∷ []; joined = refl; whole = record { operates = i } }
 
-  -- `|[` and the gates behind it are an operator
+  -- `|[` and the gates after it are an operator
   pub found_sync : (n : Token) (ts rest : List Token) (names : List Placed) → IsOfKind n (Sign s.LeftSync) →
       Parses (SyncList text) ts names rest → Parses (OneOperator text parallel) (n ∷ ts) (synchronizes (t.gates names)) rest
   found_sync n ts rest names i f = record {
@@ -68,7 +68,7 @@ module _ (text : List ℕ) where
       of_list i (no_sync j k) = sync_on_none i j k
       of_list i (some_sync d j k) = sync_on i d j k
 
-  -- what stands behind the `|[` of an operator
+  -- what follows the `|[` of an operator
   record Listed (more behind : List Token) : Type 0 where
     pub own : List Token
     pub names : List Placed
@@ -92,7 +92,7 @@ module _ (text : List ℕ) where
     list = some_sync d k l;
   }
 
-  -- where the gates behind `|[` are lost, so is the operator
+  -- if the gates after `|[` fail, so does the operator
   pub lost_sync : (n : Token) (ts rest : List Token) → IsOfKind n (Sign s.LeftSync) → Fails (SyncList text) ts rest →
       Fails (OneOperator text parallel) (n ∷ ts) rest
   lost_sync n ts rest i l = record {
@@ -129,7 +129,7 @@ module _ (text : List ℕ) where
   names_begin behind (one_name j) i e = apart i j (head_same e) (λ e. cc)
   names_begin behind (more_names j k d) i e = apart i j (head_same e) (λ e. cc)
 
-  -- where `|` is lost behind `]`, so is the list
+  -- if `|` fails after `]`, so does the list
   pub lost_no_bar : (ts between rest : List Token) (right : Token) → ts ≡ right ∷ between → IsOfKind right (Sign s.RightBracket) →
       Fails (OneToken (Sign s.Bar)) between rest → Fails (SyncList text) ts rest
   lost_no_bar ts between rest right e i l = record {
@@ -144,8 +144,8 @@ module _ (text : List ℕ) where
           IsOfKind right (Sign s.RightBracket) →
           ((bar : Token) (ms : List Token) → more ≡ bar ∷ ms → IsOfKind bar (Sign s.Bar) → ⊥) → right ∷ more ≡ own ++ behind →
           SyncList text own names behind → ⊥
-      never right more i none e (no_sync {bar = bar} {behind = behind} j k) = none bar behind (tail_same e) k
-      never right more i none e (some_sync {right = other} {bar = bar} {ts = ts} {behind = behind} d j k) =
+      never right more i none e (no_sync {bar = bar} {rest = behind} j k) = none bar behind (tail_same e) k
+      never right more i none e (some_sync {right = other} {bar = bar} {ts = ts} {rest = behind} d j k) =
           names_begin (other ∷ bar ∷ behind) d i (e ∙ append_assoc ts (other ∷ bar ∷ []) behind)
 
   -- the three parts of a list that is not empty
@@ -170,9 +170,9 @@ module _ (text : List ℕ) where
       never : (more : List Token) {own behind : List Token} {names : List Placed} → DoesNotStartWith (Sign s.RightBracket) more →
           ((own behind : List Token) (names : List Placed) → more ≡ own ++ behind → Barred own names behind → ⊥) →
           more ≡ own ++ behind → SyncList text own names behind → ⊥
-      never more without none e (no_sync {right = right} {bar = bar} {behind = behind} j k) =
+      never more without none e (no_sync {right = right} {bar = bar} {rest = behind} j k) =
           not_first _ more (bar ∷ behind) without j e
-      never more without none e (some_sync {right = right} {bar = bar} {ts = ts} {behind = behind} {names = names} d j k) =
+      never more without none e (some_sync {right = right} {bar = bar} {ts = ts} {rest = behind} {names = names} d j k) =
           none (ts ++ right ∷ bar ∷ []) behind names e (record {
             front = ts ++ right ∷ [];
             back = bar ∷ [];
@@ -193,20 +193,20 @@ module _ (text : List ℕ) where
             same = refl;
           })
 
-  -- where the names are lost and no `]` stands, so is the list
+  -- if the names fail and the next token is not `]`, so does the list
   pub lost_listed : (ts rest : List Token) → DoesNotStartWith (Sign s.RightBracket) ts → Fails (NameList text) ts rest →
       Fails (SyncList text) ts rest
   lost_listed ts rest without l =
       lost_barred ts rest without (lost_within Closed _ ts rest (lost_within (NameList text) _ ts rest l))
 
-  -- where `]` is lost behind the names, so is the list
+  -- if `]` fails after the names, so does the list
   pub lost_unbracketed : (ts between rest : List Token) (names : List Placed) → DoesNotStartWith (Sign s.RightBracket) ts →
       Parses (NameList text) ts names between → Fails (OneToken (Sign s.RightBracket)) between rest → Fails (SyncList text) ts rest
   lost_unbracketed ts between rest names without f l =
       lost_barred ts rest without (lost_within Closed _ ts rest
       (lost_unclosed (NameList text) _ (firm_names text) ts between rest names f l))
 
-  -- where `|` is lost behind the names and `]`, so is the list
+  -- if `|` fails after the names and `]`, so does the list
   pub lost_unbarred : (ts between after rest : List Token) (right : Token) (names : List Placed) →
       DoesNotStartWith (Sign s.RightBracket) ts → Parses (NameList text) ts names between → between ≡ right ∷ after → IsOfKind right (Sign s.RightBracket) →
       Fails (OneToken (Sign s.Bar)) after rest → Fails (SyncList text) ts rest

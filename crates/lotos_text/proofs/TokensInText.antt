@@ -2,7 +2,7 @@
 use Rattle.std.proofs.Common.{◌≡◌, ℕ, ◌+◌, ◌-◌, ◌≤◌, List, [], ◌∷◌, ◌++◌, length, take, drop, refl, sym, ap, ◌∙◌, subst, arith}
 use Rattle.std.proofs.Math.Seq.{take-append_seam}
 use Rattle.std.specs.List.{AllByRecursion}
-use Rattle.lotos_text.specs.Lexing.{LexesTo, nothing, blank, comment, word, mark, Lexes, IsTokenIn, AreTokensIn, IsWord, sign_text}
+use Rattle.lotos_text.specs.Lexing.{LexesTo, nothing, blank, comment, word, sign_token, Lexes, IsTokenIn, AreTokensIn, IsWord, sign_text}
 use Rattle.lotos_text.specs.declared.token.Token.{Token}
 use Rattle.lotos_text.proofs.LexingSteps.{behind, fits}
 
@@ -12,7 +12,7 @@ slice_is whole at found rest e =
     let long : at + length found - at ≡ length found = omega arith in
     ap (λ n. take n (drop at whole)) long ∙ ap (take (length found)) e ∙ take-append_seam found rest
 
--- the tokens of a cut from an offset on stand in the text
+-- the tokens of a lexing from an offset on are in the text
 stand_from : {at end : ℕ} {text rest : List ℕ} {ts : List Token} → LexesTo at text ts end rest → (whole : List ℕ) → at ≤ length whole → drop at whole ≡ text →
     AllByRecursion (IsTokenIn whole) ts
 stand_from nothing whole h e = tt
@@ -23,10 +23,10 @@ stand_from (word {at} found {text} i f c) whole h e =
       record { ordered = omega arith; inside = inside; word = λ _. subst IsWord (sym (slice_is whole at found text e)) i },
       stand_from c whole inside (behind whole at found text e),
     )
-stand_from (mark {at} sign {text} i c) whole h e =
+stand_from (sign_token {at} sign {text} i c) whole h e =
     let inside = fits whole at (sign_text sign) text h e in
     (record { ordered = omega arith; inside = inside; word = λ k. absurd (cc) }, stand_from c whole inside (behind whole at (sign_text sign) text e))
 
--- the tokens of the whole cut stand in the text
+-- the tokens of the whole lexing are in the text
 pub all_stand : (text : List ℕ) (ts : List Token) → Lexes text ts → AreTokensIn text ts
 all_stand text ts c = stand_from c text (omega arith) refl

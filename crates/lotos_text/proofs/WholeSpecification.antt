@@ -21,7 +21,7 @@ module _ (text : List ℕ) where
   abbrev Specification : NestingLimit → Phrase DefinitionView
   Specification = ProcessDefinition text a_specification
 
-  -- the first word and the contents, with nothing behind them, are the whole
+  -- the first keyword and the rest of the definition, with nothing after them, are the specification
   pub found_whole : (limit : NestingLimit) (ts after rest : List Token) (n : Token) (whole : DefinitionView) → ts ≡ n ∷ after →
       IsOfKind n (Reserved w.SpecificationWord) → Parses (DefinitionRest text a_specification limit) after whole rest → rest ≡ [] →
       Parses (SpecificationPhrase text limit) ts whole []
@@ -29,7 +29,7 @@ module _ (text : List ℕ) where
       (found_behind _ (DefinitionRest text a_specification limit) ts after rest n whole e i f)
       (subst (λ m. Parses EndOfInput m tt []) (sym h) found_nothing) refl
 
-  -- where the first word is lost, so is the whole
+  -- if the first word fails, so does the whole
   pub lost_opening : (limit : NestingLimit) (ts rest : List Token) → Fails (OneToken (Reserved w.SpecificationWord)) ts rest →
       Fails (SpecificationPhrase text limit) ts rest
   lost_opening limit ts rest l = lost_first closed (Specification limit) EndOfInput ts rest
@@ -41,7 +41,7 @@ module _ (text : List ℕ) where
   lost_contents limit ts after rest n e i l = lost_first closed (Specification limit) EndOfInput ts rest
       (lost_behind _ (DefinitionRest text a_specification limit) ts after rest n e i l)
 
-  -- the contents carry to the whole what is lost in them
+  -- an error inside the definition is an error of the specification
   pub carries_contents : (room : ℕ) (ts after : List Token) (n : Token) → ts ≡ n ∷ after → IsOfKind n (Reserved w.SpecificationWord) →
       Carries (DefinitionRest text a_specification) room after (SpecificationPhrase text) room ts
   carries_contents room ts after n e i = record {
@@ -52,7 +52,7 @@ module _ (text : List ℕ) where
     crowds = omega arith;
   }
 
-  -- where more stands behind the contents, the whole is lost
+  -- if tokens follow the definition, the specification fails
   pub lost_more : (found limit : NestingLimit) (ts after between rest : List Token) (n : Token) (whole : DefinitionView) → ts ≡ n ∷ after →
       IsOfKind n (Reserved w.SpecificationWord) → Parses (DefinitionRest text a_specification found) after whole between →
       Fails EndOfInput between rest → Fails (SpecificationPhrase text limit) ts rest

@@ -56,7 +56,7 @@ front_bytes (b ∷ bs) =
     let e : suc n ≡ 1 + n = omega arith in
     cond_both (is_word_byte b) (1 + n) 0 P (λ h. subst P e (h, front_bytes bs)) (λ _. tt)
 
--- behind all bytes of words at the front of a text a word is whole
+-- a word ends after all word bytes at the start of a text
 pub front_ends : (text : List ℕ) → EndsWord (drop (prefix_len is_word_byte text) text)
 front_ends [] = tt
 front_ends (b ∷ bs) =
@@ -82,7 +82,7 @@ bytes_length (b ∷ bs) rest h e =
     let more : 1 + prefix_len is_word_byte (bs ++ rest) ≡ length (b ∷ bs) = omega (arith, bytes_length bs rest h.1 e) in
     cond-true (is_word_byte b) _ _ h.0 ∙ more
 
--- a whole word is all bytes of words at the front
+-- a complete word is all word bytes at the start
 pub word_length : (word rest : List ℕ) → IsWord word → EndsWord rest → prefix_len is_word_byte (word ++ rest) ≡ length word
 word_length [] rest h e = absurd h
 word_length (b ∷ bs) rest h e = bytes_length (b ∷ bs) rest (letter_in_word b h.0, h.1) e

@@ -4,9 +4,9 @@ use Rattle.lotos_text.specs.AstView.{BehaviourView, SyncView, gates, all, stop, 
 use Rattle.lotos_text.specs.Grammar.{Level, enabling, disabling, parallel, choosing, prefixing, Operator, enables, disables, synchronizes, chooses, DefinitionKind, a_specification, a_process}
 use Rattle.lotos_text.specs.declared.operators.Level.{Level as CodeLevel}
 use Rattle.lotos_text.specs.declared.operators.Level.TheVariants as l
-use Rattle.lotos_text.specs.declared.ast.BinaryOperator.{BinaryOperator as CodeOperator}
-use Rattle.lotos_text.specs.declared.ast.BinaryOperator.TheVariants as o
-use Rattle.lotos_text.specs.declared.parser.DefinitionKind.{DefinitionKind as CodeDefined}
+use Rattle.lotos_text.specs.declared.ast_builders.BinaryOperator.{BinaryOperator as CodeOperator}
+use Rattle.lotos_text.specs.declared.ast_builders.BinaryOperator.TheVariants as o
+use Rattle.lotos_text.specs.declared.parser.DefinitionKind.{DefinitionKind as CodeKind}
 use Rattle.lotos_text.specs.declared.parser.DefinitionKind.TheVariants as d
 use Rattle.lotos_text.specs.declared.ast.Behaviour.{Behaviour, Stop, Exit, Prefix', Choice', Par', Hide', Enable', Disable', Call}
 use Rattle.lotos_text.specs.declared.ast.SyncSet.{SyncSet}
@@ -59,6 +59,6 @@ operator_view (o.Synchronize sync) = synchronizes (sync_view sync)
 operator_view o.Choose = chooses
 
 -- the view of what a definition is of
-abbrev pub definition_kind_view : CodeDefined → DefinitionKind
+abbrev pub definition_kind_view : CodeKind → DefinitionKind
 definition_kind_view d.Specification = a_specification
 definition_kind_view d.Process = a_process

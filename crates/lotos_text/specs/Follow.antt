@@ -9,37 +9,37 @@ use Rattle.lotos_text.specs.declared.token.Sign.TheVariants as s
 
 -- how tightly a sign binds that continues what is before it: operators by their levels, and tightest what makes a name
 -- a call with gates or a prefix; 0 for signs that continue nothing
-abbrev pub sign_rank : Sign → ℕ
-sign_rank s.Enable = 1
-sign_rank s.Disable = 2
-sign_rank s.LeftSync = 3
-sign_rank s.Full = 3
-sign_rank s.Interleave = 3
-sign_rank s.Choice = 4
-sign_rank s.LeftBracket = 5
-sign_rank s.Semicolon = 5
-sign_rank _ = 0
+abbrev pub sign_precedence : Sign → ℕ
+sign_precedence s.Enable = 1
+sign_precedence s.Disable = 2
+sign_precedence s.LeftSync = 3
+sign_precedence s.Full = 3
+sign_precedence s.Interleave = 3
+sign_precedence s.Choice = 4
+sign_precedence s.LeftBracket = 5
+sign_precedence s.Semicolon = 5
+sign_precedence _ = 0
 
 -- the rank of a token of the kind
-abbrev pub kind_rank : TokenKind → ℕ
-kind_rank Identifier = 0
-kind_rank (Reserved _) = 0
-kind_rank (of_sign sign) = sign_rank sign
+abbrev pub kind_precedence : TokenKind → ℕ
+kind_precedence Identifier = 0
+kind_precedence (Reserved _) = 0
+kind_precedence (of_sign sign) = sign_precedence sign
 
 -- the rank of the first token; 0 at the end
-abbrev pub rank : List Token → ℕ
-rank [] = 0
-rank (t ∷ ts) = kind_rank t.kind
+abbrev pub precedence : List Token → ℕ
+precedence [] = 0
+precedence (t ∷ ts) = kind_precedence t.kind
 
 -- the rank of a level's operators
-abbrev pub level_rank : Level → ℕ
-level_rank enabling = 1
-level_rank disabling = 2
-level_rank parallel = 3
-level_rank choosing = 4
-level_rank prefixing = 5
+abbrev pub level_precedence : Level → ℕ
+level_precedence enabling = 1
+level_precedence disabling = 2
+level_precedence parallel = 3
+level_precedence choosing = 4
+level_precedence prefixing = 5
 
 -- a spelling is complete before tokens of a rank below this; an open one only before tokens that continue nothing
 abbrev pub bound : Level → Bool → ℕ
 bound level true = 1
-bound level false = level_rank level
+bound level false = level_precedence level

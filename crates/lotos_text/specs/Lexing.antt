@@ -119,7 +119,7 @@ pub data LexesTo : ℕ → List ℕ → List Token → ℕ → List ℕ → Type
   word : {at end : ℕ} (found : List ℕ) {text rest : List ℕ} {ts : List Token} →
       IsWord found → EndsWord text → LexesTo (at + length found) text ts end rest →
       LexesTo at (found ++ text) (token at (length found) (classify found) ∷ ts) end rest
-  mark : {at end : ℕ} (sign : Sign) {text rest : List ℕ} {ts : List Token} →
+  sign_token : {at end : ℕ} (sign : Sign) {text rest : List ℕ} {ts : List Token} →
       IsSignToken sign text → LexesTo (at + length (sign_text sign)) text ts end rest →
       LexesTo at (sign_text sign ++ text) (token at (length (sign_text sign)) (of_sign sign) ∷ ts) end rest
 
@@ -131,21 +131,21 @@ Lexes text ts = LexesTo 0 text ts (length text) []
 pub record NoLexemeAt (b : ℕ) (rest : List ℕ) : Type 0 where
   pub no_blank : is_blank b ≡ false
   pub no_letter : is_ascii_alphabetic b ≡ false
-  pub no_mark : (sign : Sign) → StartsWith (sign_text sign) (b ∷ rest) → ⊥
+  pub no_sign : (sign : Sign) → StartsWith (sign_text sign) (b ∷ rest) → ⊥
 
 -- the bytes before the offset lex, and no lexeme begins at the byte there
 pub record FailsAtByte (text : List ℕ) (at : ℕ) : Type 0 where
   pub before : List Token
   pub byte : ℕ
   pub rest : List ℕ
-  pub cut : LexesTo 0 text before at (byte ∷ rest)
+  pub lexes : LexesTo 0 text before at (byte ∷ rest)
   pub strange : NoLexemeAt byte rest
 
 -- the bytes before the offset lex, and a comment that is not closed opens there
 pub record FailsAtComment (text : List ℕ) (at : ℕ) : Type 0 where
   pub before : List Token
   pub rest : List ℕ
-  pub cut : LexesTo 0 text before at rest
+  pub lexes : LexesTo 0 text before at rest
   pub unclosed : IsUnclosedComment rest
 
 -- lexing fails at the offset

@@ -28,23 +28,23 @@ IsSyncInside n (gates names) = AreNamesInside n names
 IsSyncInside n all = Unit {0}
 
 -- the offset of each name and of each `>>` in a behaviour is inside
-abbrev pub IsTreeInside : ℕ → BehaviourView → Type 0
-IsTreeInside n stop = Unit {0}
-IsTreeInside n exit = Unit {0}
-IsTreeInside n (prefix Internal b) = IsTreeInside n b
-IsTreeInside n (prefix (Gate g) b) = (g.at ≤ n) × IsTreeInside n b
-IsTreeInside n (choice l r) = IsTreeInside n l × IsTreeInside n r
-IsTreeInside n (par l sync r) = IsTreeInside n l × IsSyncInside n sync × IsTreeInside n r
-IsTreeInside n (hide names b) = AreNamesInside n names × IsTreeInside n b
-IsTreeInside n (enable l at r) = IsTreeInside n l × (at ≤ n) × IsTreeInside n r
-IsTreeInside n (disable l r) = IsTreeInside n l × IsTreeInside n r
-IsTreeInside n (call name names) = (name.at ≤ n) × AreNamesInside n names
+abbrev pub IsBehaviourInside : ℕ → BehaviourView → Type 0
+IsBehaviourInside n stop = Unit {0}
+IsBehaviourInside n exit = Unit {0}
+IsBehaviourInside n (prefix Internal b) = IsBehaviourInside n b
+IsBehaviourInside n (prefix (Gate g) b) = (g.at ≤ n) × IsBehaviourInside n b
+IsBehaviourInside n (choice l r) = IsBehaviourInside n l × IsBehaviourInside n r
+IsBehaviourInside n (par l sync r) = IsBehaviourInside n l × IsSyncInside n sync × IsBehaviourInside n r
+IsBehaviourInside n (hide names b) = AreNamesInside n names × IsBehaviourInside n b
+IsBehaviourInside n (enable l at r) = IsBehaviourInside n l × (at ≤ n) × IsBehaviourInside n r
+IsBehaviourInside n (disable l r) = IsBehaviourInside n l × IsBehaviourInside n r
+IsBehaviourInside n (call name names) = (name.at ≤ n) × AreNamesInside n names
 
 -- each offset in a definition, and in its inner ones, is inside
 abbrev mutual
   pub IsInside : ℕ → DefinitionView → Type 0
   IsInside n (def name formals declared body inner) =
-      (name.at ≤ n) × AreNamesInside n formals × IsTreeInside n body × AreInside n inner
+      (name.at ≤ n) × AreNamesInside n formals × IsBehaviourInside n body × AreInside n inner
 
   pub AreInside : ℕ → DefinitionListView → Type 0
   AreInside n no_defs = Unit {0}

@@ -23,10 +23,10 @@ IsNestingWithin None n = Unit {0}
 IsNestingWithin (Some limit) n = n ≤ limit
 
 -- the tokens start with the phrase, which is complete before the rest
-pub record Parses {A : Type 0} (P : Phrase A) (ts : List Token) (said : A) (rest : List Token) : Type 0 where
+pub record Parses {A : Type 0} (P : Phrase A) (ts : List Token) (value : A) (rest : List Token) : Type 0 where
   pub front : List Token
   pub joined : ts ≡ front ++ rest
-  pub whole : P front said rest
+  pub whole : P front value rest
 
 -- the second list starts with the first token of the first, or both are empty
 abbrev pub StartsAlike : List Token → List Token → Type 0
@@ -38,7 +38,7 @@ StartsAlike (t ∷ ts) more = (others : List Token) × (more ≡ t ∷ others)
 pub record Fails {A : Type 0} (P : Phrase A) (ts rest : List Token) : Type 0 where
   pub front : List Token
   pub joined : ts ≡ front ++ rest
-  pub never : (more own behind : List Token) (said : A) → StartsAlike rest more → front ++ more ≡ own ++ behind → P own said behind → ⊥
+  pub never : (more tokens after : List Token) (value : A) → StartsAlike rest more → front ++ more ≡ tokens ++ after → P tokens value after → ⊥
 
 -- of the tokens up to and including this one, more open a construct than may be open
 pub record HasTooManyOpen (nesting_left : ℕ) (ts : List Token) (token : Token) (after : List Token) : Type 0 where
@@ -54,10 +54,10 @@ pub record IsTooDeepAt {A : Type 0} (P : NestingLimit → Phrase A) (nesting_lef
   pub opens : opens_construct token.kind ≡ true
 
 -- the phrase fails at the unexpected token; the parser has no other error
-abbrev pub FailsUnlessMemory : {A : Type 0} → Phrase A → List Token → ParseError → Type 0
-FailsUnlessMemory P ts (Unexpected rest) = Fails P ts rest.now
-FailsUnlessMemory P ts (TooDeep token) = ⊥
-FailsUnlessMemory P ts (Memory e) = ⊥
+abbrev pub FailsAtToken : {A : Type 0} → Phrase A → List Token → ParseError → Type 0
+FailsAtToken P ts (Unexpected rest) = Fails P ts rest.now
+FailsAtToken P ts (TooDeep token) = ⊥
+FailsAtToken P ts (Memory e) = ⊥
 
 -- the phrase fails at the unexpected token, or memory ran out
 abbrev pub FailsAtAnyNesting : {A : Type 0} → Phrase A → List Token → ParseError → Type 0

@@ -3,7 +3,7 @@ use Rattle.std.specs.Prelude.{◌≡◌, ◌<◌, ℕ, Bool, List, [], ◌∷◌
 use Rattle.lotos_text.specs.AstView as t
 use Rattle.lotos_text.specs.AstView.{BehaviourView, DefinitionView, DefinitionListView}
 use Rattle.lotos_text.specs.Grammar.{IsOfKind, IsFunctionality, GateList, Level, enabling, Names, IsOperator, Operator, Spells, DefinitionKind, a_specification, opening_word, defining_sign, closing_word, SpellsDefinitions, located_name}
-use Rattle.lotos_text.specs.Follow.{bound, rank}
+use Rattle.lotos_text.specs.Follow.{bound, precedence}
 use Rattle.lotos_text.specs.ParserContracts.{Phrase, NestingLimit, IsNestingWithin, DoesNotStartWith}
 use Rattle.lotos_text.specs.declared.token.Token.{Token}
 use Rattle.lotos_text.specs.declared.token.TokenKind.{TokenKind}
@@ -15,76 +15,76 @@ use Rattle.lotos_text.specs.declared.ast.Placed.{Placed}
 
 -- one phrase and then another, with a value made of both
 pub record Sequence {A B C : Type 0} (together : A → B → C) (P : Phrase A) (Q : Phrase B)
-    (own : List Token) (said : C) (behind : List Token) : Type 0 where
+    (tokens : List Token) (value : C) (rest : List Token) : Type 0 where
   pub front : List Token
   pub back : List Token
   pub one : A
   pub other : B
-  pub joined : own ≡ front ++ back
-  pub first : P front one (back ++ behind)
-  pub second : Q back other behind
-  pub same : said ≡ together one other
+  pub joined : tokens ≡ front ++ back
+  pub first : P front one (back ++ rest)
+  pub second : Q back other rest
+  pub same : value ≡ together one other
 
 -- one token of the kind
-pub record OneToken (kind : TokenKind) (own : List Token) (said : Token) (behind : List Token) : Type 0 where
-  pub joined : own ≡ said ∷ []
-  pub is : IsOfKind said kind
+pub record OneToken (kind : TokenKind) (tokens : List Token) (value : Token) (rest : List Token) : Type 0 where
+  pub joined : tokens ≡ value ∷ []
+  pub is : IsOfKind value kind
 
 -- a token of the kind and then the phrase
 abbrev pub Preceded : {A : Type 0} → TokenKind → Phrase A → Phrase A
-Preceded kind P = Sequence (λ token said. said) (OneToken kind) P
+Preceded kind P = Sequence (λ token value. value) (OneToken kind) P
 
 -- the phrase and then a token of the kind
 abbrev pub Followed : {A : Type 0} → Phrase A → TokenKind → Phrase A
-Followed P kind = Sequence (λ said token. said) P (OneToken kind)
+Followed P kind = Sequence (λ value token. value) P (OneToken kind)
 
 -- no token, at the end of the input
-pub record EndOfInput (own : List Token) (said : Unit {0}) (behind : List Token) : Type 0 where
-  pub empty : own ≡ []
-  pub last : behind ≡ []
+pub record EndOfInput (tokens : List Token) (value : Unit {0}) (rest : List Token) : Type 0 where
+  pub empty : tokens ≡ []
+  pub last : rest ≡ []
 
 -- one or more names, not followed by a comma
-pub record NameList (text : List ℕ) (own : List Token) (said : List Placed) (behind : List Token) : Type 0 where
-  pub names : Names text own said
-  pub quits : DoesNotStartWith (Sign s.Comma) behind
+pub record NameList (text : List ℕ) (tokens : List Token) (value : List Placed) (rest : List Token) : Type 0 where
+  pub names : Names text tokens value
+  pub quits : DoesNotStartWith (Sign s.Comma) rest
 
 -- names in brackets; or nothing, if no bracket follows
-pub record OptionalGates (text : List ℕ) (own : List Token) (said : List Placed) (behind : List Token) : Type 0 where
-  pub gates : GateList text own said
-  pub quits : own ≡ [] → DoesNotStartWith (Sign s.LeftBracket) behind
+pub record OptionalGates (text : List ℕ) (tokens : List Token) (value : List Placed) (rest : List Token) : Type 0 where
+  pub gates : GateList text tokens value
+  pub quits : tokens ≡ [] → DoesNotStartWith (Sign s.LeftBracket) rest
 
 -- one identifier, as a name
-pub record OneName (text : List ℕ) (own : List Token) (said : Placed) (behind : List Token) : Type 0 where
+pub record OneName (text : List ℕ) (tokens : List Token) (value : Placed) (rest : List Token) : Type 0 where
   pub token : Token
-  pub joined : own ≡ token ∷ []
+  pub joined : tokens ≡ token ∷ []
   pub is : IsOfKind token Identifier
-  pub same : said ≡ located_name text token
+  pub same : value ≡ located_name text token
 
 -- one operator of the level
-pub record OneOperator (text : List ℕ) (level : Level) (own : List Token) (said : Operator) (behind : List Token) : Type 0 where
-  pub operates : IsOperator text level own said
+pub record OneOperator (text : List ℕ) (level : Level) (tokens : List Token) (value : Operator) (rest : List Token) : Type 0 where
+  pub operates : IsOperator text level tokens value
 
 -- what follows `|[` in an operator: names or none, then `]` and `|`
 pub data SyncList (text : List ℕ) : List Token → List Placed → List Token → Type 0 where
-  no_sync : {right bar : Token} {behind : List Token} → IsOfKind right (Sign s.RightBracket) → IsOfKind bar (Sign s.Bar) →
-      SyncList text (right ∷ bar ∷ []) [] behind
-  some_sync : {right bar : Token} {ts behind : List Token} {names : List Placed} → Names text ts names →
-      IsOfKind right (Sign s.RightBracket) → IsOfKind bar (Sign s.Bar) → SyncList text (ts ++ right ∷ bar ∷ []) names behind
+  no_sync : {right bar : Token} {rest : List Token} → IsOfKind right (Sign s.RightBracket) → IsOfKind bar (Sign s.Bar) →
+      SyncList text (right ∷ bar ∷ []) [] rest
+  some_sync : {right bar : Token} {ts rest : List Token} {names : List Placed} → Names text ts names →
+      IsOfKind right (Sign s.RightBracket) → IsOfKind bar (Sign s.Bar) → SyncList text (ts ++ right ∷ bar ∷ []) names rest
 
 -- a behaviour expression of the level, with a nesting within the limit, that the tokens after it do not continue
 pub record BehaviourPhrase (text : List ℕ) (level : Level) (limit : NestingLimit)
-    (own : List Token) (said : BehaviourView) (behind : List Token) : Type 0 where
+    (tokens : List Token) (value : BehaviourView) (rest : List Token) : Type 0 where
   pub ends : Bool
   pub nesting : ℕ
-  pub spells : Spells text level ends nesting own said
-  pub quits : rank behind < bound level ends
+  pub spells : Spells text level ends nesting tokens value
+  pub quits : precedence rest < bound level ends
   pub within : IsNestingWithin limit nesting
 
 -- one token, a functionality
-pub record OneFunctionality (own : List Token) (said : Functionality) (behind : List Token) : Type 0 where
+pub record OneFunctionality (tokens : List Token) (value : Functionality) (rest : List Token) : Type 0 where
   pub token : Token
-  pub joined : own ≡ token ∷ []
-  pub declares : IsFunctionality token said
+  pub joined : tokens ≡ token ∷ []
+  pub declares : IsFunctionality token value
 
 -- a colon and a functionality
 abbrev pub FunctionalityPhrase : Phrase Functionality
@@ -105,21 +105,21 @@ abbrev pub BodyPhrase : List ℕ → DefinitionKind → NestingLimit → Phrase 
 BodyPhrase text what limit = Preceded (defining_sign what) (BehaviourPhrase text enabling limit)
 
 -- one or more definitions, not followed by another
-pub record DefinitionList (text : List ℕ) (limit : NestingLimit) (own : List Token) (said : DefinitionListView) (behind : List Token) : Type 0 where
+pub record DefinitionList (text : List ℕ) (limit : NestingLimit) (tokens : List Token) (value : DefinitionListView) (rest : List Token) : Type 0 where
   pub nesting : ℕ
-  pub several : SpellsDefinitions text nesting own said
-  pub ends : DoesNotStartWith (Reserved w.ProcessWord) behind
+  pub several : SpellsDefinitions text nesting tokens value
+  pub ends : DoesNotStartWith (Reserved w.ProcessWord) rest
   pub within : IsNestingWithin limit nesting
 
 -- nothing, if no `where` follows; or `where` and a list of definitions
 pub data WherePhrase (text : List ℕ) (limit : NestingLimit) : List Token → DefinitionListView → List Token → Type 0 where
-  no_inner : {behind : List Token} → DoesNotStartWith (Reserved w.WhereWord) behind → WherePhrase text limit [] t.no_defs behind
-  some_inner : {word : Token} {own behind : List Token} {said : DefinitionListView} →
-      IsOfKind word (Reserved w.WhereWord) → DefinitionList text limit own said behind → WherePhrase text limit (word ∷ own) said behind
+  no_inner : {rest : List Token} → DoesNotStartWith (Reserved w.WhereWord) rest → WherePhrase text limit [] t.no_defs rest
+  some_inner : {word : Token} {tokens rest : List Token} {value : DefinitionListView} →
+      IsOfKind word (Reserved w.WhereWord) → DefinitionList text limit tokens value rest → WherePhrase text limit (word ∷ tokens) value rest
 
 -- the definition of a header with its body, and the inner definitions
 abbrev pub make_definition : HeaderValue × BehaviourView → DefinitionListView → DefinitionView
-make_definition said inner = t.def said.0.0 said.0.1 said.0.2 said.1 inner
+make_definition value inner = t.def value.0.0 value.0.1 value.0.2 value.1 inner
 
 -- a definition after its first keyword, up to and including its last one
 abbrev pub DefinitionRest : List ℕ → DefinitionKind → NestingLimit → Phrase DefinitionView

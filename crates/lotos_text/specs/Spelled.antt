@@ -11,6 +11,6 @@ pub record Spelled (text : List ℕ) (whole : DefinitionView) : Type 0 where
   pub tokens : List Token
   pub nesting : ℕ
   pub short : length text ≤ max_text_length
-  pub cut : Lexes text tokens
+  pub lexes : Lexes text tokens
   pub spells : SpellsSpecification text nesting tokens whole
   pub shallow : nesting ≤ max_nesting

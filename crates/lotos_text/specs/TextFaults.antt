@@ -13,25 +13,25 @@ use Rattle.lotos_text.specs.declared.token.Token.{Token}
 -- the text is not too long, and lexing fails at a byte
 pub record IsE01 (text : List ℕ) (at : ℕ) : Type 0 where
   pub short : length text ≤ max_text_length
-  pub sticks : FailsAtByte text at
+  pub fails : FailsAtByte text at
 
 -- the text is not too long, and lexing fails at a comment that is not closed
 pub record IsE02 (text : List ℕ) (at : ℕ) : Type 0 where
   pub short : length text ≤ max_text_length
-  pub sticks : FailsAtComment text at
+  pub fails : FailsAtComment text at
 
 -- the text is not too long, and at the offset it has this token, after these
 pub record IsOffsetOfToken (text : List ℕ) (at : ℕ) (before : List Token) (token : Token) : Type 0 where
   pub after : List Token
   pub short : length text ≤ max_text_length
-  pub cut : Lexes text (before ++ token ∷ after)
+  pub lexes : Lexes text (before ++ token ∷ after)
   pub place : token.at ≡ at
 
 -- the tokens up to and including the one at the offset begin no specification, and that one is no keyword of full LOTOS
 pub record IsE04 (text : List ℕ) (at : ℕ) : Type 0 where
   pub before : List Token
   pub token : Token
-  pub stands : IsOffsetOfToken text at before token
+  pub located : IsOffsetOfToken text at before token
   pub never : IsSpecificationPrefix text (before ++ token ∷ []) → ⊥
   pub basic : is_full_lotos token.kind ≡ false
 
@@ -40,7 +40,7 @@ pub record IsE04 (text : List ℕ) (at : ℕ) : Type 0 where
 pub record IsE05 (text : List ℕ) (at : ℕ) : Type 0 where
   pub before : List Token
   pub token : Token
-  pub stands : IsOffsetOfToken text at before token
+  pub located : IsOffsetOfToken text at before token
   pub never : IsPrefixWithin max_nesting text (before ++ token ∷ []) → ⊥
   pub opening : opens_construct token.kind ≡ true
   pub many : max_nesting < count_openings (before ++ token ∷ [])
@@ -49,7 +49,7 @@ pub record IsE05 (text : List ℕ) (at : ℕ) : Type 0 where
 pub record IsE06 (text : List ℕ) (at : ℕ) : Type 0 where
   pub tokens : List Token
   pub short : length text ≤ max_text_length
-  pub cut : Lexes text tokens
+  pub lexes : Lexes text tokens
   pub place : at ≡ length text
   pub never : (nesting : ℕ) (whole : DefinitionView) → SpellsSpecification text nesting tokens whole → ⊥
 
@@ -57,7 +57,7 @@ pub record IsE06 (text : List ℕ) (at : ℕ) : Type 0 where
 pub record IsE07 (text : List ℕ) (at : ℕ) : Type 0 where
   pub before : List Token
   pub token : Token
-  pub stands : IsOffsetOfToken text at before token
+  pub located : IsOffsetOfToken text at before token
   pub never : IsSpecificationPrefix text (before ++ token ∷ []) → ⊥
   pub full : is_full_lotos token.kind ≡ true
 

@@ -1,13 +1,8 @@
 //! The AST of a specification.
 //!
 //! The forms are those of ISO 8807:1989: behaviour expressions and process definitions. Parentheses have no node.
-ghost use Rattle.std.specs.Prelude.{◌≡◌, IfOk};
-ghost use Rattle.lotos_text.specs.AstView as plain_tree;
-ghost use Rattle.lotos_text.specs.Grammar.{apply};
-ghost use Rattle.lotos_text.specs.AstOf.{behaviour_view, operator_view};
 
 use crate::name::Name;
-use std::alloc::{AllocError, Global};
 
 /// A name with its offset in the text.
 #[derive(Debug, Drop)]
@@ -104,58 +99,4 @@ pub struct Definition {
 #[derive(Debug, Drop)]
 pub struct Specification {
     pub whole: Definition,
-}
-
-/// A binary operator between two behaviour expressions.
-#[derive(Drop)]
-pub(crate) enum BinaryOperator {
-    /// `>>`, with its offset.
-    Enable(usize),
-    Disable,
-    Synchronize(SyncSet),
-    Choose,
-}
-
-pub(crate) fn apply_operator(
-    alloc: Global,
-    how: BinaryOperator,
-    left: Behaviour,
-    right: Behaviour,
-) -> Result<Behaviour, AllocError>
-    ensures { IfOk result (λ b. behaviour_view b ≡ apply (operator_view how) (behaviour_view left) (behaviour_view right)) }
-{
-    let left = Box::new(alloc, left)?;
-    let right = Box::new(alloc, right)?;
-    Ok(match how {
-        BinaryOperator::Enable(at) => Behaviour::Enable { left, at, right },
-        BinaryOperator::Disable => Behaviour::Disable { left, right },
-        BinaryOperator::Synchronize(sync) => Behaviour::Par { left, sync, right },
-        BinaryOperator::Choose => Behaviour::Choice { left, right },
-    })
-}
-
-pub(crate) fn make_prefix(
-    alloc: Global,
-    action: Action,
-    body: Behaviour,
-) -> Result<Behaviour, AllocError>
-    ensures { IfOk result (λ b. behaviour_view b ≡ plain_tree.prefix action (behaviour_view body)) }
-{
-    Ok(Behaviour::Prefix {
-        action,
-        body: Box::new(alloc, body)?,
-    })
-}
-
-pub(crate) fn make_hide(
-    alloc: Global,
-    gates: Vec<Placed>,
-    body: Behaviour,
-) -> Result<Behaviour, AllocError>
-    ensures { IfOk result (λ b. behaviour_view b ≡ plain_tree.hide gates.items (behaviour_view body)) }
-{
-    Ok(Behaviour::Hide {
-        gates,
-        body: Box::new(alloc, body)?,
-    })
 }

@@ -4,21 +4,21 @@
 //! token that opens it.
 ghost use Rattle.std.specs.Prelude.{◌≡◌, ◌<◌, ◌≤◌, ◌∷◌, ℕ, Some, None, length, IfOk, IfErr};
 ghost use Rattle.lotos_text.specs.AstOf.{behaviour_view, level_view};
-ghost use Rattle.lotos_text.specs.Grammar.{IsOfKind, IsAction, BindsTighter, Level as AnyLevel, prefixing, located_name as placed_at};
+ghost use Rattle.lotos_text.specs.Grammar.{IsOfKind, IsAction, BindsTighter, Level as AnyLevel, prefixing, located_name};
 ghost use Rattle.lotos_text.specs.Lexing.{IsTokenIn, AreTokensIn};
-ghost use Rattle.lotos_text.specs.Follow.{rank};
+ghost use Rattle.lotos_text.specs.Follow.{precedence};
 ghost use Rattle.lotos_text.specs.ParserContracts.{DoesNotStartWith, Parses, FailsAtAnyNesting, FailsWithin, StopsAt};
 ghost use Rattle.lotos_text.specs.Phrases.{BehaviourPhrase};
-ghost use Rattle.lotos_text.specs.OperandStarts as opens;
+ghost use Rattle.lotos_text.specs.OperandStarts as starts;
 ghost use Rattle.lotos_text.specs.declared.token.TokenKind.TheVariants.{Identifier, Reserved, Sign as of_sign};
 ghost use Rattle.lotos_text.specs.declared.token.Sign.TheVariants.{LeftParenthesis, Semicolon};
 ghost use Rattle.lotos_text.specs.declared.token.Word.TheVariants.{HideWord, IWord};
 
-use crate::ast;
 use crate::ast::{Action, Behaviour, Placed};
+use crate::ast_builders::{apply_operator, make_hide, make_prefix};
 use crate::operators::{Level, next_tighter, operator_at, parse_operator};
 use crate::parse_primitives::{
-    ParseError, eat, expect, parse_gate_list, parse_names, place_name, split_first_token,
+    ParseError, eat, expect, locate_name, parse_gate_list, parse_names, split_first_token,
 };
 use crate::token::{Sign, Token, TokenKind, Word};
 use std::alloc::Global;
@@ -34,10 +34,12 @@ pub(crate) fn parse_behaviour<'a>(
 ) -> Result<(Behaviour, &'a [Token]), ParseError<'a>>
     requires { AreTokensIn text.now tokens.now }
     ensures parses { IfOk result
-        (λ p. Parses (BehaviourPhrase text.now (level_view level) (Some nesting_left)) tokens.now (behaviour_view p.0) p.1.now) }
+        (λ p. Parses (BehaviourPhrase text.now (level_view level) (Some nesting_left))
+        tokens.now (behaviour_view p.0) p.1.now) }
     ensures rest { IfOk result (λ p. AreTokensIn text.now p.1.now) }
     ensures shorter { IfOk result (λ p. length p.1.now < length tokens.now) }
-    ensures fails { IfErr result (FailsWithin (BehaviourPhrase text.now (level_view level)) nesting_left tokens.now) }
+    ensures fails { IfErr result
+        (FailsWithin (BehaviourPhrase text.now (level_view level)) nesting_left tokens.now) }
 {
     match eat(tokens, TokenKind::Reserved(Word::HideWord)) {
         Some((word, rest)) => parse_hide(alloc, text, nesting_left, word, rest),
@@ -55,9 +57,10 @@ fn parse_hide<'a>(
     tokens: &'a [Token],
 ) -> Result<(Behaviour, &'a [Token]), ParseError<'a>>
     requires opens { IsOfKind first (Reserved HideWord) }
-    requires stand { AreTokensIn text.now tokens.now }
+    requires in_text { AreTokensIn text.now tokens.now }
     ensures parses { IfOk result (λ p. (level : AnyLevel) →
-        Parses (BehaviourPhrase text.now level (Some nesting_left)) (first ∷ tokens.now) (behaviour_view p.0) p.1.now) }
+        Parses (BehaviourPhrase text.now level (Some nesting_left))
+        (first ∷ tokens.now) (behaviour_view p.0) p.1.now) }
     ensures rest { IfOk result (λ p. AreTokensIn text.now p.1.now) }
     ensures shorter { IfOk result (λ p. length p.1.now < length tokens.now) }
     ensures fails { IfErr result (λ stop. (level : AnyLevel) →
@@ -69,7 +72,7 @@ fn parse_hide<'a>(
     let (gates, rest) = parse_names(alloc, text, tokens)?;
     let (_, rest) = expect(rest, TokenKind::Reserved(Word::InWord))?;
     let (body, rest) = parse_behaviour(alloc, text, nesting_left - 1, Level::Enabling, rest)?;
-    let whole = ast::make_hide(alloc, gates, body)?;
+    let whole = make_hide(alloc, gates, body)?;
     Ok((whole, rest))
 }
 
@@ -82,13 +85,15 @@ fn parse_level<'a>(
     level: Level,
     tokens: &'a [Token],
 ) -> Result<(Behaviour, &'a [Token]), ParseError<'a>>
-    requires shown { DoesNotStartWith (Reserved HideWord) tokens.now }
-    requires stand { AreTokensIn text.now tokens.now }
+    requires no_hide { DoesNotStartWith (Reserved HideWord) tokens.now }
+    requires in_text { AreTokensIn text.now tokens.now }
     ensures parses { IfOk result
-        (λ p. Parses (BehaviourPhrase text.now (level_view level) (Some nesting_left)) tokens.now (behaviour_view p.0) p.1.now) }
+        (λ p. Parses (BehaviourPhrase text.now (level_view level) (Some nesting_left))
+        tokens.now (behaviour_view p.0) p.1.now) }
     ensures rest { IfOk result (λ p. AreTokensIn text.now p.1.now) }
     ensures shorter { IfOk result (λ p. length p.1.now < length tokens.now) }
-    ensures fails { IfErr result (FailsWithin (BehaviourPhrase text.now (level_view level)) nesting_left tokens.now) }
+    ensures fails { IfErr result
+        (FailsWithin (BehaviourPhrase text.now (level_view level)) nesting_left tokens.now) }
 {
     match next_tighter(level) {
         Some(below) => parse_operation(alloc, text, nesting_left, level, below, tokens),
@@ -108,13 +113,15 @@ fn parse_operation<'a>(
     tokens: &'a [Token],
 ) -> Result<(Behaviour, &'a [Token]), ParseError<'a>>
     requires below { BindsTighter (level_view level) (level_view below) }
-    requires shown { DoesNotStartWith (Reserved HideWord) tokens.now }
-    requires stand { AreTokensIn text.now tokens.now }
+    requires no_hide { DoesNotStartWith (Reserved HideWord) tokens.now }
+    requires in_text { AreTokensIn text.now tokens.now }
     ensures parses { IfOk result
-        (λ p. Parses (BehaviourPhrase text.now (level_view level) (Some nesting_left)) tokens.now (behaviour_view p.0) p.1.now) }
+        (λ p. Parses (BehaviourPhrase text.now (level_view level) (Some nesting_left))
+        tokens.now (behaviour_view p.0) p.1.now) }
     ensures rest { IfOk result (λ p. AreTokensIn text.now p.1.now) }
     ensures shorter { IfOk result (λ p. length p.1.now < length tokens.now) }
-    ensures fails { IfErr result (FailsWithin (BehaviourPhrase text.now (level_view level)) nesting_left tokens.now) }
+    ensures fails { IfErr result
+        (FailsWithin (BehaviourPhrase text.now (level_view level)) nesting_left tokens.now) }
 {
     let (left, rest) = parse_level(alloc, text, nesting_left, below, tokens)?;
     let Some((mark, first, after)) = operator_at(rest, level) else {
@@ -125,7 +132,7 @@ fn parse_operation<'a>(
     }
     let (how, rest) = parse_operator(alloc, text, mark, first, after)?;
     let (right, rest) = parse_behaviour(alloc, text, nesting_left - 1, level, rest)?;
-    let whole = ast::apply_operator(alloc, how, left, right)?;
+    let whole = apply_operator(alloc, how, left, right)?;
     Ok((whole, rest))
 }
 
@@ -137,10 +144,11 @@ fn parse_operand<'a>(
     nesting_left: usize,
     tokens: &'a [Token],
 ) -> Result<(Behaviour, &'a [Token]), ParseError<'a>>
-    requires shown { DoesNotStartWith (Reserved HideWord) tokens.now }
-    requires stand { AreTokensIn text.now tokens.now }
+    requires no_hide { DoesNotStartWith (Reserved HideWord) tokens.now }
+    requires in_text { AreTokensIn text.now tokens.now }
     ensures parses { IfOk result
-        (λ p. Parses (BehaviourPhrase text.now prefixing (Some nesting_left)) tokens.now (behaviour_view p.0) p.1.now) }
+        (λ p. Parses (BehaviourPhrase text.now prefixing (Some nesting_left))
+        tokens.now (behaviour_view p.0) p.1.now) }
     ensures rest { IfOk result (λ p. AreTokensIn text.now p.1.now) }
     ensures shorter { IfOk result (λ p. length p.1.now < length tokens.now) }
     ensures fails { IfErr result (FailsWithin (BehaviourPhrase text.now prefixing) nesting_left tokens.now) }
@@ -181,12 +189,14 @@ fn parse_parenthesized<'a>(
     tokens: &'a [Token],
 ) -> Result<(Behaviour, &'a [Token]), ParseError<'a>>
     requires opens { IsOfKind first (of_sign LeftParenthesis) }
-    requires stand { AreTokensIn text.now tokens.now }
+    requires in_text { AreTokensIn text.now tokens.now }
     ensures parses { IfOk result
-        (λ p. Parses (BehaviourPhrase text.now prefixing (Some nesting_left)) (first ∷ tokens.now) (behaviour_view p.0) p.1.now) }
+        (λ p. Parses (BehaviourPhrase text.now prefixing (Some nesting_left))
+        (first ∷ tokens.now) (behaviour_view p.0) p.1.now) }
     ensures rest { IfOk result (λ p. AreTokensIn text.now p.1.now) }
     ensures shorter { IfOk result (λ p. length p.1.now < length tokens.now) }
-    ensures fails { IfErr result (FailsWithin (BehaviourPhrase text.now prefixing) nesting_left (first ∷ tokens.now)) }
+    ensures fails { IfErr result
+        (FailsWithin (BehaviourPhrase text.now prefixing) nesting_left (first ∷ tokens.now)) }
 {
     if nesting_left == 0 {
         return Err(ParseError::TooDeep(first));
@@ -207,15 +217,17 @@ fn parse_named<'a>(
     tokens: &'a [Token],
 ) -> Result<(Behaviour, &'a [Token]), ParseError<'a>>
     requires named { IsOfKind first Identifier }
-    requires stands { IsTokenIn text.now first }
-    requires stand { AreTokensIn text.now tokens.now }
+    requires token_in_text { IsTokenIn text.now first }
+    requires in_text { AreTokensIn text.now tokens.now }
     ensures parses { IfOk result
-        (λ p. Parses (BehaviourPhrase text.now prefixing (Some nesting_left)) (first ∷ tokens.now) (behaviour_view p.0) p.1.now) }
+        (λ p. Parses (BehaviourPhrase text.now prefixing (Some nesting_left))
+        (first ∷ tokens.now) (behaviour_view p.0) p.1.now) }
     ensures rest { IfOk result (λ p. AreTokensIn text.now p.1.now) }
     ensures shorter { IfOk result (λ p. length p.1.now ≤ length tokens.now) }
-    ensures fails { IfErr result (FailsWithin (BehaviourPhrase text.now prefixing) nesting_left (first ∷ tokens.now)) }
+    ensures fails { IfErr result
+        (FailsWithin (BehaviourPhrase text.now prefixing) nesting_left (first ∷ tokens.now)) }
 {
-    let name = place_name(alloc, text, first)?;
+    let name = locate_name(alloc, text, first)?;
     match eat(tokens, TokenKind::Sign(Sign::Semicolon)) {
         Some(_) => parse_prefix(alloc, text, nesting_left, first, Action::Gate(name), tokens),
         None => parse_call(alloc, text, first, name, tokens),
@@ -234,19 +246,21 @@ fn parse_prefix<'a>(
 ) -> Result<(Behaviour, &'a [Token]), ParseError<'a>>
     requires acts { IsAction text.now first action }
     requires begins { DoesNotStartWith (of_sign Semicolon) tokens.now → IsOfKind first (Reserved IWord) }
-    requires stand { AreTokensIn text.now tokens.now }
+    requires in_text { AreTokensIn text.now tokens.now }
     ensures parses { IfOk result
-        (λ p. Parses (BehaviourPhrase text.now prefixing (Some nesting_left)) (first ∷ tokens.now) (behaviour_view p.0) p.1.now) }
+        (λ p. Parses (BehaviourPhrase text.now prefixing (Some nesting_left))
+        (first ∷ tokens.now) (behaviour_view p.0) p.1.now) }
     ensures rest { IfOk result (λ p. AreTokensIn text.now p.1.now) }
     ensures shorter { IfOk result (λ p. length p.1.now < length tokens.now) }
-    ensures fails { IfErr result (FailsWithin (BehaviourPhrase text.now prefixing) nesting_left (first ∷ tokens.now)) }
+    ensures fails { IfErr result
+        (FailsWithin (BehaviourPhrase text.now prefixing) nesting_left (first ∷ tokens.now)) }
 {
     let (semicolon, rest) = expect(tokens, TokenKind::Sign(Sign::Semicolon))?;
     if nesting_left == 0 {
         return Err(ParseError::TooDeep(semicolon));
     }
     let (body, rest) = parse_behaviour(alloc, text, nesting_left - 1, Level::Prefixing, rest)?;
-    let whole = ast::make_prefix(alloc, action, body)?;
+    let whole = make_prefix(alloc, action, body)?;
     Ok((whole, rest))
 }
 
@@ -259,15 +273,17 @@ fn parse_call<'a>(
     tokens: &'a [Token],
 ) -> Result<(Behaviour, &'a [Token]), ParseError<'a>>
     requires named { IsOfKind first Identifier }
-    requires placed { name ≡ placed_at text.now first }
+    requires placed { name ≡ located_name text.now first }
     requires calls { DoesNotStartWith (of_sign Semicolon) tokens.now }
-    requires stand { AreTokensIn text.now tokens.now }
+    requires in_text { AreTokensIn text.now tokens.now }
     ensures parses { IfOk result
         (λ p. (nesting_left : ℕ) →
-        Parses (BehaviourPhrase text.now prefixing (Some nesting_left)) (first ∷ tokens.now) (behaviour_view p.0) p.1.now) }
+        Parses (BehaviourPhrase text.now prefixing (Some nesting_left))
+        (first ∷ tokens.now) (behaviour_view p.0) p.1.now) }
     ensures rest { IfOk result (λ p. AreTokensIn text.now p.1.now) }
     ensures shorter { IfOk result (λ p. length p.1.now ≤ length tokens.now) }
-    ensures fails { IfErr result (FailsAtAnyNesting (BehaviourPhrase text.now prefixing None) (first ∷ tokens.now)) }
+    ensures fails { IfErr result
+        (FailsAtAnyNesting (BehaviourPhrase text.now prefixing None) (first ∷ tokens.now)) }
 {
     let (gates, rest) = parse_gate_list(alloc, text, tokens)?;
     expect_operand_end(rest)?;
@@ -276,8 +292,8 @@ fn parse_call<'a>(
 
 /// Succeeds if the operand before the tokens ends there: neither `[` nor `;` may follow one.
 fn expect_operand_end<'a>(tokens: &'a [Token]) -> Result<(), ParseError<'a>>
-    ensures whole { IfOk result (λ _. rank tokens.now < 5) }
-    ensures fails { IfErr result (λ stop. StopsAt tokens.now stop × (rank tokens.now ≡ 5)) }
+    ensures whole { IfOk result (λ _. precedence tokens.now < 5) }
+    ensures fails { IfErr result (λ stop. StopsAt tokens.now stop × (precedence tokens.now ≡ 5)) }
 {
     match eat(tokens, TokenKind::Sign(Sign::LeftBracket)) {
         Some(_) => return Err(ParseError::Unexpected(tokens)),
@@ -303,7 +319,7 @@ enum OperandStart {
 }
 
 fn operand_start(kind: TokenKind) -> OperandStart
-    ensures { result ≡ opens.operand_start kind }
+    ensures { result ≡ starts.operand_start kind }
 {
     match kind {
         TokenKind::Identifier => OperandStart::Name,
@@ -313,7 +329,7 @@ fn operand_start(kind: TokenKind) -> OperandStart
 }
 
 fn keyword_start(word: Word) -> OperandStart
-    ensures { result ≡ opens.keyword_start word }
+    ensures { result ≡ starts.keyword_start word }
 {
     match word {
         Word::StopWord => OperandStart::Stop,
@@ -324,7 +340,7 @@ fn keyword_start(word: Word) -> OperandStart
 }
 
 fn sign_start(sign: Sign) -> OperandStart
-    ensures { result ≡ opens.sign_start sign }
+    ensures { result ≡ starts.sign_start sign }
 {
     match sign {
         Sign::LeftParenthesis => OperandStart::Parenthesis,

@@ -25,9 +25,9 @@ pub const TEXT_LIMIT: usize = 1_048_576;
 /// fails.
 pub fn tokens(alloc: Global, text: &[u8]) -> Result<Vec<Token>, TextFault>
     ensures short { IfOk result (λ found. length text.now ≤ max_text_length) }
-    ensures cut { IfOk result (λ found. Lexes text.now found.items) }
-    ensures stand { IfOk result (λ found. AreTokensIn text.now found.items) }
-    ensures stuck { IfErr result (IsLexingFault text.now) }
+    ensures lexes { IfOk result (λ found. Lexes text.now found.items) }
+    ensures in_text { IfOk result (λ found. AreTokensIn text.now found.items) }
+    ensures fails { IfErr result (IsLexingFault text.now) }
 {
     if text.len() > TEXT_LIMIT {
         return Err(TextFault::E03);

@@ -6,12 +6,14 @@
 #![tactic(auto)]
 
 mod ast;
+mod ast_builders;
 mod behaviour_parser;
 mod fault;
 pub mod laws;
 mod lexer;
 mod name;
 mod operators;
+mod parse_fault;
 mod parse_primitives;
 mod parser;
 mod position;

@@ -1,14 +1,15 @@
 //! The binary operators of behaviour expressions, and their levels.
-ghost use Rattle.std.specs.Prelude.{◌≡◌, ◌<◌, ◌≤◌, ◌∷◌, Some, None, length, IfOk, IfErr, IfSome, IfNone, MatchOption, MatchBool};
+ghost use Rattle.std.specs.Prelude.{◌≡◌, ◌≤◌, ◌∷◌, Some, length, IfOk, IfErr, IfSome, IfNone, MatchOption, MatchBool};
 ghost use Rattle.lotos_text.specs.AstOf.{level_view, operator_view};
 ghost use Rattle.lotos_text.specs.Grammar.{BindsTighter, prefixing};
 ghost use Rattle.lotos_text.specs.Lexing.{AreTokensIn};
-ghost use Rattle.lotos_text.specs.Follow.{rank, level_rank};
+ghost use Rattle.lotos_text.specs.Follow.{precedence, level_precedence};
 ghost use Rattle.lotos_text.specs.ParserContracts.{Parses, FailsAtAnyNesting};
 ghost use Rattle.lotos_text.specs.Phrases.{OneOperator, SyncList};
-ghost use Rattle.lotos_text.specs.OperandStarts as opens;
+ghost use Rattle.lotos_text.specs.OperandStarts as starts;
 
-use crate::ast::{BinaryOperator, Placed, SyncSet};
+use crate::ast::{Placed, SyncSet};
+use crate::ast_builders::BinaryOperator;
 use crate::parse_primitives::{ParseError, eat, expect, parse_names, split_first_token};
 use crate::token::{Sign, Token, TokenKind};
 use std::alloc::Global;
@@ -50,7 +51,7 @@ pub(crate) enum Infix {
 }
 
 fn infix_of(kind: TokenKind) -> Option<Infix>
-    ensures { result ≡ opens.infix_of kind }
+    ensures { result ≡ starts.infix_of kind }
 {
     match kind {
         TokenKind::Sign(Sign::Enable) => Some(Infix::Enable),
@@ -66,21 +67,21 @@ fn infix_of(kind: TokenKind) -> Option<Infix>
 /// If the tokens start with an operator of the level: its sign, its token, and the tokens after that.
 pub(crate) fn operator_at(tokens: &[Token], level: Level) -> Option<(Infix, Token, &[Token])>
     ensures some { IfSome result (λ p. (tokens.now ≡ p.1 ∷ p.2.now)
-        × (opens.infix_of p.1.kind ≡ Some p.0) × (opens.infix_level p.0 ≡ level_view level)) }
-    ensures none { IfNone result (rank tokens.now ≡ level_rank (level_view level) →
+        × (starts.infix_of p.1.kind ≡ Some p.0) × (starts.infix_level p.0 ≡ level_view level)) }
+    ensures none { IfNone result (precedence tokens.now ≡ level_precedence (level_view level) →
         level_view level ≡ prefixing) }
 {
     let (first, rest) = split_first_token(tokens)?;
-    let mark = infix_of(first.kind)?;
-    if has_level(mark, level) {
-        Some((mark, first, rest))
+    let infix = infix_of(first.kind)?;
+    if has_level(infix, level) {
+        Some((infix, first, rest))
     } else {
         None
     }
 }
 
 fn has_level(kind: Infix, level: Level) -> bool
-    ensures { MatchBool result (opens.infix_level kind ≡ level_view level) (opens.infix_level kind
+    ensures { MatchBool result (starts.infix_level kind ≡ level_view level) (starts.infix_level kind
         ≡ level_view level → ⊥) }
 {
     match kind {
@@ -99,13 +100,15 @@ pub(crate) fn parse_operator<'a>(
     first: Token,
     tokens: &'a [Token],
 ) -> Result<(BinaryOperator, &'a [Token]), ParseError<'a>>
-    requires begins { opens.infix_of first.kind ≡ Some kind }
-    requires stand { AreTokensIn text.now tokens.now }
+    requires begins { starts.infix_of first.kind ≡ Some kind }
+    requires in_text { AreTokensIn text.now tokens.now }
     ensures parses { IfOk result
-        (λ p. Parses (OneOperator text.now (opens.infix_level kind)) (first ∷ tokens.now) (operator_view p.0) p.1.now) }
+        (λ p. Parses (OneOperator text.now (starts.infix_level kind))
+        (first ∷ tokens.now) (operator_view p.0) p.1.now) }
     ensures rest { IfOk result (λ p. AreTokensIn text.now p.1.now) }
     ensures shorter { IfOk result (λ p. length p.1.now ≤ length tokens.now) }
-    ensures fails { IfErr result (FailsAtAnyNesting (OneOperator text.now (opens.infix_level kind)) (first ∷ tokens.now)) }
+    ensures fails { IfErr result
+        (FailsAtAnyNesting (OneOperator text.now (starts.infix_level kind)) (first ∷ tokens.now)) }
 {
     match kind {
         Infix::Enable => Ok((BinaryOperator::Enable(first.at), tokens)),

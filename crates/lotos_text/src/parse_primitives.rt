@@ -2,9 +2,9 @@
 //!
 //! A parser takes the remaining tokens and returns what it parsed and the tokens after it, or where it failed.
 ghost use Rattle.std.specs.Prelude.{◌≡◌, [], ◌∷◌, alloc_error, IfOk, IfErr, IfSome, IfNone, MatchOption};
-ghost use Rattle.lotos_text.specs.Grammar.{IsOfKind, located_name as placed_at};
+ghost use Rattle.lotos_text.specs.Grammar.{IsOfKind, located_name};
 ghost use Rattle.lotos_text.specs.Lexing.{IsTokenIn, AreTokensIn};
-ghost use Rattle.lotos_text.specs.ParserContracts.{DoesNotStartWith, Parses, FailsAtAnyNesting, FailsUnlessMemory};
+ghost use Rattle.lotos_text.specs.ParserContracts.{DoesNotStartWith, Parses, FailsAtAnyNesting, FailsAtToken};
 ghost use Rattle.lotos_text.specs.Phrases.{OneToken, NameList, OptionalGates, FunctionalityPhrase};
 ghost use Rattle.lotos_text.specs.declared.token.TokenKind.TheVariants.{Identifier};
 ghost use Rattle.lotos_text.specs.declared.parse_primitives.ParseError.TheVariants.{Memory};
@@ -74,7 +74,7 @@ pub(crate) fn parse_names<'a>(
     let mut rest = tokens;
     loop {
         let (first, behind) = expect(rest, TokenKind::Identifier)?;
-        let name = place_name(alloc, text, first)?;
+        let name = locate_name(alloc, text, first)?;
         found.push(name)?;
         let Some((_, after)) = eat(behind, TokenKind::Sign(Sign::Comma)) else {
             return Ok((found, behind));
@@ -88,7 +88,7 @@ pub(crate) fn parse_functionality<'a>(
     tokens: &'a [Token],
 ) -> Result<(Functionality, &'a [Token]), ParseError<'a>>
     ensures parses { IfOk result (λ p. Parses FunctionalityPhrase tokens.now p.0 p.1.now) }
-    ensures fails { IfErr result (FailsUnlessMemory FunctionalityPhrase tokens.now) }
+    ensures fails { IfErr result (FailsAtToken FunctionalityPhrase tokens.now) }
 {
     let (_, rest) = expect(tokens, TokenKind::Sign(Sign::Colon))?;
     if let Some((_, after)) = eat(rest, TokenKind::Reserved(Word::ExitWord)) {
@@ -99,10 +99,10 @@ pub(crate) fn parse_functionality<'a>(
 }
 
 /// The name that an identifier spells.
-pub(crate) fn place_name(alloc: Global, text: &[u8], token: Token) -> Result<Placed, AllocError>
-    requires stands { IsTokenIn text.now token }
+pub(crate) fn locate_name(alloc: Global, text: &[u8], token: Token) -> Result<Placed, AllocError>
+    requires token_in_text { IsTokenIn text.now token }
     requires named { IsOfKind token Identifier }
-    ensures { IfOk result (λ p. p ≡ placed_at text.now token) }
+    ensures { IfOk result (λ p. p ≡ located_name text.now token) }
 {
     let name = Name::from_word(alloc, &text[token.at..token.end])?;
     Ok(Placed { name, at: token.at })
@@ -114,7 +114,7 @@ pub(crate) fn expect<'a>(
     kind: TokenKind,
 ) -> Result<(Token, &'a [Token]), ParseError<'a>>
     ensures parses { IfOk result (λ p. (tokens.now ≡ p.0 ∷ p.1.now) × IsOfKind p.0 kind) }
-    ensures fails { IfErr result (FailsUnlessMemory (OneToken kind) tokens.now) }
+    ensures fails { IfErr result (FailsAtToken (OneToken kind) tokens.now) }
 {
     match eat(tokens, kind) {
         Some(found) => Ok(found),

@@ -8,8 +8,7 @@ ghost use Rattle.lotos_text.specs.Limits.{max_nesting};
 ghost use Rattle.lotos_text.specs.Spelled.{Spelled};
 ghost use Rattle.lotos_text.specs.TextFaults.{IsFaultOfText, SpellsNoSpecification};
 ghost use Rattle.lotos_text.specs.OffsetsInside.{IsFaultInside, IsInside};
-ghost use Rattle.lotos_text.specs.ConstructOpenings.{is_full_lotos, is_full_lotos_word};
-ghost use Rattle.lotos_text.specs.ParserContracts.{Parses, FailsAtAnyNesting, FailsWithin, FailsUnlessMemory, fault_of_error};
+ghost use Rattle.lotos_text.specs.ParserContracts.{Parses, FailsAtAnyNesting, FailsWithin, FailsAtToken};
 ghost use Rattle.lotos_text.specs.Phrases.{DefinitionRest, HeaderPhrase, WherePhrase, EndOfInput, DefinitionList, SpecificationPhrase};
 
 use crate::ast::{Definition, Functionality, Placed, Specification};
@@ -17,8 +16,9 @@ use crate::behaviour_parser::parse_behaviour;
 use crate::fault::TextFault;
 use crate::lexer::tokens;
 use crate::operators::Level;
+use crate::parse_fault::fault_of_error;
 use crate::parse_primitives::{
-    ParseError, eat, expect, parse_functionality, parse_gate_list, place_name,
+    ParseError, eat, expect, locate_name, parse_functionality, parse_gate_list,
 };
 use crate::token::{Sign, Token, TokenKind, Word};
 use std::alloc::Global;
@@ -51,48 +51,6 @@ pub fn parse(alloc: Global, text: &[u8]) -> Result<Specification, TextFault>
     }
 }
 
-/// The fault of a parse error in a text of `length` bytes.
-fn fault_of_error(error: ParseError<'_>, length: usize) -> TextFault
-    ensures { result ≡ fault_of_error error.entry length }
-{
-    match error {
-        ParseError::Unexpected([]) => TextFault::E06(length),
-        ParseError::Unexpected([first, ..]) => {
-            if is_full_lotos(first.kind) {
-                TextFault::E07(first.at)
-            } else {
-                TextFault::E04(first.at)
-            }
-        }
-        ParseError::TooDeep(token) => TextFault::E05(token.at),
-        ParseError::Memory(error) => TextFault::E99(error),
-    }
-}
-
-/// Whether a token is a keyword of full LOTOS that basic LOTOS does not use.
-fn is_full_lotos(kind: TokenKind) -> bool
-    ensures { result ≡ is_full_lotos kind }
-{
-    match kind {
-        TokenKind::Reserved(word) => is_full_lotos_word(word),
-        TokenKind::Identifier | TokenKind::Sign(_) => false,
-    }
-}
-
-fn is_full_lotos_word(word: Word) -> bool
-    ensures { result ≡ is_full_lotos_word word }
-{
-    matches!(
-        word,
-        Word::AcceptWord
-            | Word::ChoiceWord
-            | Word::LetWord
-            | Word::ParWord
-            | Word::LibraryWord
-            | Word::TypeWord
-    )
-}
-
 /// A complete specification, after which no token follows.
 fn parse_specification<'a>(
     alloc: Global,
@@ -101,7 +59,8 @@ fn parse_specification<'a>(
 ) -> Result<Definition, ParseError<'a>>
     requires { AreTokensIn text.now tokens.now }
     ensures parses { IfOk result
-        (λ whole. Parses (SpecificationPhrase text.now (Some max_nesting)) tokens.now (definition_view whole) []) }
+        (λ whole. Parses (SpecificationPhrase text.now (Some max_nesting))
+        tokens.now (definition_view whole) []) }
     ensures fails { IfErr result (FailsWithin (SpecificationPhrase text.now) max_nesting tokens.now) }
 {
     let (_, rest) = expect(tokens, TokenKind::Reserved(Word::SpecificationWord))?;
@@ -119,7 +78,7 @@ fn parse_specification<'a>(
 /// Succeeds if no tokens are left.
 fn expect_end<'a>(tokens: &'a [Token]) -> Result<(), ParseError<'a>>
     ensures parses { IfOk result (λ _. tokens.now ≡ []) }
-    ensures fails { IfErr result (FailsUnlessMemory EndOfInput tokens.now) }
+    ensures fails { IfErr result (FailsAtToken EndOfInput tokens.now) }
 {
     if tokens.is_empty() {
         Ok(())
@@ -136,20 +95,20 @@ enum DefinitionKind {
 }
 
 /// What introduces the body of a definition.
-fn defining_sign(what: DefinitionKind) -> TokenKind
-    ensures { result ≡ defining_sign (definition_kind_view what) }
+fn defining_sign(kind: DefinitionKind) -> TokenKind
+    ensures { result ≡ defining_sign (definition_kind_view kind) }
 {
-    match what {
+    match kind {
         DefinitionKind::Specification => TokenKind::Reserved(Word::BehaviourWord),
         DefinitionKind::Process => TokenKind::Sign(Sign::Define),
     }
 }
 
 /// The keyword that ends a definition.
-fn closing_word(what: DefinitionKind) -> TokenKind
-    ensures { result ≡ closing_word (definition_kind_view what) }
+fn closing_word(kind: DefinitionKind) -> TokenKind
+    ensures { result ≡ closing_word (definition_kind_view kind) }
 {
-    match what {
+    match kind {
         DefinitionKind::Specification => TokenKind::Reserved(Word::EndspecWord),
         DefinitionKind::Process => TokenKind::Reserved(Word::EndprocWord),
     }
@@ -161,21 +120,23 @@ fn parse_definition_rest<'a>(
     alloc: Global,
     text: &[u8],
     nesting_left: usize,
-    what: DefinitionKind,
+    kind: DefinitionKind,
     tokens: &'a [Token],
 ) -> Result<(Definition, &'a [Token]), ParseError<'a>>
     requires { AreTokensIn text.now tokens.now }
     ensures parses { IfOk result
-        (λ p. Parses (DefinitionRest text.now (definition_kind_view what) (Some nesting_left)) tokens.now (definition_view p.0) p.1.now) }
+        (λ p. Parses (DefinitionRest text.now (definition_kind_view kind) (Some nesting_left))
+        tokens.now (definition_view p.0) p.1.now) }
     ensures rest { IfOk result (λ p. AreTokensIn text.now p.1.now) }
     ensures shorter { IfOk result (λ p. length p.1.now < length tokens.now) }
-    ensures fails { IfErr result (FailsWithin (DefinitionRest text.now (definition_kind_view what)) nesting_left tokens.now) }
+    ensures fails { IfErr result
+        (FailsWithin (DefinitionRest text.now (definition_kind_view kind)) nesting_left tokens.now) }
 {
     let (heading, rest) = parse_header(alloc, text, tokens)?;
-    let (_, rest) = expect(rest, defining_sign(what))?;
+    let (_, rest) = expect(rest, defining_sign(kind))?;
     let (body, rest) = parse_behaviour(alloc, text, nesting_left, Level::Enabling, rest)?;
     let (inner, rest) = parse_where(alloc, text, nesting_left, rest)?;
-    let (_, rest) = expect(rest, closing_word(what))?;
+    let (_, rest) = expect(rest, closing_word(kind))?;
     let whole = Definition {
         name: heading.name,
         formals: heading.formals,
@@ -202,13 +163,14 @@ fn parse_header<'a>(
 ) -> Result<(Header, &'a [Token]), ParseError<'a>>
     requires { AreTokensIn text.now tokens.now }
     ensures parses { IfOk result
-        (λ p. Parses (HeaderPhrase text.now) tokens.now (p.0.name, p.0.formals.items, p.0.functionality) p.1.now) }
+        (λ p. Parses (HeaderPhrase text.now)
+        tokens.now (p.0.name, p.0.formals.items, p.0.functionality) p.1.now) }
     ensures rest { IfOk result (λ p. AreTokensIn text.now p.1.now) }
     ensures shorter { IfOk result (λ p. length p.1.now < length tokens.now) }
     ensures fails { IfErr result (FailsAtAnyNesting (HeaderPhrase text.now) tokens.now) }
 {
     let (token, rest) = expect(tokens, TokenKind::Identifier)?;
-    let name = place_name(alloc, text, token)?;
+    let name = locate_name(alloc, text, token)?;
     let (formals, rest) = parse_gate_list(alloc, text, rest)?;
     let (functionality, rest) = parse_functionality(rest)?;
     let heading = Header {
@@ -229,7 +191,8 @@ fn parse_where<'a>(
 ) -> Result<(Vec<Definition>, &'a [Token]), ParseError<'a>>
     requires { AreTokensIn text.now tokens.now }
     ensures parses { IfOk result
-        (λ p. Parses (WherePhrase text.now (Some nesting_left)) tokens.now (definitions_view p.0.items) p.1.now) }
+        (λ p. Parses (WherePhrase text.now (Some nesting_left))
+        tokens.now (definitions_view p.0.items) p.1.now) }
     ensures rest { IfOk result (λ p. AreTokensIn text.now p.1.now) }
     ensures shorter { IfOk result (λ p. length p.1.now ≤ length tokens.now) }
     ensures fails { IfErr result (FailsWithin (WherePhrase text.now) nesting_left tokens.now) }
@@ -250,7 +213,8 @@ fn parse_definitions<'a>(
 ) -> Result<(Vec<Definition>, &'a [Token]), ParseError<'a>>
     requires { AreTokensIn text.now tokens.now }
     ensures parses { IfOk result
-        (λ p. Parses (DefinitionList text.now (Some nesting_left)) tokens.now (definitions_view p.0.items) p.1.now) }
+        (λ p. Parses (DefinitionList text.now (Some nesting_left))
+        tokens.now (definitions_view p.0.items) p.1.now) }
     ensures rest { IfOk result (λ p. AreTokensIn text.now p.1.now) }
     ensures shorter { IfOk result (λ p. length p.1.now < length tokens.now) }
     ensures fails { IfErr result (FailsWithin (DefinitionList text.now) nesting_left tokens.now) }

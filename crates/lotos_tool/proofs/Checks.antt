@@ -6,9 +6,10 @@ use Rattle.std.proofs.KnownBytes.{Appends-kept}
 use Rattle.lotos_check.specs.Flat.{FlatProcess, System}
 use Rattle.lotos_check.specs.CheckedView.{process_of}
 use Rattle.lotos_check.specs.declared.resolved.Process.{Process}
-use Rattle.lotos_tool.specs.OutcomeContracts.{CheckOutcome}
+use Rattle.lotos_tool.specs.CheckOutcome.{CheckOutcome}
 use Rattle.lotos_tool.specs.OutputLines.{check_lines}
-use Rattle.lotos_tool.specs.SearchSetup.{IsFinished, ReadsAccepted}
+use Rattle.lotos_tool.specs.SearchSetup.{IsFinished}
+use Rattle.lotos_tool.specs.AcceptedText.{ReadsAccepted}
 use Rattle.lotos_tool.specs.declared.outcome.Ended.{Ended}
 use Rattle.lotos_tool.specs.declared.outcome.Ended.TheVariants.{Complete, Refused, Stopped}
 use Rattle.lotos_tool.specs.declared.outcome.Why.TheVariants as why

@@ -3,7 +3,7 @@ use Rattle.std.proofs.Common.{◌≡◌, ℕ, ◌⊎◌, inl, inr, List, Some, r
 use Rattle.lotos_text.specs.Position.{IsPosition}
 use Rattle.lotos_text.specs.declared.fault.TextFault.{TextFault}
 use Rattle.lotos_text.specs.declared.fault.TextFault.TheVariants.{E01, E02, E04, E05, E06, E07}
-use Rattle.lotos_tool.specs.OutcomeContracts.{IsPositionOf}
+use Rattle.lotos_tool.specs.RefusalCauses.{IsPositionOf}
 
 -- the position of a fault's offset is the position of the fault
 pub place_known : (text : List ℕ) (fault : TextFault) (at : ℕ) (place : ℕ × ℕ) →

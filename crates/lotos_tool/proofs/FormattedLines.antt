@@ -32,12 +32,12 @@ label_known held (l.Gate n) t h = get_below held.names n t h
 pub record AreCut (names : List Name) (k : TermLabel) (ks : List TermLabel) (s : List Label) : Type 0 where
   pub first : Label
   pub others : List Label
-  pub shown : IsPrintedAs names k first
+  pub printed : IsPrintedAs names k first
   pub all : ArePrinted names ks others
   pub joined : s ≡ first ∷ others
 
 pub cut_first : (names : List Name) (k : TermLabel) (ks : List TermLabel) (s : List Label) → ArePrinted names (k ∷ ks) s → AreCut names k ks s
-cut_first names k ks _ (more_printed h hs) = record { first = _; others = _; shown = h; all = hs; joined = refl }
+cut_first names k ks _ (more_printed h hs) = record { first = _; others = _; printed = h; all = hs; joined = refl }
 
 nothing_shown : (names : List Name) (s : List Label) → ArePrinted names [] s → s ≡ []
 nothing_shown names _ none_printed = refl
@@ -58,7 +58,7 @@ pub left_at_first : (names : List Name) (labels rest : List TermLabel) (first : 
     IsPrintedAs names first shown → text ≡ shown → (s : List Label) → ArePrinted names labels s → IsLeft names rest text s
 left_at_first names labels rest first shown text e h written s all =
     let cut = cut_first names first rest s (subst (λ ls. ArePrinted names ls s) e all) in
-    let same = written ∙ shows_one names first shown cut.first h cut.shown in
+    let same = written ∙ shows_one names first shown cut.first h cut.printed in
     (cut.others, cut.all, ap (λ x. x ++ flat_map (λ m. 32 ∷ m) cut.others) same ∙ sym (ap sequence_text cut.joined))
 
 -- one more label is written
@@ -66,7 +66,7 @@ pub left_behind : (names : List Name) (rest later : List TermLabel) (label : Ter
     rest ≡ label ∷ later → IsPrintedAs names label shown → text' ≡ (text ++ 32 ∷ []) ++ shown → IsLeft names rest text s → IsLeft names later text' s
 left_behind names rest later label text shown text' s e h written (left, all, whole) =
     let cut = cut_first names label later left (subst (λ ls. ArePrinted names ls left) e all) in
-    let same = shows_one names label shown cut.first h cut.shown in
+    let same = shows_one names label shown cut.first h cut.printed in
     let whole' : text ++ flat_map (λ m. 32 ∷ m) (cut.first ∷ cut.others) ≡ sequence_text s = subst (λ x. text ++ flat_map (λ m. 32 ∷ m) x ≡ sequence_text s) cut.joined whole in
     let grown : text' ≡ text ++ (32 ∷ cut.first) = written ∙ append_assoc text (32 ∷ []) shown ∙ ap (λ x. text ++ (32 ∷ x)) same in
     let others = flat_map (λ m. 32 ∷ m) cut.others in
@@ -76,7 +76,7 @@ left_behind names rest later label text shown text' s e h written (left, all, wh
 pub left_shown : (names : List Name) (rest later : List TermLabel) (label : TermLabel) (text : List ℕ) (s : List Label) → rest ≡ label ∷ later →
     IsLeft names rest text s → (t : List ℕ) × IsPrintedAs names label t
 left_shown names rest later label text s e (left, all, whole) =
-    let cut = cut_first names label later left (subst (λ ls. ArePrinted names ls left) e all) in (cut.first, cut.shown)
+    let cut = cut_first names label later left (subst (λ ls. ArePrinted names ls left) e all) in (cut.first, cut.printed)
 
 -- if no label is left, the text is that of the sequence
 pub left_none : (names : List Name) (rest : List TermLabel) (i : ℕ) (text : List ℕ) (s : List Label) → length rest ≤ i →

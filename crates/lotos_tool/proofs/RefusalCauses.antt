@@ -12,12 +12,12 @@ use Rattle.lotos_check.specs.FaultOffsets.{offset_of}
 use Rattle.lotos_check.specs.declared.fault.CheckFault.{CheckFault}
 use Rattle.lotos_check.specs.declared.fault.CheckFault.TheVariants.{E20, E21, E22, E23, E24, E25, E26, E27, E99}
 use Rattle.lotos_tool.specs.AcceptedText.{Accepted}
-use Rattle.lotos_tool.specs.OutcomeContracts.{IsTextRefusal}
+use Rattle.lotos_tool.specs.RefusalCauses.{IsTextRefusal}
 use Rattle.lotos_device.specs.TextInput.{ReadsAll}
-use Rattle.lotos_tool.specs.SearchSetup.{IsCheckFaultOfText, IsCheckFault, IsTextFault, IsRejection, IsInputRejection, is_memory_fault}
+use Rattle.lotos_tool.specs.RejectedText.{IsCheckFaultOfText, IsCheckFault, IsTextFault, IsRejection, IsInputRejection, is_memory_fault}
 use Rattle.lotos_tool.specs.declared.refusal.Refusal.TheVariants as refusal
 use Rattle.lotos_tool.specs.declared.specification_input.Rejection.{Rejection}
-use Rattle.lotos_tool.specs.declared.specification_input.Rejection.TheVariants as unaccepted
+use Rattle.lotos_tool.specs.declared.specification_input.Rejection.TheVariants as rejection
 
 -- a text that spells no specification is not accepted
 pub nothing_accepted : (text : List ℕ) (fault : TextFault) → SpellsNoSpecification text fault → is_memory_fault fault ≡ false → (system : System) → Accepted text system → ⊥
@@ -54,7 +54,7 @@ broken_at text fault at line column broken stands placed = record {
   at = at;
   spells = broken.spells;
   cause = broken.cause;
-  stands = stands;
+  located = stands;
   placed = placed;
   never = broken_unaccepted text fault at broken stands;
 }
@@ -62,22 +62,23 @@ broken_at text fault at line column broken stands placed = record {
 -- ---- from a text to the bytes that a reader had left
 
 pub unread : (left left' : Option (List ℕ)) (text : List ℕ) (u : Rejection) → ReadsAll left left' text → IsRejection text u → IsInputRejection left left' u
-unread left left' text unaccepted.Memory r h = (text, (let w = r.within in omega arith), r.bytes)
-unread left left' text (unaccepted.Refused (refusal.Mark fault)) r h = absurd h
-unread left left' text (unaccepted.Refused (refusal.Check fault line column)) r h = record {
+unread left left' text rejection.Memory r h = (text, (let w = r.within in omega arith), r.bytes)
+unread left left' text (rejection.Refused (refusal.Mark fault)) r h = absurd h
+unread left left' text (rejection.Refused (refusal.Check fault line column)) r h = record {
   text = text;
   whole = h.whole;
   at = h.at;
   read = r;
   spells = h.spells;
   cause = h.cause;
-  stands = h.stands;
+  located = h.located;
   placed = h.placed;
   never = h.never;
 }
-unread left left' text (unaccepted.Refused (refusal.Pattern fault)) r h = absurd h
-unread left left' text (unaccepted.Refused refusal.E47) r h = absurd h
-unread left left' text (unaccepted.Refused (refusal.Text fault place)) r h = go fault h
+unread left left' text (rejection.Refused (refusal.Pattern fault)) r h = absurd h
+unread left left' text (rejection.Refused refusal.E47) r h = absurd h
+unread left left' text (rejection.Refused (refusal.E49 n)) r h = absurd h
+unread left left' text (rejection.Refused (refusal.Text fault place)) r h = go fault h
   where
     go : (fault : TextFault) → IsTextFault text fault place → IsTextRefusal left left' fault place
     go (text_fault.E01 at) h = record { text = text; read = r; cause = h.cause; placed = h.placed; never = h.never }

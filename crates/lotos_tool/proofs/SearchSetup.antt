@@ -1,5 +1,6 @@
 -- The question and the outcome of a search, from the request and the text.
-use Rattle.std.proofs.Common.{◌≡◌, ◌↔◌, ℕ, List, [], Option, false, None, Some, arith, inl, inr, refl, sym, subst, ◌∙◌}
+use Rattle.std.proofs.Common.{◌≡◌, ◌↔◌, ℕ, List, [], Option, false, None, Some, arith, inl, inr, refl, sym, subst, Result, Ok, Err, ◌∙◌}
+use Rattle.std.specs.Prelude.{IfOk, MatchOption}
 use Rattle.std.proofs.KnownBytes.{Consumes-nil, Keeps-refl}
 use Rattle.std.specs.declared.string.String.{String}
 use Rattle.std.specs.declared.alloc.Global.{Global}
@@ -15,8 +16,12 @@ use Rattle.lotos_search.specs.SearchSteps.{IsBegun, SearchState}
 use Rattle.lotos_search.specs.Question.{IsQuestionOf, Question}
 use Rattle.lotos_search.specs.declared.fault.MarkFault.{MarkFault}
 use Rattle.lotos_search.specs.declared.fault.MarkFault.TheVariants as mark_fault
-use Rattle.lotos_tool.specs.OutcomeContracts.{SearchOutcome, IsQuestionOfText, IsMarkOf, IsMarkRefused, is_input_fault, words_of}
-use Rattle.lotos_tool.specs.SearchSetup.{ListingOutcome, IsSearchFor, IsFaultOfMark, IsMarkOutcome, ReadsAccepted}
+use Rattle.lotos_tool.specs.ListingOutcome.{SearchOutcome, IsQuestionOfText}
+use Rattle.lotos_tool.specs.RefusalCauses.{IsMarkOf, IsMarkRefused, words_of}
+use Rattle.lotos_tool.specs.OutcomeFlags.{is_input_fault}
+use Rattle.lotos_tool.specs.SearchSetup.{HasNoRefusedGate, IsFirstRefusedGate, ListingOutcome, IsSearchFor, IsFaultOfMark, IsMarkOutcome}
+use Rattle.lotos_tool.specs.AcceptedText.{ReadsAccepted}
+use Rattle.lotos_tool.specs.declared.refusal.Refusal.TheVariants as refusal
 use Rattle.lotos_tool.specs.declared.outcome.Ended.{Ended}
 use Rattle.lotos_tool.specs.declared.outcome.Ended.TheVariants.{Complete, Refused, Stopped}
 use Rattle.lotos_tool.specs.declared.outcome.Why.TheVariants as why
@@ -26,7 +31,7 @@ use Rattle.lotos_command.specs.declared.command.SearchRequest.{SearchRequest}
 search_of_a_table : (system : System) (held : TableView) (p : Pattern) (depth : ℕ) (mark : Option (List Label)) (terms : ℕ) (search : SearchState) →
     IsTableOf system held → IsSoundView held → IsBegun held p depth mark terms search → IsQuestionOf system search.question
 search_of_a_table system held p depth mark terms search table sound begun =
-    let same : Some table.term ≡ Some search.question.start = sym table.stands ∙ begun.start in
+    let same : Some table.term ≡ Some search.question.start = sym table.located ∙ begun.start in
     let term : table.term ≡ search.question.start = cc in
     record {
       named = subst AreGateNames (sym begun.names) sound.names;
@@ -51,8 +56,8 @@ asked_of request system held p mark search table sound begun = record {
 -- the question of a search for the request is that of the request and the text
 pub asks : (request : SearchRequest) (left left' : Option (List ℕ)) (system : System) (p : Pattern) (mark : Option (List Label)) (search : SearchState) →
     ReadsAccepted left left' system → PatternOf request.strong (words_of request) p → IsMarkOf request.strong request.after mark →
-    IsSearchFor request system p mark search → IsQuestionOfText request left left' search.question search.cursor
-asks request left left' system p mark search read pattern marked begun = record {
+    HasNoRefusedGate request system → IsSearchFor request system p mark search → IsQuestionOfText request left left' search.question search.cursor
+asks request left left' system p mark search read pattern marked known begun = record {
   text = read.text;
   read = read.read;
   system = system;
@@ -62,6 +67,7 @@ asks request left left' system p mark search read pattern marked begun = record 
   depth = begun.depth;
   terms = begun.terms;
   marked = subst (IsMarkOf request.strong request.after) (sym begun.cursor) marked;
+  known_gates = known;
 }
 
 -- no outcome of a listing is an input fault
@@ -102,3 +108,32 @@ mark_refused request left got p mark_fault.E46 ended spelled h e =
 mark_refused request left got p (mark_fault.E99 x) ended spelled h e =
     subst (SearchOutcome request left left got got) (sym e)
     (inl (record { taken = ([], omega arith, Consumes-nil left); kept = Keeps-refl got; no_line = refl }))
+
+-- the outcome if the request refuses unknown gates, and a word names one
+pub unknown_refused : (request : SearchRequest) (left left' got : Option (List ℕ)) (system : System) (p : Pattern) (mark : Option (List Label)) (n : ℕ) →
+    ReadsAccepted left left' system → PatternOf request.strong (words_of request) p → IsMarkOf request.strong request.after mark →
+    IsFirstRefusedGate request system n → SearchOutcome request left left' got got (Refused (refusal.E49 n))
+unknown_refused request left left' got system p mark n read pattern marked unknown = (
+  record {
+    known_gates = unknown.0;
+    mark = mark;
+    marked = marked;
+    refused = record {
+      text = read.text;
+      read = read.read;
+      system = system;
+      accepted = read.accepted;
+      pattern = p;
+      spelled = pattern;
+      unknown_gate = unknown.1;
+    };
+  },
+  Keeps-refl got,
+)
+
+-- a result that is an option, with what holds of both of its cases replaced
+pub match_more : {T E A B : Type 0} {Such Other : T → Type 0} (r : Result (Option T) E) → IfOk r (λ o. MatchOption o A Such) → (A → B) →
+    ((x : T) → Such x → Other x) → IfOk r (λ o. MatchOption o B Other)
+match_more (Ok None) h none some = none h
+match_more (Ok (Some x)) h none some = some x h
+match_more (Err e) h none some = tt

@@ -3,7 +3,8 @@ use Rattle.std.proofs.Common.{◌≡◌, ℕ, ◌<◌, ◌≤◌, ◌+◌, zero,
 use Rattle.std.specs.Prelude.{slice_get}
 use Rattle.std.proofs.lemmas.Bool.{cases_order}
 use Rattle.lotos_check.specs.NameLists.{In, Name}
-use Rattle.lotos_tool.specs.UnknownGates.{HasNoUnknownGate, HasNoUnknownGateBefore, NamesUnknownGate}
+use Rattle.lotos_pattern.specs.PatternFaults.{HasWord}
+use Rattle.lotos_tool.specs.UnknownGates.{HasNoUnknownGate, HasNoUnknownGateBefore, IsFirstUnknownGate, NamesUnknownGate}
 
 -- an item of a mapped list
 pub map_at : {A B : Type 0} (f : A → B) (xs : List A) (k : ℕ) (d : A) → k < length xs → slice_get (map f xs) k ≡ Some (f (get_or xs k d))
@@ -33,6 +34,17 @@ known_more gates words n word at none before k w h is foreign = by (below_or k n
         let e : Some w ≡ Some word = sym is ∙ ap (slice_get words) same ∙ at in
         let v : w ≡ word = cc in
         none (subst (NamesUnknownGate gates) v foreign)
+
+-- if no earlier word names an unknown gate, and this one does, it is the first
+pub first_unknown : (gates : List Name) (words : List (List ℕ)) (n : ℕ) (word : List ℕ) → slice_get words n ≡ Some word → NamesUnknownGate gates word →
+    HasNoUnknownGateBefore n gates words → IsFirstUnknownGate gates words (n + 1)
+first_unknown gates words n word at foreign before = record {
+  unknown = record { before = n; word = word; counted = refl; located = at; such = foreign };
+  earlier = none;
+}
+  where
+    none : (m : ℕ) → m < n + 1 → HasWord words m (NamesUnknownGate gates) → ⊥
+    none m less h = let counted = h.counted in before h.before h.word (omega arith) h.located h.such
 
 -- if the number of words is reached, no word names an unknown gate
 pub known_all : (gates : List Name) (words : List (List ℕ)) (n : ℕ) → length words ≤ n → HasNoUnknownGateBefore n gates words → HasNoUnknownGate gates words

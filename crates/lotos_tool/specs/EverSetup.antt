@@ -10,7 +10,7 @@ use Rattle.lotos_pattern.specs.declared.fault.PatternFault.{PatternFault}
 use Rattle.lotos_pattern.specs.declared.fault.PatternFault.TheVariants as pattern
 use Rattle.lotos_search.specs.Order.{Label}
 use Rattle.lotos_search.specs.Question.{ArePrinted}
-use Rattle.lotos_ever.specs.MatchQuestions.{IsMatchQuestionOf, IsMatchOf, ReachesMoreStatesOf, MatchQuestion, IsShortestMatchOf}
+use Rattle.lotos_ever.specs.MatchQuestions.{IsMatchQuestionOf, IsMatchOf, ReachesMoreThanFor, MatchQuestion, IsShortestMatchOf}
 use Rattle.lotos_ever.specs.declared.found.Found.{Found}
 use Rattle.lotos_ever.specs.declared.found.Halt.{Halt}
 use Rattle.lotos_ever.specs.declared.found.Halt.TheVariants as halt
@@ -18,7 +18,7 @@ use Rattle.lotos_device.specs.ByteOutput.{AppendsBeginning}
 use Rattle.lotos_tool.specs.EverOutcomeContracts.{IsMatchWritten, IsMatchLineCut, IsNoMatch, IsTooManyStates, item_of}
 use Rattle.lotos_tool.specs.OutputLines.{Item, line_of}
 use Rattle.lotos_tool.specs.declared.outcome.EverEnded.{EverEnded}
-use Rattle.lotos_tool.specs.declared.outcome.EverEnded.TheVariants.{Happens, Never, NoGate, Refused, Stopped}
+use Rattle.lotos_tool.specs.declared.outcome.EverEnded.TheVariants.{Matched, NoMatch, Refused, Stopped}
 use Rattle.lotos_tool.specs.declared.outcome.EverWhy.TheVariants as why
 use Rattle.lotos_command.specs.declared.command.EverRequest.{EverRequest}
 use Rattle.lotos_tool.specs.declared.refusal.Refusal.TheVariants as refusal
@@ -39,7 +39,7 @@ HasLine request system p line = (q : MatchQuestion) × IsEverQuestionFor system 
 
 -- why there is no line: more product states are reached than the request allows, or memory ran out
 abbrev pub HasNoLine : EverRequest → System → Pattern → Halt → Type 0
-HasNoLine request system p halt.TooManyStates = (q : MatchQuestion) × IsEverQuestionFor system p q × ReachesMoreStatesOf q request.states
+HasNoLine request system p halt.TooManyStates = (q : MatchQuestion) × IsEverQuestionFor system p q × ReachesMoreThanFor q request.states
 HasNoLine request system p halt.Memory = Unit {0}
 
 -- the item has the printed labels of the match that was found
@@ -49,23 +49,33 @@ pub record IsPrintedItem (names : List Name) (found : Found) (item : Item) : Typ
 
 -- the line was written, or the output failed after a prefix of it
 abbrev pub IsWritten : List ℕ → Option (List ℕ) → Option (List ℕ) → EverEnded → Type 0
-IsWritten line got got' Happens = Appends got got' line
-IsWritten line got got' Never = ⊥
+IsWritten line got got' Matched = Appends got got' line
+IsWritten line got got' NoMatch = ⊥
 IsWritten line got got' (Refused cause) = ⊥
-IsWritten line got got' (NoGate n) = ⊥
 IsWritten line got got' (Stopped why.TooManyStates) = ⊥
 IsWritten line got got' (Stopped why.Memory) = ⊥
 IsWritten line got got' (Stopped why.Write) = AppendsBeginning got got' line
+IsWritten line got got' (Stopped why.Flush) = ⊥
+
+-- there is no match and the output was flushed, or the flush failed; nothing was written
+abbrev pub IsEndWithoutMatch : Option (List ℕ) → Option (List ℕ) → EverEnded → Type 0
+IsEndWithoutMatch got got' Matched = ⊥
+IsEndWithoutMatch got got' NoMatch = Keeps got got'
+IsEndWithoutMatch got got' (Refused cause) = ⊥
+IsEndWithoutMatch got got' (Stopped why.TooManyStates) = ⊥
+IsEndWithoutMatch got got' (Stopped why.Memory) = ⊥
+IsEndWithoutMatch got got' (Stopped why.Write) = ⊥
+IsEndWithoutMatch got got' (Stopped why.Flush) = Keeps got got'
 
 -- what each outcome of a search for a match of the pattern in the system means
-abbrev pub HasEverOutcome : EverRequest → System → Pattern → Option (List ℕ) → Option (List ℕ) → EverEnded → Type 0
-HasEverOutcome request system p got got' Happens = (q : MatchQuestion) × IsEverQuestionFor system p q × IsMatchWritten request q got got'
-HasEverOutcome request system p got got' Never = (q : MatchQuestion) × IsEverQuestionFor system p q × IsNoMatch request q got got'
-HasEverOutcome request system p got got' (Refused cause) = ⊥
-HasEverOutcome request system p got got' (NoGate n) = ⊥
-HasEverOutcome request system p got got' (Stopped why.TooManyStates) = (q : MatchQuestion) × IsEverQuestionFor system p q × IsTooManyStates request q got got'
-HasEverOutcome request system p got got' (Stopped why.Memory) = Keeps got got'
-HasEverOutcome request system p got got' (Stopped why.Write) = (q : MatchQuestion) × IsEverQuestionFor system p q × IsMatchLineCut request q got got'
+abbrev pub IsOutcomeFor : EverRequest → System → Pattern → Option (List ℕ) → Option (List ℕ) → EverEnded → Type 0
+IsOutcomeFor request system p got got' Matched = (q : MatchQuestion) × IsEverQuestionFor system p q × IsMatchWritten request q got got'
+IsOutcomeFor request system p got got' NoMatch = (q : MatchQuestion) × IsEverQuestionFor system p q × IsNoMatch request q got got'
+IsOutcomeFor request system p got got' (Refused cause) = ⊥
+IsOutcomeFor request system p got got' (Stopped why.TooManyStates) = (q : MatchQuestion) × IsEverQuestionFor system p q × IsTooManyStates request q got got'
+IsOutcomeFor request system p got got' (Stopped why.Memory) = Keeps got got'
+IsOutcomeFor request system p got got' (Stopped why.Write) = (q : MatchQuestion) × IsEverQuestionFor system p q × IsMatchLineCut request q got got'
+IsOutcomeFor request system p got got' (Stopped why.Flush) = (q : MatchQuestion) × IsEverQuestionFor system p q × IsNoMatch request q got got'
 
 -- the outcome is a refusal with this fault, or for E99 that memory ran out
 abbrev pub IsWordsOutcome : PatternFault → EverEnded → Type 0

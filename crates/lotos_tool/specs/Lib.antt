@@ -1,9 +1,13 @@
 pub mod AcceptedText
+pub mod UnknownGates
+pub mod RefusalCauses
+pub mod RejectedText
 pub mod OutputLines
-pub mod OutcomeContracts
+pub mod ListingOutcome
+pub mod CheckOutcome
+pub mod OutcomeFlags
 pub mod WriteFaults
 pub mod SearchSetup
-pub mod UnknownGates
 pub mod EverOutcomeContracts
 pub mod EverSetup
 pub mod ProgramRuns

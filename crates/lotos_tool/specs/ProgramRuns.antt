@@ -1,7 +1,9 @@
 -- What a run of the program does, and its exit status.
 use Rattle.std.specs.Prelude.{◌≡◌, ℕ, ◌⊎◌, ◌==◌, Bool, List, Option, false, if◌then◌else◌}
 use Rattle.std.specs.Io.KnownBytes.{Appends, Keeps}
-use Rattle.lotos_tool.specs.OutcomeContracts.{SearchOutcome, CheckOutcome, is_input_fault}
+use Rattle.lotos_tool.specs.ListingOutcome.{SearchOutcome}
+use Rattle.lotos_tool.specs.CheckOutcome.{CheckOutcome}
+use Rattle.lotos_tool.specs.OutcomeFlags.{is_input_fault}
 use Rattle.lotos_command.specs.CommandFaults.{AreAccepted, AreRejected, AskForHelp}
 use Rattle.lotos_command.specs.Request.{RequestOf, request_view}
 use Rattle.lotos_device.specs.ByteOutput.{AppendsBeginning}
@@ -16,7 +18,7 @@ use Rattle.lotos_tool.specs.declared.outcome.EverWhy.{EverWhy}
 use Rattle.lotos_tool.specs.declared.outcome.EverWhy.TheVariants as ever_why
 use Rattle.lotos_command.specs.declared.command.SearchRequest.{SearchRequest}
 use Rattle.lotos_command.specs.declared.command.EverRequest.{EverRequest}
-use Rattle.lotos_command.specs.declared.command.Request.TheVariants as asked
+use Rattle.lotos_command.specs.declared.command.Request.TheVariants as command
 
 -- the status of a stop: 3 at the limit, 4 at an oversized prefix, 5 out of memory, 6 if the output could not be written
 abbrev pub stop_status_of : Why → ℕ
@@ -35,7 +37,7 @@ status_of (Stopped last cause) = stop_status_of cause
 -- the words ask for a search, which had an outcome, and the status is that of the outcome
 pub record SearchRan (words : List (List ℕ)) (left left' got got' : Option (List ℕ)) (failed : Bool) (status : ℕ) : Type 0 where
   pub request : SearchRequest
-  pub asked : RequestOf words (request_view (asked.Search request))
+  pub asked : RequestOf words (request_view (command.Search request))
   pub ended : Ended
   pub answered : SearchOutcome request left left' got got' ended
   -- the reader failed exactly if the outcome says so
@@ -50,7 +52,7 @@ check_status_of (Stopped last cause) = stop_status_of cause
 
 -- the words ask for a check, which had an outcome, and the status is that of the outcome
 pub record CheckRan (words : List (List ℕ)) (left left' got got' : Option (List ℕ)) (failed : Bool) (status : ℕ) : Type 0 where
-  pub asked : RequestOf words (request_view asked.Check)
+  pub asked : RequestOf words (request_view command.Check)
   pub ended : Ended
   pub answered : CheckOutcome left left' got got' ended
   -- the reader failed exactly if the outcome says so
@@ -59,24 +61,24 @@ pub record CheckRan (words : List (List ℕ)) (left left' got got' : Option (Lis
 
 -- the status of a search for a match that stopped: 4 if there are too many states, 5 out of memory, 6 if the output
 -- could not be written
-abbrev pub no_answer_status_of : EverWhy → ℕ
-no_answer_status_of ever_why.TooManyStates = 4
-no_answer_status_of ever_why.Memory = 5
-no_answer_status_of ever_why.Write = 6
+abbrev pub ever_stop_status_of : EverWhy → ℕ
+ever_stop_status_of ever_why.TooManyStates = 4
+ever_stop_status_of ever_why.Memory = 5
+ever_stop_status_of ever_why.Write = 6
+ever_stop_status_of ever_why.Flush = 6
 
 -- the status of a search for a match: 0 if there is one, 1 if there is none, 2 if it is refused, and that of the stop
 -- if it stopped
 abbrev pub ever_status_of : EverEnded → ℕ
-ever_status_of ever.Happens = 0
-ever_status_of ever.Never = 1
+ever_status_of ever.Matched = 0
+ever_status_of ever.NoMatch = 1
 ever_status_of (ever.Refused cause) = 2
-ever_status_of (ever.NoGate n) = 2
-ever_status_of (ever.Stopped cause) = no_answer_status_of cause
+ever_status_of (ever.Stopped cause) = ever_stop_status_of cause
 
 -- the words ask for a match of any length, the search for it had an outcome, and the status is that of the outcome
 pub record EverRan (words : List (List ℕ)) (left left' got got' : Option (List ℕ)) (failed : Bool) (status : ℕ) : Type 0 where
   pub request : EverRequest
-  pub asked : RequestOf words (request_view (asked.Ever request))
+  pub asked : RequestOf words (request_view (command.Ever request))
   pub ended : EverEnded
   pub answered : EverOutcome request left left' got got' ended
   -- the reader failed exactly if the outcome says so
@@ -96,7 +98,7 @@ pub data MessageOutput (words : List (List ℕ)) (got got' : Option (List ℕ)) 
   -- nothing and 2, if the words fit no command
   wrong : AreRejected words → status ≡ 2 → Keeps got got' → MessageOutput words got got' status
   -- nothing and 5, if memory ran out
-  wanting : status ≡ 5 → Keeps got got' → MessageOutput words got got' status
+  out_of_memory : status ≡ 5 → Keeps got got' → MessageOutput words got got' status
 
 -- no command ran, and nothing was read; if clap accepts the words, memory ran out
 pub record NoCommandRan (words : List (List ℕ)) (left left' got got' : Option (List ℕ)) (failed : Bool) (status : ℕ) : Type 0 where

@@ -3,7 +3,7 @@ use Rattle.std.specs.Prelude.{◌≡◌, ℕ, ◌<◌, List, Some, map, slice_ge
 use Rattle.std.specs.Char.{to_ascii_uppercase}
 use Rattle.lotos_check.specs.NameLists.{In, Name}
 use Rattle.lotos_pattern.specs.PatternLabels.{internal, termination}
-use Rattle.lotos_pattern.specs.Faults.{HasWord}
+use Rattle.lotos_pattern.specs.PatternFaults.{HasWord}
 use Rattle.lotos_pattern.specs.Spelling.{IsWord, EqualsIgnoringCase}
 
 -- the word names a gate other than these: it is spelled like a gate, is neither `exit` nor `i`, and in upper case it is
@@ -22,6 +22,9 @@ HasNoUnknownGate gates words = (k : ℕ) (word : List ℕ) → slice_get words k
 abbrev pub HasNoUnknownGateBefore : ℕ → List Name → List (List ℕ) → Type 0
 HasNoUnknownGateBefore n gates words = (k : ℕ) (word : List ℕ) → k < n → slice_get words k ≡ Some word → NamesUnknownGate gates word → ⊥
 
--- the word with this number names a gate other than these
-abbrev pub IsUnknownGateAt : List Name → List (List ℕ) → ℕ → Type 0
-IsUnknownGateAt gates words n = HasWord words n (NamesUnknownGate gates)
+-- the number, counted from 1, of the first word that names a gate other than these
+pub record IsFirstUnknownGate (gates : List Name) (words : List (List ℕ)) (n : ℕ) : Type 0 where
+  -- the word with this number names one
+  pub unknown : HasWord words n (NamesUnknownGate gates)
+  -- no word with a smaller number does
+  pub earlier : (m : ℕ) → m < n → HasWord words m (NamesUnknownGate gates) → ⊥

@@ -1,6 +1,6 @@
 -- Whether a write failed.
 use Rattle.std.specs.Prelude.{Bool, false, Result, Ok, Err}
-use Rattle.lotos_tool.specs.OutcomeContracts.{is_output_cause}
+use Rattle.lotos_tool.specs.OutcomeFlags.{is_output_cause}
 use Rattle.lotos_tool.specs.declared.outcome.Why.{Why}
 
 -- the result is that the writer failed

@@ -1,7 +1,8 @@
 //! The command `check`, from the text to the lines of its processes.
 ghost use Rattle.std.specs.Prelude.{◌≡◌, ◌+◌, ◌≤◌, false};
 ghost use Rattle.lotos_text.specs.Limits.{max_text_length};
-ghost use Rattle.lotos_tool.specs.OutcomeContracts.{CheckOutcome, is_input_fault, is_output_fault};
+ghost use Rattle.lotos_tool.specs.CheckOutcome.{CheckOutcome};
+ghost use Rattle.lotos_tool.specs.OutcomeFlags.{is_input_fault, is_output_fault};
 
 use crate::outcome::{Ended, Why};
 use crate::output_flush::flush_complete;
@@ -21,7 +22,8 @@ use std::alloc::Global;
 pub fn check_text<R: Source, W: Sink>(alloc: Global, reader: &mut R, writer: &mut W) -> Ended
     requires reader { R.has_failed reader.old ≡ false }
     requires writer { W.has_failed writer.old ≡ false }
-    ensures answers { CheckOutcome (R.left reader.old) (R.left reader.new) (W.got writer.old) (W.got writer.new) result }
+    ensures answers { CheckOutcome (R.left reader.old) (R.left reader.new) (W.got writer.old)
+        (W.got writer.new) result }
     ensures given { R.given reader.new ≤ R.given reader.old + (max_text_length + 1) }
     ensures input { R.has_failed reader.new ≡ is_input_fault result }
     ensures output { W.has_failed writer.new ≡ is_output_fault result }

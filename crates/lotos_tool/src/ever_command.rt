@@ -1,10 +1,9 @@
 //! The command `ever`, from the text to the line of a shortest match.
-ghost use Rattle.std.specs.Prelude.{◌≡◌, ◌+◌, ◌≤◌, IfErr, IfOk, MatchOption, false};
+ghost use Rattle.std.specs.Prelude.{◌≡◌, ◌+◌, ◌≤◌, IfErr, IfOk, false};
 ghost use Rattle.lotos_text.specs.Limits.{max_text_length};
 ghost use Rattle.lotos_check.specs.CheckedView.{system_of};
-ghost use Rattle.lotos_tool.specs.EverSetup.{HasLine, HasNoLine, IsWordsOutcome, IsPrintedItem, HasEverOutcome, IsWritten};
-ghost use Rattle.lotos_tool.specs.EverOutcomeContracts.{EverOutcome, is_ever_input_fault, is_ever_output_fault, pattern_words};
-ghost use Rattle.lotos_tool.specs.UnknownGates.{HasNoUnknownGate, IsUnknownGateAt};
+ghost use Rattle.lotos_tool.specs.EverSetup.{HasLine, HasNoLine, IsEndWithoutMatch, IsWordsOutcome, IsPrintedItem, IsOutcomeFor, IsWritten};
+ghost use Rattle.lotos_tool.specs.EverOutcomeContracts.{EverOutcome, is_ever_input_fault, is_ever_output_fault};
 ghost use Rattle.lotos_tool.specs.OutputLines.{Item, line_of};
 
 use crate::outcome::{EverEnded, EverWhy};
@@ -13,7 +12,7 @@ use crate::output_lines::{format_line, format_sequence};
 use crate::refusal::Refusal;
 use crate::request_pattern::read_pattern;
 use crate::specification_input::{Rejection, read_specification};
-use crate::unknown_gates::first_unknown_gate;
+use crate::unknown_gates::first_unknown_gate_of;
 use lotos_check::Checked;
 use lotos_command::EverRequest;
 use lotos_device::{DeviceFailed, Sink, Source};
@@ -29,9 +28,10 @@ use std::alloc::{AllocError, Global};
 /// The words of the pattern are read first, then the text, whose specification is checked, and then the gates that the
 /// words name are looked up in the specification's own list. The first of these to be refused is returned with nothing
 /// written, and words that spell no pattern are refused with nothing read. The line is composed completely before its
-/// first byte is written, and one flush follows. If no derivation matches, if more product states would be stored than
-/// the request allows, and if memory runs out, nothing is written. At most one byte more than a text may have is taken
-/// from the reader, whatever it returns. Neither the reader nor the writer may have failed before.
+/// first byte is written. If no derivation matches, if more product states would be stored than the request allows, and
+/// if memory runs out, nothing is written. One flush follows the line, and also ends a search without a match. At most
+/// one byte more than a text may have is taken from the reader, whatever it returns. Neither the reader nor the writer
+/// may have failed before.
 pub fn ever<R: Source, W: Sink>(
     alloc: Global,
     request: &EverRequest,
@@ -40,7 +40,8 @@ pub fn ever<R: Source, W: Sink>(
 ) -> EverEnded
     requires reader { R.has_failed reader.old ≡ false }
     requires writer { W.has_failed writer.old ≡ false }
-    ensures answers { EverOutcome request.now (R.left reader.old) (R.left reader.new) (W.got writer.old) (W.got writer.new) result }
+    ensures answers { EverOutcome request.now (R.left reader.old) (R.left reader.new)
+        (W.got writer.old) (W.got writer.new) result }
     ensures given { R.given reader.new ≤ R.given reader.old + (max_text_length + 1) }
     ensures input { R.has_failed reader.new ≡ is_ever_input_fault result }
     ensures output { W.has_failed writer.new ≡ is_ever_output_fault result }
@@ -54,28 +55,16 @@ pub fn ever<R: Source, W: Sink>(
         Err(Rejection::Refused(refusal)) => return EverEnded::Refused(refusal),
         Err(Rejection::Memory) => return EverEnded::Stopped(EverWhy::Memory),
     };
-    match find_unknown_gate(alloc, request, &found) {
-        Ok(None) => answer_question(alloc, request, found, &pattern, writer),
-        Ok(Some(number)) => EverEnded::NoGate(number),
+    match first_unknown_gate_of(alloc, &request.words, &found) {
+        Ok(None) => write_match(alloc, request, found, &pattern, writer),
+        Ok(Some(number)) => EverEnded::Refused(Refusal::E49(number)),
         Err(AllocError) => EverEnded::Stopped(EverWhy::Memory),
     }
 }
 
-/// The number, counted from 1, of the first word that names a gate not in the specification's own list; `None` if no
-/// word does.
-fn find_unknown_gate(
-    alloc: Global,
-    request: &EverRequest,
-    found: &Checked,
-) -> Result<Option<usize>, AllocError>
-    ensures { IfOk result (λ o. MatchOption o (HasNoUnknownGate (system_of found.now).formals (pattern_words request.now))
-        (IsUnknownGateAt (system_of found.now).formals (pattern_words request.now))) }
-{
-    first_unknown_gate(alloc, request.words.as_slice(), found.gates())
-}
-
-/// Searches an accepted specification for a match, and writes the line of a shortest one if there is one.
-fn answer_question<W: Sink>(
+/// Searches an accepted specification for a match, writes the line of a shortest one if there is one, and flushes the
+/// output. Nothing is flushed if the search stops.
+fn write_match<W: Sink>(
     alloc: Global,
     request: &EverRequest,
     found: Checked,
@@ -83,12 +72,13 @@ fn answer_question<W: Sink>(
     writer: &mut W,
 ) -> EverEnded
     requires { W.has_failed writer.old ≡ false }
-    ensures told { HasEverOutcome request.now (system_of found) pattern.now (W.got writer.old) (W.got writer.new) result }
+    ensures outcome { IsOutcomeFor request.now (system_of found) pattern.now
+        (W.got writer.old) (W.got writer.new) result }
     ensures failed { W.has_failed writer.new ≡ is_ever_output_fault result }
 {
     match find_match_line(alloc, request, found, pattern) {
         Ok(Some(line)) => write_line(writer, line.as_slice()),
-        Ok(None) => EverEnded::Never,
+        Ok(None) => end_without_match(writer),
         Err(Halt::TooManyStates) => EverEnded::Stopped(EverWhy::TooManyStates),
         Err(Halt::Memory) => EverEnded::Stopped(EverWhy::Memory),
     }
@@ -121,8 +111,9 @@ fn format_match(
     found: &Found,
     explain: bool,
 ) -> Result<Vec<u8>, AllocError>
-    requires shown { (item : Item) × IsPrintedItem table.now.names found.now item }
-    ensures { IfOk result (λ line. (item : Item) → IsPrintedItem table.now.names found.now item → line.items ≡ line_of explain item) }
+    requires printed { (item : Item) × IsPrintedItem table.now.names found.now item }
+    ensures { IfOk result (λ line. (item : Item) → IsPrintedItem table.now.names found.now item →
+        line.items ≡ line_of explain item) }
 {
     let text = format_sequence(alloc, table, found.sequence.as_slice())?;
     format_line(alloc, table, text.as_str(), found.word.as_slice(), explain)
@@ -135,8 +126,20 @@ fn write_line<W: Sink>(writer: &mut W, line: &[u8]) -> EverEnded
     ensures failed { W.has_failed writer.new ≡ is_ever_output_fault result }
 {
     match write_and_flush(writer, line) {
-        Ok(()) => EverEnded::Happens,
+        Ok(()) => EverEnded::Matched,
         Err(DeviceFailed) => EverEnded::Stopped(EverWhy::Write),
+    }
+}
+
+/// Flushes the output, to which nothing was written as there is no match. Returns how the command ends.
+fn end_without_match<W: Sink>(writer: &mut W) -> EverEnded
+    requires { W.has_failed writer.old ≡ false }
+    ensures ends { IsEndWithoutMatch (W.got writer.old) (W.got writer.new) result }
+    ensures failed { W.has_failed writer.new ≡ is_ever_output_fault result }
+{
+    match writer.flush() {
+        Ok(()) => EverEnded::NoMatch,
+        Err(DeviceFailed) => EverEnded::Stopped(EverWhy::Flush),
     }
 }
 

@@ -9,7 +9,7 @@
 
 mod check_command;
 mod ever_command;
-mod label_printer;
+mod label_texts;
 mod listing_output;
 mod messages;
 mod outcome;

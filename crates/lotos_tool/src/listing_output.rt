@@ -4,9 +4,9 @@ ghost use Rattle.std.specs.Io.KnownBytes.{Appends, Keeps};
 ghost use Rattle.lotos_search.specs.Order.{Label as Text};
 ghost use Rattle.lotos_search.specs.Question.{ArePrinted};
 ghost use Rattle.lotos_search.specs.SearchSteps.{running};
-ghost use Rattle.lotos_tool.specs.OutcomeContracts.{is_output_fault};
+ghost use Rattle.lotos_tool.specs.OutcomeFlags.{is_output_fault};
 ghost use Rattle.lotos_tool.specs.OutputLines.{Item, line_of, sequence_text};
-ghost use Rattle.lotos_tool.specs.SearchSetup.{ListingOutcome, IsHalt, IsHaltCause, IsItemOf, IsOverCause, IsSmall, is_at_limit};
+ghost use Rattle.lotos_tool.specs.SearchSetup.{ListingOutcome, IsHalt, IsHaltCause, IsItemOf, IsOversizedCause, IsSmall, is_at_limit};
 ghost use Rattle.lotos_device.specs.ByteOutput.{AppendsPart};
 ghost use Rattle.lotos_tool.specs.WriteFaults.{is_write_fault};
 
@@ -31,7 +31,8 @@ pub fn write_listing<W: Sink>(
     requires begun { search.old.stage ≡ running }
     requires limit { IfSome request.now.limit (λ n. 1 ≤ n) }
     requires unfailed { W.has_failed writer.old ≡ false }
-    ensures ends { ListingOutcome request.now search.old.question search.old.cursor (W.got writer.old) (W.got writer.new) result }
+    ensures ends { ListingOutcome request.now search.old.question search.old.cursor
+        (W.got writer.old) (W.got writer.new) result }
     ensures failed { W.has_failed writer.new ≡ is_output_fault result }
 {
     items_decrease_remaining();
@@ -67,14 +68,15 @@ fn write_item<W: Sink>(
     explain: bool,
     writer: &mut W,
 ) -> Result<String, Why>
-    requires shown { (item : Item) × IsItemOf search.now.question.names found.now item }
+    requires printed { (item : Item) × IsItemOf search.now.question.names found.now item }
     requires unfailed { W.has_failed writer.old ≡ false }
     ensures whole { OnOk result ((item : Item) → IsItemOf search.now.question.names found.now item →
         Appends (W.got writer.old) (W.got writer.new) (line_of explain item)) }
     ensures text { IfOk result (λ text. (item : Item) → IsItemOf search.now.question.names found.now item →
         string_bytes text ≡ sequence_text item.sequence) }
     ensures memory { IsErrOf result Why.Memory → Keeps (W.got writer.old) (W.got writer.new) }
-    ensures part { IsErrOf result Why.Write → (item : Item) → IsItemOf search.now.question.names found.now item →
+    ensures part { IsErrOf result Why.Write →
+        (item : Item) → IsItemOf search.now.question.names found.now item →
         AppendsPart (W.got writer.old) (W.got writer.new) (line_of explain item) }
     ensures causes { IfErr result (λ why. (why ≡ Why.Memory) ⊎ (why ≡ Why.Write)) }
     ensures failed { W.has_failed writer.new ≡ is_write_fault result }
@@ -120,11 +122,11 @@ fn cause_of_halt<W: Sink>(alloc: Global, search: &Search, halt: &Halt, writer: &
 /// Why a listing stops at an oversized prefix: that prefix, or out of memory for its text, or a failed flush. There is
 /// no flush if memory runs out.
 fn oversized_cause<W: Sink>(alloc: Global, search: &Search, prefix: &[Label], writer: &mut W) -> Why
-    requires shown { (r : List Text) × ArePrinted search.now.question.names prefix.now r }
+    requires printed { (r : List Text) × ArePrinted search.now.question.names prefix.now r }
     requires unfailed { W.has_failed writer.old ≡ false }
     ensures kept { Keeps (W.got writer.old) (W.got writer.new) }
     ensures cause { (r : List Text) → ArePrinted search.now.question.names prefix.now r →
-        IsOverCause r (W.has_failed writer.new) result }
+        IsOversizedCause r (W.has_failed writer.new) result }
 {
     match format_sequence(alloc, search, prefix) {
         Ok(text) => flush_stopped(writer, Why::OverTerms(text)),

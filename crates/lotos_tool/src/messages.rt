@@ -27,22 +27,12 @@ pub(crate) fn report_failure<E: Write>(err: &mut E, why: &Why) {
 }
 
 /// Reports that there is no match of any length.
-pub(crate) fn report_never<E: Write>(err: &mut E) {
+pub(crate) fn report_no_match<E: Write>(err: &mut E) {
     let _ = writeln!(err, "lotosseq: it happens at no depth");
 }
 
-/// Reports that the word of the pattern with this number, counted from 1, names a gate that is not in the
-/// specification's own list.
-pub(crate) fn report_no_gate<E: Write>(err: &mut E, number: usize) {
-    let _ = writeln!(
-        err,
-        "lotosseq: E49 word {} is no gate of the specification",
-        NumberText(number)
-    );
-}
-
 /// Reports why a search for a match stopped. `states` is the bound on the product states.
-pub(crate) fn report_no_answer<E: Write>(err: &mut E, why: &EverWhy, states: usize) {
+pub(crate) fn report_ever_stop<E: Write>(err: &mut E, why: &EverWhy, states: usize) {
     match why {
         EverWhy::TooManyStates => {
             let _ = writeln!(
@@ -52,7 +42,7 @@ pub(crate) fn report_no_answer<E: Write>(err: &mut E, why: &EverWhy, states: usi
             );
         }
         EverWhy::Memory => report_failure(err, &Why::Memory),
-        EverWhy::Write => report_failure(err, &Why::Write),
+        EverWhy::Write | EverWhy::Flush => report_failure(err, &Why::Write),
     }
 }
 

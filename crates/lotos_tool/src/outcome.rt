@@ -31,14 +31,11 @@ pub enum Why {
 #[derive(Debug, Drop)]
 pub enum EverEnded {
     /// There is a match, and the line of a shortest one was written and flushed.
-    Happens,
+    Matched,
     /// There is no match of any length. Nothing was written.
-    Never,
+    NoMatch,
     /// Nothing was written, for this reason.
     Refused(Refusal),
-    /// The word of the pattern with this number, counted from 1, names a gate that is not in the specification's own
-    /// list. Nothing was written.
-    NoGate(usize),
     /// The search or the output stopped, for this reason.
     Stopped(EverWhy),
 }
@@ -52,4 +49,6 @@ pub enum EverWhy {
     Memory,
     /// There is a match, and its line could not be written or flushed. A prefix of the line may have been written.
     Write,
+    /// There is no match of any length, and the output could not be flushed. Nothing was written.
+    Flush,
 }

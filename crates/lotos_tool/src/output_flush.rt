@@ -2,7 +2,7 @@
 ghost use Rattle.std.specs.Prelude.{◌≡◌, if◌then◌else◌, false, OnErr, OnOk, is_err};
 ghost use Rattle.std.specs.Io.KnownBytes.{Appends, Keeps};
 ghost use Rattle.lotos_device.specs.ByteOutput.{AppendsBeginning};
-ghost use Rattle.lotos_tool.specs.OutcomeContracts.{is_output_fault};
+ghost use Rattle.lotos_tool.specs.OutcomeFlags.{is_output_fault};
 ghost use Rattle.lotos_tool.specs.SearchSetup.{IsFinished};
 
 use crate::outcome::{Ended, Why};

@@ -5,7 +5,7 @@ ghost use Rattle.lotos_search.specs.Order.{Label as Text};
 ghost use Rattle.lotos_search.specs.Question.{ArePrinted};
 ghost use Rattle.lotos_tool.specs.OutputLines.{run_text, functionality_text, process_line, sequence_text};
 
-use crate::label_printer::LabelPrinter;
+use crate::label_texts::LabelTexts;
 use itoa::Buffer;
 use lotos_check::Process;
 use lotos_terms::Label;
@@ -14,7 +14,7 @@ use std::alloc::{AllocError, Global};
 
 /// A sequence as text: its printed labels, separated by one blank each, or `<empty>`. The labels must be labels of
 /// `texts`.
-pub fn format_sequence<T: LabelPrinter>(
+pub fn format_sequence<T: LabelTexts>(
     alloc: Global,
     texts: &T,
     labels: &[Label],
@@ -37,38 +37,38 @@ pub fn format_sequence<T: LabelPrinter>(
 }
 
 /// The line of a sequence with this text: the text, with `explain` ` : ` and the run, and a line feed.
-pub fn format_line<T: LabelPrinter>(
+pub fn format_line<T: LabelTexts>(
     alloc: Global,
     texts: &T,
     text: &str,
-    word: &[Label],
+    run: &[Label],
     explain: bool,
 ) -> Result<Vec<u8>, AllocError>
-    requires { (w : List Text) × ArePrinted (T.names texts.now) word.now w }
-    ensures { IfOk result (λ line. (w : List Text) → ArePrinted (T.names texts.now) word.now w →
+    requires { (w : List Text) × ArePrinted (T.names texts.now) run.now w }
+    ensures { IfOk result (λ line. (w : List Text) → ArePrinted (T.names texts.now) run.now w →
         line.items ≡ text.now ++ run_text explain w ++ 10 ∷ []) }
 {
     let mut line = Vec::with_capacity(alloc, text.len() + 1)?;
     line.extend_from_slice(text.as_bytes())?;
     if explain {
-        append_run(alloc, texts, word, &mut line)?;
+        append_run(alloc, texts, run, &mut line)?;
     }
     line.push(b'\n')?;
     Ok(line)
 }
 
 /// Appends ` : ` and the run.
-fn append_run<T: LabelPrinter>(
+fn append_run<T: LabelTexts>(
     alloc: Global,
     texts: &T,
-    word: &[Label],
+    run: &[Label],
     line: &mut Vec<u8>,
 ) -> Result<(), AllocError>
-    requires { (w : List Text) × ArePrinted (T.names texts.now) word.now w }
-    ensures { OnOk result ((w : List Text) → ArePrinted (T.names texts.now) word.now w →
+    requires { (w : List Text) × ArePrinted (T.names texts.now) run.now w }
+    ensures { OnOk result ((w : List Text) → ArePrinted (T.names texts.now) run.now w →
         line.new.items ≡ line.old.items ++ run_text true w) }
 {
-    let text = format_sequence(alloc, texts, word)?;
+    let text = format_sequence(alloc, texts, run)?;
     line.extend_from_slice(b" : ")?;
     line.extend_from_slice(text.as_bytes())
 }

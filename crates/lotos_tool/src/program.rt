@@ -1,16 +1,15 @@
 //! The program: from the words of its command line to its exit status.
 ghost use Rattle.std.specs.Prelude.{◌≡◌, ◌+◌, ◌≤◌, ◌==◌, false};
 ghost use Rattle.lotos_text.specs.Limits.{max_text_length};
-ghost use Rattle.lotos_tool.specs.OutcomeContracts.{is_output_cause, is_output_fault};
+ghost use Rattle.lotos_tool.specs.OutcomeFlags.{is_output_cause, is_output_fault};
 ghost use Rattle.lotos_tool.specs.EverOutcomeContracts.{is_ever_output_cause, is_ever_output_fault};
 ghost use Rattle.lotos_command.specs.Request.{texts_of};
-ghost use Rattle.lotos_tool.specs.ProgramRuns.{HelpWritten, Ran, check_status_of, ever_status_of, no_answer_status_of, status_of, stop_status_of};
+ghost use Rattle.lotos_tool.specs.ProgramRuns.{HelpWritten, Ran, check_status_of, ever_status_of, ever_stop_status_of, status_of, stop_status_of};
 
 use crate::check_command::check_text;
 use crate::ever_command::ever;
 use crate::messages::{
-    report_failure, report_never, report_no_answer, report_no_gate, report_refusal, report_stop,
-    report_text,
+    report_ever_stop, report_failure, report_no_match, report_refusal, report_stop, report_text,
 };
 use crate::outcome::{Ended, EverEnded, EverWhy, Why};
 use crate::output_flush::write_and_flush;
@@ -37,8 +36,8 @@ pub fn run<R: Source, W: Sink, E: Write>(
 ) -> u8
     requires reader { R.has_failed reader.old ≡ false }
     requires out { W.has_failed out.old ≡ false }
-    ensures ran { Ran (texts_of words.now) (R.left reader.old) (R.left reader.new) (W.got out.old) (W.got out.new)
-        (R.has_failed reader.new) result }
+    ensures ran { Ran (texts_of words.now) (R.left reader.old) (R.left reader.new)
+        (W.got out.old) (W.got out.new) (R.has_failed reader.new) result }
     ensures given { R.given reader.new ≤ R.given reader.old + (max_text_length + 1) }
     ensures output { W.has_failed out.new ≡ (result == 6) }
 {
@@ -110,35 +109,31 @@ fn report_ever<E: Write>(ended: &EverEnded, states: usize, err: &mut E) -> u8
     ensures output { is_ever_output_fault ended.now ≡ (result == 6) }
 {
     match ended {
-        EverEnded::Happens => 0,
-        EverEnded::Never => {
-            report_never(err);
+        EverEnded::Matched => 0,
+        EverEnded::NoMatch => {
+            report_no_match(err);
             1
         }
         EverEnded::Refused(refusal) => {
             report_refusal(err, refusal);
             2
         }
-        EverEnded::NoGate(number) => {
-            report_no_gate(err, *number);
-            2
-        }
         EverEnded::Stopped(why) => {
-            report_no_answer(err, why, states);
-            no_answer_status(why)
+            report_ever_stop(err, why, states);
+            ever_stop_status(why)
         }
     }
 }
 
 /// The status of a search for a match that stopped for this cause.
-fn no_answer_status(why: &EverWhy) -> u8
-    ensures status { result ≡ no_answer_status_of why.now }
+fn ever_stop_status(why: &EverWhy) -> u8
+    ensures status { result ≡ ever_stop_status_of why.now }
     ensures output { is_ever_output_cause why.now ≡ (result == 6) }
 {
     match why {
         EverWhy::TooManyStates => 4,
         EverWhy::Memory => 5,
-        EverWhy::Write => 6,
+        EverWhy::Write | EverWhy::Flush => 6,
     }
 }
 
@@ -158,7 +153,7 @@ fn stop_status(why: &Why) -> u8
 /// Writes the help and returns the status, 0, or 6 if the output fails.
 fn write_help<W: Sink, E: Write>(text: &str, out: &mut W, err: &mut E) -> u8
     requires { W.has_failed out.old ≡ false }
-    ensures shown { HelpWritten (W.got out.old) (W.got out.new) text.now result }
+    ensures printed { HelpWritten (W.got out.old) (W.got out.new) text.now result }
     ensures output { W.has_failed out.new ≡ (result == 6) }
 {
     match write_and_flush(out, text.as_bytes()) {

@@ -34,4 +34,8 @@ pub enum Refusal {
     /// The input cannot be read.
     #[error("E47 input cannot be read")]
     E47,
+    /// The word of the pattern with this number, counted from 1, is the first that names a gate not in the
+    /// specification's own list.
+    #[error("E49 word {0} is no gate of the specification")]
+    E49(usize),
 }

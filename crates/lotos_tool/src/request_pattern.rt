@@ -1,6 +1,6 @@
 //! The pattern of a request.
 ghost use Rattle.std.specs.Prelude.{◌≡◌, IfErr, IfOk, map, string_bytes};
-ghost use Rattle.lotos_pattern.specs.Faults.{IsCause, SpellsNone};
+ghost use Rattle.lotos_pattern.specs.PatternFaults.{IsCause, SpellsNone};
 ghost use Rattle.lotos_pattern.specs.Spelling.{PatternOf, texts_of};
 
 use lotos_pattern::{Pattern, PatternFault};

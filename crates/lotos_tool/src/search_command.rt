@@ -1,10 +1,12 @@
 //! The command `search`, from the text to the lines of the listing.
-ghost use Rattle.std.specs.Prelude.{◌≡◌, ◌+◌, ◌≤◌, IfErr, IfOk, None, Some, false};
+ghost use Rattle.std.specs.Prelude.{◌≡◌, ◌+◌, ◌≤◌, IfErr, IfOk, MatchOption, None, Some, false};
 ghost use Rattle.lotos_text.specs.Limits.{max_text_length};
 ghost use Rattle.lotos_check.specs.CheckedView.{system_of};
-ghost use Rattle.lotos_tool.specs.OutcomeContracts.{SearchOutcome, IsMarkOf, is_input_fault, is_output_fault};
+ghost use Rattle.lotos_tool.specs.ListingOutcome.{SearchOutcome};
+ghost use Rattle.lotos_tool.specs.RefusalCauses.{IsMarkOf};
+ghost use Rattle.lotos_tool.specs.OutcomeFlags.{is_input_fault, is_output_fault};
 ghost use Rattle.lotos_command.specs.Request.{HasSearchBounds};
-ghost use Rattle.lotos_tool.specs.SearchSetup.{IsSearchFor, IsFaultOfMark, IsMarkOutcome, IsPatternOutcome};
+ghost use Rattle.lotos_tool.specs.SearchSetup.{HasNoRefusedGate, IsFirstRefusedGate, IsSearchFor, IsFaultOfMark, IsMarkOutcome, IsPatternOutcome};
 ghost use Rattle.lotos_tool.specs.declared.outcome.Ended.TheVariants.{Stopped};
 ghost use Rattle.lotos_tool.specs.declared.outcome.Why.TheVariants.{Memory};
 
@@ -13,6 +15,7 @@ use crate::outcome::{Ended, Why};
 use crate::refusal::Refusal;
 use crate::request_pattern::read_pattern;
 use crate::specification_input::{Rejection, read_specification};
+use crate::unknown_gates::first_unknown_gate_of;
 use lotos_check::Checked;
 use lotos_command::SearchRequest;
 use lotos_device::{Sink, Source};
@@ -25,13 +28,14 @@ use std::alloc::{AllocError, Global};
 /// its derivations of at most the request's depth of steps, each sequence once, shorter ones first, then in the order
 /// of their labels. With a mark only the sequences after it are listed.
 ///
-/// The words of the pattern are read first, then the mark, then the text, whose specification is checked. The first of
-/// these to be refused is returned with nothing written, and the words and the mark are refused with nothing read. A
-/// line is composed completely before its first byte is written. The listing stops when as many lines as the limit are
-/// written, at the first prefix that can still match and reaches more terms than the request allows, when memory runs
-/// out, and when the output cannot be written. A complete listing, and one that stops at the limit or at such a prefix,
-/// ends with one flush. At most one byte more than a text may have is taken from the reader, whatever it returns.
-/// Neither the reader nor the writer may have failed before.
+/// The words of the pattern are read first, then the mark, then the text, whose specification is checked; then, if the
+/// request refuses unknown gates, the gates that the words name are looked up in the specification's own list. The
+/// first of these to be refused is returned with nothing written, and the words and the mark are refused with nothing
+/// read. A line is composed completely before its first byte is written. The listing stops when as many lines as the
+/// limit are written, at the first prefix that can still match and reaches more terms than the request allows, when
+/// memory runs out, and when the output cannot be written. A complete listing, be it without lines, and one that stops
+/// at the limit or at such a prefix, ends with one flush. At most one byte more than a text may have is taken from the
+/// reader, whatever it returns. Neither the reader nor the writer may have failed before.
 pub fn list<R: Source, W: Sink>(
     alloc: Global,
     request: &SearchRequest,
@@ -41,7 +45,8 @@ pub fn list<R: Source, W: Sink>(
     requires bounds { HasSearchBounds request.now }
     requires reader { R.has_failed reader.old ≡ false }
     requires writer { W.has_failed writer.old ≡ false }
-    ensures answers { SearchOutcome request.now (R.left reader.old) (R.left reader.new) (W.got writer.old) (W.got writer.new) result }
+    ensures answers { SearchOutcome request.now (R.left reader.old) (R.left reader.new)
+        (W.got writer.old) (W.got writer.new) result }
     ensures given { R.given reader.new ≤ R.given reader.old + (max_text_length + 1) }
     ensures input { R.has_failed reader.new ≡ is_input_fault result }
     ensures output { W.has_failed writer.new ≡ is_output_fault result }
@@ -59,6 +64,11 @@ pub fn list<R: Source, W: Sink>(
         Err(Rejection::Refused(refusal)) => return Ended::Refused(refusal),
         Err(Rejection::Memory) => return out_of_memory(),
     };
+    match find_refused_gate(alloc, request, &found) {
+        Ok(None) => {}
+        Ok(Some(number)) => return Ended::Refused(Refusal::E49(number)),
+        Err(AllocError) => return out_of_memory(),
+    }
     match begin_search(alloc, request, found, pattern, mark) {
         Ok(mut search) => write_listing(alloc, request, &mut search, writer),
         Err(AllocError) => out_of_memory(),
@@ -74,6 +84,22 @@ fn read_mark(alloc: Global, request: &SearchRequest) -> Result<Option<Mark>, Mar
         Some(line) => Ok(Some(Mark::read(alloc, line.as_str(), request.strong)?)),
         None => Ok(None),
     }
+}
+
+/// The number, counted from 1, of the first word that names a gate not in the specification's own list; `None` if no
+/// word does, or if the request refuses no such word.
+fn find_refused_gate(
+    alloc: Global,
+    request: &SearchRequest,
+    found: &Checked,
+) -> Result<Option<usize>, AllocError>
+    ensures { IfOk result (λ o. MatchOption o (HasNoRefusedGate request.now (system_of found.now))
+        (IsFirstRefusedGate request.now (system_of found.now))) }
+{
+    if !request.known {
+        return Ok(None);
+    }
+    first_unknown_gate_of(alloc, &request.words, found)
 }
 
 /// Begins the search that the request asks for in an accepted specification.

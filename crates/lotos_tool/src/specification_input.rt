@@ -5,9 +5,9 @@ ghost use Rattle.lotos_text.specs.Limits.{max_text_length};
 ghost use Rattle.lotos_text.specs.TextFaults.{IsFaultOfText, SpellsNoSpecification};
 ghost use Rattle.lotos_check.specs.FaultOffsets.{IsOffsetWithin};
 ghost use Rattle.lotos_check.specs.CheckedView.{system_of};
-ghost use Rattle.lotos_tool.specs.AcceptedText.{Accepted};
-ghost use Rattle.lotos_tool.specs.OutcomeContracts.{IsPositionOf};
-ghost use Rattle.lotos_tool.specs.SearchSetup.{IsCheckFaultOfText, IsRejection, IsInputRejection, ReadsAccepted, is_memory_fault, is_input_failure};
+ghost use Rattle.lotos_tool.specs.AcceptedText.{Accepted, ReadsAccepted};
+ghost use Rattle.lotos_tool.specs.RefusalCauses.{IsPositionOf};
+ghost use Rattle.lotos_tool.specs.RejectedText.{IsCheckFaultOfText, IsRejection, IsInputRejection, is_memory_fault, is_input_failure};
 
 use crate::refusal::Refusal;
 use lotos_check::{CheckFault, Checked, check};
@@ -27,7 +27,8 @@ pub enum Rejection {
 /// long, and otherwise with the fault of the parser or of the static check.
 pub fn read_specification<R: Source>(alloc: Global, reader: &mut R) -> Result<Checked, Rejection>
     requires { R.has_failed reader.old ≡ false }
-    ensures accepted { IfOk result (λ found. ReadsAccepted (R.left reader.old) (R.left reader.new) (system_of found)) }
+    ensures accepted { IfOk result (λ found.
+        ReadsAccepted (R.left reader.old) (R.left reader.new) (system_of found)) }
     ensures refused { IfErr result (IsInputRejection (R.left reader.old) (R.left reader.new)) }
     ensures given { R.given reader.new ≤ R.given reader.old + (max_text_length + 1) }
     ensures failed { R.has_failed reader.new ≡ is_input_failure result }

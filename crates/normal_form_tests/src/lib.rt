@@ -4,6 +4,8 @@
 #[cfg(test)]
 mod accepted_text;
 #[cfg(test)]
+mod protocols;
+#[cfg(test)]
 mod recurrence_tests;
 #[cfg(test)]
 mod term_list;

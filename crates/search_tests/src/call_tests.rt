@@ -1,9 +1,9 @@
 //! Calls after the end and after a halt, and the order of sequences.
-use super::listing_run::{Asked, begin};
+use super::listing_run::{Question, begin};
 use lotos_search::{Halt, compare};
 use std::test::Fail;
 
-const ASKED: Asked = Asked {
+const QUESTION: Question = Question {
     behaviour: "noexit behaviour a; stop [] b; stop [] b; a; stop",
     words: &["<any>"],
     strong: false,
@@ -14,7 +14,7 @@ const ASKED: Asked = Asked {
 
 #[test]
 fn gives_nothing_behind_the_end(rt: HostRuntime) -> Result<(), Fail> {
-    let mut search = begin(rt.alloc(), ASKED)?;
+    let mut search = begin(rt.alloc(), QUESTION)?;
     for _ in 0..2 {
         assert!(rt; matches!(search.next(), Ok(Some(_))), "two items");
     }
@@ -26,7 +26,13 @@ fn gives_nothing_behind_the_end(rt: HostRuntime) -> Result<(), Fail> {
 
 #[test]
 fn fails_behind_a_halt(rt: HostRuntime) -> Result<(), Fail> {
-    let mut search = begin(rt.alloc(), Asked { terms: 1, ..ASKED })?;
+    let mut search = begin(
+        rt.alloc(),
+        Question {
+            terms: 1,
+            ..QUESTION
+        },
+    )?;
     assert!(rt; matches!(search.next(), Ok(Some(_))), "one item");
     assert!(rt;
         matches!(search.next(), Err(Halt::OverTerms(_))),
@@ -58,8 +64,14 @@ const SEQUENCES: [&[&str]; 9] = [
 fn compares_sequences(rt: HostRuntime) {
     for (place, left) in SEQUENCES.iter().enumerate() {
         for (other, right) in SEQUENCES.iter().enumerate() {
-            let wanted = place.cmp(&other);
-            assert_eq!(rt; compare(left, right), wanted, "{:?} and {:?}", left, right);
+            let expected = place.cmp(&other);
+            assert_eq!(rt;
+                compare(left, right),
+                expected,
+                "{:?} and {:?}",
+                left,
+                right
+            );
         }
     }
 }

@@ -1,5 +1,5 @@
-//! Tests of the search through its crate's public items: worked rows, marks, and small specifications against two
-//! oracles.
+//! Tests of the search through its crate's public items: tables of listings, marks, and small specifications
+//! against two oracles.
 //!
 //! They are a crate of their own, because a crate with tests inside is proved twice.
 #![tactic(auto)]

@@ -20,7 +20,7 @@ const MOST_ITEMS: usize = 10_000;
 
 /// What is searched for.
 #[derive(Clone, Copy)]
-pub struct Asked<'a> {
+pub struct Question<'a> {
     /// The functionality and the behaviour of a specification with the gates `a`, `a1`, `b` and `c`, and what follows
     /// them.
     pub behaviour: &'a str,
@@ -61,23 +61,23 @@ pub fn table_of(alloc: Global, behaviour: &str) -> Result<Table, Fail> {
     Ok(table)
 }
 
-pub fn begin(alloc: Global, asked: Asked) -> Result<Search, Fail> {
-    if asked.terms == 0 {
+pub fn begin(alloc: Global, question: Question) -> Result<Search, Fail> {
+    if question.terms == 0 {
         return Err("a bound of no terms")?;
     }
-    let table = table_of(alloc, asked.behaviour)?;
-    let pattern = Pattern::read(alloc, asked.words, asked.strong)?;
-    let mark = match asked.mark {
-        Some(line) => Some(Mark::read(alloc, line, asked.strong)?),
+    let table = table_of(alloc, question.behaviour)?;
+    let pattern = Pattern::read(alloc, question.words, question.strong)?;
+    let mark = match question.mark {
+        Some(line) => Some(Mark::read(alloc, line, question.strong)?),
         None => None,
     };
-    let search = Search::begin(alloc, table, pattern, asked.depth, mark, asked.terms)?;
+    let search = Search::begin(alloc, table, pattern, question.depth, mark, question.terms)?;
     Ok(search)
 }
 
 /// What the search returns, from its first item to its end.
-pub fn run(alloc: Global, asked: Asked) -> Result<Listing, Fail> {
-    let mut search = begin(alloc, asked)?;
+pub fn run(alloc: Global, question: Question) -> Result<Listing, Fail> {
+    let mut search = begin(alloc, question)?;
     let mut items = Vec::new(alloc);
     for _ in 0..MOST_ITEMS {
         match advance(alloc, &mut search)? {
@@ -112,7 +112,8 @@ fn advance(alloc: Global, search: &mut Search) -> Result<Step, Fail> {
 
 /// The texts of labels of a search.
 fn texts(alloc: Global, search: &Search, labels: &[Label]) -> Result<Vec<&'static str>, Fail>
-    requires known { (k : TermLabel) → In k labels.now → (text : Text) × IsPrintedAs search.now.question.names k text }
+    requires known { (k : TermLabel) → In k labels.now → (text : Text) ×
+        IsPrintedAs search.now.question.names k text }
 {
     let mut texts = Vec::new(alloc);
     for label in labels {

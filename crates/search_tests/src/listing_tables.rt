@@ -1,5 +1,5 @@
-//! Worked rows: what searches return, worked out by hand.
-use super::listing_run::{Asked, run, text_of};
+//! Tables of listings that were worked out by hand.
+use super::listing_run::{Question, run, text_of};
 use std::alloc::Global;
 use std::process::Abort;
 use std::test::Fail;
@@ -7,7 +7,8 @@ use std::test::Fail;
 /// More terms than any prefix here reaches.
 const ALL: usize = 1000;
 
-/// A row: depth, words, and the listing: the items, each with its run if that is not the sequence, and how it ends.
+/// The depth, the words of the pattern, and the listing: its items, each with its run if that is not the sequence, and
+/// how it ends.
 type Plain = (u8, &'static [&'static str], &'static str);
 
 const ACTIONS: &[(&str, &[Plain])] = &[
@@ -126,7 +127,7 @@ const REPETITION: &[(&str, &[Plain])] = &[(
     ],
 )];
 
-const SHOWN: &[(&str, &[Plain])] = &[
+const OBSERVED: &[(&str, &[Plain])] = &[
     (
         "noexit behaviour i; i; a; stop",
         &[
@@ -145,7 +146,7 @@ const SHOWN: &[(&str, &[Plain])] = &[
     ),
 ];
 
-/// Compares listings without a mark and a bound.
+/// Compares listings of all items, with a bound that no prefix exceeds.
 fn expect(
     rt: &impl Abort,
     alloc: Global,
@@ -153,8 +154,8 @@ fn expect(
     strong: bool,
 ) -> Result<(), Fail> {
     for (behaviour, searches) in rows {
-        for (depth, words, wanted) in *searches {
-            let asked = Asked {
+        for (depth, words, expected) in *searches {
+            let question = Question {
                 behaviour,
                 words,
                 strong,
@@ -162,10 +163,10 @@ fn expect(
                 mark: None,
                 terms: ALL,
             };
-            let found = text_of(alloc, &run(alloc, asked)?)?;
+            let found = text_of(alloc, &run(alloc, question)?)?;
             assert_eq!(rt;
                 found.as_str(),
-                *wanted,
+                *expected,
                 "{}: {:?} in {} steps",
                 behaviour,
                 words,
@@ -187,7 +188,7 @@ fn lists_sequences(rt: HostRuntime) -> Result<(), Fail> {
 
 #[test]
 fn lists_internal_steps(rt: HostRuntime) -> Result<(), Fail> {
-    expect(&rt, rt.alloc(), SHOWN, true)
+    expect(&rt, rt.alloc(), OBSERVED, true)
 }
 
 /// Marks before, between, at and after the items `B`, `A B` and `A exit`, and what comes after them.
@@ -206,8 +207,8 @@ const MARKS: &[(&str, &str)] = &[
 
 #[test]
 fn goes_on_behind_marks(rt: HostRuntime) -> Result<(), Fail> {
-    for (mark, wanted) in MARKS {
-        let asked = Asked {
+    for (mark, expected) in MARKS {
+        let question = Question {
             behaviour: "exit behaviour a; exit [> b; stop",
             words: &["<until>", "<deadlock>"],
             strong: false,
@@ -215,14 +216,14 @@ fn goes_on_behind_marks(rt: HostRuntime) -> Result<(), Fail> {
             mark: Some(*mark),
             terms: ALL,
         };
-        let found = text_of(rt.alloc(), &run(rt.alloc(), asked)?)?;
-        assert_eq!(rt; found.as_str(), *wanted, "behind {}", mark);
+        let found = text_of(rt.alloc(), &run(rt.alloc(), question)?)?;
+        assert_eq!(rt; found.as_str(), *expected, "behind {}", mark);
     }
     Ok(())
 }
 
 /// Whether internal steps are observed, a mark, and what comes after it.
-const WORD_MARKS: &[(bool, &str, &str)] = &[
+const RUN_MARKS: &[(bool, &str, &str)] = &[
     (false, "A : i A", "A B; end"),
     (false, "A", "A B; end"),
     (true, "A B", "i A; end"),
@@ -232,8 +233,8 @@ const WORD_MARKS: &[(bool, &str, &str)] = &[
 
 #[test]
 fn goes_on_behind_words(rt: HostRuntime) -> Result<(), Fail> {
-    for (strong, mark, wanted) in WORD_MARKS {
-        let asked = Asked {
+    for (strong, mark, expected) in RUN_MARKS {
+        let question = Question {
             behaviour: "noexit behaviour i; a; stop [] a; b; stop",
             words: &["<until>", "<deadlock>"],
             strong: *strong,
@@ -241,8 +242,8 @@ fn goes_on_behind_words(rt: HostRuntime) -> Result<(), Fail> {
             mark: Some(*mark),
             terms: ALL,
         };
-        let found = text_of(rt.alloc(), &run(rt.alloc(), asked)?)?;
-        assert_eq!(rt; found.as_str(), *wanted, "behind {}", mark);
+        let found = text_of(rt.alloc(), &run(rt.alloc(), question)?)?;
+        assert_eq!(rt; found.as_str(), *expected, "behind {}", mark);
     }
     Ok(())
 }
@@ -271,8 +272,8 @@ const BOUNDS: &[(&str, u8, &[&str], Option<&str>, usize, &str)] = &[
 
 #[test]
 fn stops_at_prefixes_that_are_over(rt: HostRuntime) -> Result<(), Fail> {
-    for (behaviour, depth, words, mark, terms, wanted) in BOUNDS {
-        let asked = Asked {
+    for (behaviour, depth, words, mark, terms, expected) in BOUNDS {
+        let question = Question {
             behaviour,
             words,
             strong: false,
@@ -280,10 +281,10 @@ fn stops_at_prefixes_that_are_over(rt: HostRuntime) -> Result<(), Fail> {
             mark: *mark,
             terms: *terms,
         };
-        let found = text_of(rt.alloc(), &run(rt.alloc(), asked)?)?;
+        let found = text_of(rt.alloc(), &run(rt.alloc(), question)?)?;
         assert_eq!(rt;
             found.as_str(),
-            *wanted,
+            *expected,
             "{}: at most {} terms",
             behaviour,
             terms
@@ -295,7 +296,7 @@ fn stops_at_prefixes_that_are_over(rt: HostRuntime) -> Result<(), Fail> {
 /// A set that is not closed under internal steps has one term.
 #[test]
 fn counts_terms_with_internal_steps_shown(rt: HostRuntime) -> Result<(), Fail> {
-    let asked = Asked {
+    let question = Question {
         behaviour: HIDDEN,
         words: &["i", "A"],
         strong: true,
@@ -303,7 +304,7 @@ fn counts_terms_with_internal_steps_shown(rt: HostRuntime) -> Result<(), Fail> {
         mark: None,
         terms: 1,
     };
-    let found = text_of(rt.alloc(), &run(rt.alloc(), asked)?)?;
+    let found = text_of(rt.alloc(), &run(rt.alloc(), question)?)?;
     assert_eq!(rt; found.as_str(), "i A; end");
     Ok(())
 }

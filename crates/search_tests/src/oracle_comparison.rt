@@ -1,8 +1,8 @@
 //! Searches of small specifications against the two oracles.
 use super::derivation_oracle::{Derivation, derivations, listing_by_derivations};
 use super::graph::Graph;
-use super::length_oracle::{Question, add_count, listing_by_length};
-use super::listing_run::{Asked, Listing, add_ending, run, spell, text_from, text_of};
+use super::length_oracle::{GraphQuestion, add_count, listing_by_length};
+use super::listing_run::{Listing, Question, add_ending, run, spell, text_from, text_of};
 use super::samples::{
     CALLS, CHOICES, FIRST_PATTERNS, HIDING, INTERLEAVING, OPERATORS, PREFIXES, RECURSIONS,
     SECOND_PATTERNS, SYNCHRONIZATION, THIRD_PATTERNS, Words,
@@ -118,7 +118,7 @@ fn compare_depths(
     words: Words,
     strong: bool,
 ) -> Result<(), Fail> {
-    let whole = Asked {
+    let whole = Question {
         behaviour: sample.behaviour,
         words,
         strong,
@@ -127,12 +127,12 @@ fn compare_depths(
         terms: ALL,
     };
     for depth in 0..sample.depth {
-        let _ = compare_run(rt, alloc, sample, Asked { depth, ..whole })?;
+        let _ = compare_run(rt, alloc, sample, Question { depth, ..whole })?;
     }
     for terms in BOUNDS {
-        let asked = Asked { terms, ..whole };
-        let listing = compare_run(rt, alloc, sample, asked)?;
-        compare_behind_mark(rt, alloc, asked, &listing)?;
+        let question = Question { terms, ..whole };
+        let listing = compare_run(rt, alloc, sample, question)?;
+        compare_behind_mark(rt, alloc, question, &listing)?;
     }
     Ok(())
 }
@@ -142,33 +142,33 @@ fn compare_run(
     rt: &impl Abort,
     alloc: Global,
     sample: &Sample,
-    asked: Asked,
+    question: Question,
 ) -> Result<Listing, Fail> {
-    let pattern = Pattern::read(alloc, asked.words, asked.strong)?;
-    let question = Question {
+    let pattern = Pattern::read(alloc, question.words, question.strong)?;
+    let graph_question = GraphQuestion {
         graph: &sample.graph,
         pattern: &pattern,
-        depth: asked.depth,
-        terms: asked.terms,
+        depth: question.depth,
+        terms: question.terms,
     };
-    let listing = run(alloc, asked)?;
+    let listing = run(alloc, question)?;
     let found = counted(alloc, &listing)?;
-    let wanted = listing_by_length(alloc, question)?;
+    let expected = listing_by_length(alloc, graph_question)?;
     assert_eq!(rt;
         found.as_str(),
-        wanted.as_str(),
+        expected.as_str(),
         "{}: {:?}",
-        asked.behaviour,
-        asked.words
+        question.behaviour,
+        question.words
     );
     let found = text_of(alloc, &listing)?;
-    let wanted = listing_by_derivations(alloc, question, sample.derivations.as_slice())?;
+    let expected = listing_by_derivations(alloc, graph_question, sample.derivations.as_slice())?;
     assert_eq!(rt;
         found.as_str(),
-        wanted.as_str(),
+        expected.as_str(),
         "{}: {:?}",
-        asked.behaviour,
-        asked.words
+        question.behaviour,
+        question.words
     );
     Ok(listing)
 }
@@ -177,25 +177,25 @@ fn compare_run(
 fn compare_behind_mark(
     rt: &impl Abort,
     alloc: Global,
-    asked: Asked,
+    question: Question,
     listing: &Listing,
 ) -> Result<(), Fail> {
     let middle = listing.items.len() / 2;
     if let Some(item) = listing.items.get(middle) {
         let mut line = String::new(alloc);
         spell(&mut line, item.sequence.as_slice())?;
-        let again = Asked {
+        let again = Question {
             mark: Some(line.as_str()),
-            ..asked
+            ..question
         };
         let found = text_of(alloc, &run(alloc, again)?)?;
-        let wanted = text_from(alloc, listing, middle + 1)?;
+        let expected = text_from(alloc, listing, middle + 1)?;
         assert_eq!(rt;
             found.as_str(),
-            wanted.as_str(),
+            expected.as_str(),
             "{}: {:?} behind {}",
-            asked.behaviour,
-            asked.words,
+            question.behaviour,
+            question.words,
             line
         );
     }

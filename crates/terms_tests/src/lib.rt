@@ -7,29 +7,19 @@
 #[cfg(test)]
 mod accepted_text;
 #[cfg(test)]
-mod bisimulation;
-#[cfg(test)]
 mod explored_table;
 #[cfg(test)]
 mod gate_names;
 #[cfg(test)]
 mod graph;
 #[cfg(test)]
-mod inference_rules;
-#[cfg(test)]
 mod large_terms;
 #[cfg(test)]
 mod operator_tests;
 #[cfg(test)]
+mod oracle;
+#[cfg(test)]
 mod oracle_comparison;
-#[cfg(test)]
-mod oracle_error;
-#[cfg(test)]
-mod oracle_system;
-#[cfg(test)]
-mod oracle_terms;
-#[cfg(test)]
-mod rule_oracle;
 #[cfg(test)]
 mod step_tests;
 #[cfg(test)]

@@ -1,5 +1,5 @@
 //! Texts that spell a specification, and what they spell.
-use super::table_texts::{FRONT, write_definition, write_tree};
+use super::table_texts::{FRONT, write_behaviour, write_definition};
 use lotos_text::{Functionality, parse};
 use std::test::Fail;
 
@@ -37,7 +37,7 @@ fn reads_every_field(rt: HostRuntime) -> Result<(), Fail> {
     assert_eq!(rt; whole.inner.len(), 0, "no definitions");
 
     let mut body = String::new(rt.alloc());
-    write_tree(rt.alloc(), &mut body, &whole.body)?;
+    write_behaviour(rt.alloc(), &mut body, &whole.body)?;
     assert_eq!(rt;
         body.as_str(),
         "(A@39; (B@42; exit))",
@@ -229,12 +229,12 @@ fn reads_behaviour_expressions(rt: HostRuntime) -> Result<(), Fail> {
             "(A@35; stop)",
         ),
     ];
-    for (words, expression, wanted) in rows {
+    for (words, expression, expected) in rows {
         let text = format!(in rt.alloc(); "{FRONT}{expression} endspec")?;
         let whole = parse(rt.alloc(), text.as_bytes())?.whole;
         let mut body = String::new(rt.alloc());
-        write_tree(rt.alloc(), &mut body, &whole.body)?;
-        assert_eq!(rt; body.as_str(), wanted, "{}", words);
+        write_behaviour(rt.alloc(), &mut body, &whole.body)?;
+        assert_eq!(rt; body.as_str(), expected, "{}", words);
     }
     Ok(())
 }
@@ -268,11 +268,11 @@ fn reads_definitions(rt: HostRuntime) -> Result<(), Fail> {
             "S@17 noexit := stop {P@59 noexit := stop}",
         ),
     ];
-    for (words, text, wanted) in rows {
+    for (words, text, expected) in rows {
         let whole = parse(rt.alloc(), text.as_bytes())?.whole;
         let mut found = String::new(rt.alloc());
         write_definition(rt.alloc(), &mut found, &whole)?;
-        assert_eq!(rt; found.as_str(), wanted, "{}", words);
+        assert_eq!(rt; found.as_str(), expected, "{}", words);
     }
     Ok(())
 }

@@ -23,14 +23,14 @@ fn orders_names_as_their_texts(rt: HostRuntime) -> Result<(), Fail> {
         ("a1", "az", Ordering::Less),
         ("az", "a_", Ordering::Less),
     ];
-    for (left, right, wanted) in &rows {
+    for (left, right, expected) in &rows {
         let row = *left;
         let left = name_of(rt.alloc(), left)?;
         let right = name_of(rt.alloc(), right)?;
-        assert_eq!(rt; left.cmp(&right), *wanted, "the order of {}", row);
+        assert_eq!(rt; left.cmp(&right), *expected, "the order of {}", row);
         assert_eq!(rt;
             left == right,
-            *wanted == Ordering::Equal,
+            *expected == Ordering::Equal,
             "equality of {}",
             row
         );

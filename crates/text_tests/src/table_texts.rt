@@ -34,7 +34,7 @@ pub fn write_definition(
         Functionality::Exit => " exit := ",
         Functionality::NoExit => " noexit := ",
     })?;
-    write_tree(alloc, out, &of.body)?;
+    write_behaviour(alloc, out, &of.body)?;
     for inner in &of.inner {
         out.push_str(" {")?;
         write_definition(alloc, out, inner)?;
@@ -44,7 +44,11 @@ pub fn write_definition(
 }
 
 /// Writes a behaviour expression with every parenthesis, and with the offsets of its names.
-pub fn write_tree(alloc: Global, out: &mut String, tree: &Behaviour) -> Result<(), AllocError> {
+pub fn write_behaviour(
+    alloc: Global,
+    out: &mut String,
+    tree: &Behaviour,
+) -> Result<(), AllocError> {
     match tree {
         Behaviour::Stop => out.push_str("stop")?,
         Behaviour::Exit => out.push_str("exit")?,
@@ -52,44 +56,44 @@ pub fn write_tree(alloc: Global, out: &mut String, tree: &Behaviour) -> Result<(
             out.push_str("(")?;
             write_action(alloc, out, action)?;
             out.push_str("; ")?;
-            write_tree(alloc, out, body)?;
+            write_behaviour(alloc, out, body)?;
             out.push_str(")")?;
         }
         Behaviour::Choice { left, right } => {
             out.push_str("(")?;
-            write_tree(alloc, out, left)?;
+            write_behaviour(alloc, out, left)?;
             out.push_str(" [] ")?;
-            write_tree(alloc, out, right)?;
+            write_behaviour(alloc, out, right)?;
             out.push_str(")")?;
         }
         Behaviour::Par { left, sync, right } => {
             out.push_str("(")?;
-            write_tree(alloc, out, left)?;
+            write_behaviour(alloc, out, left)?;
             write_sync(alloc, out, sync)?;
-            write_tree(alloc, out, right)?;
+            write_behaviour(alloc, out, right)?;
             out.push_str(")")?;
         }
         Behaviour::Hide { gates, body } => {
             out.push_str("(hide ")?;
             write_names(alloc, out, gates.as_slice())?;
             out.push_str(" in ")?;
-            write_tree(alloc, out, body)?;
+            write_behaviour(alloc, out, body)?;
             out.push_str(")")?;
         }
         Behaviour::Enable { left, at, right } => {
             out.push_str("(")?;
-            write_tree(alloc, out, left)?;
+            write_behaviour(alloc, out, left)?;
             out.push_str(" >>@")?;
             out.push_str(at.to_string(alloc)?.as_str())?;
             out.push_str(" ")?;
-            write_tree(alloc, out, right)?;
+            write_behaviour(alloc, out, right)?;
             out.push_str(")")?;
         }
         Behaviour::Disable { left, right } => {
             out.push_str("(")?;
-            write_tree(alloc, out, left)?;
+            write_behaviour(alloc, out, left)?;
             out.push_str(" [> ")?;
-            write_tree(alloc, out, right)?;
+            write_behaviour(alloc, out, right)?;
             out.push_str(")")?;
         }
         Behaviour::Call { name, gates } => {

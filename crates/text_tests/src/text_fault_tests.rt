@@ -416,7 +416,7 @@ fn refuses_headers(rt: HostRuntime) {
 fn refuses_each_beginning(rt: HostRuntime) {
     let text = b"specification S [a,b] : exit behaviour a; b; exit endspec";
     for end in 0..text.len() {
-        let wanted = match end {
+        let expected = match end {
             1..=12 => (4, 0),
             25..=27 => (4, 24),
             30..=37 => (4, 29),
@@ -425,7 +425,7 @@ fn refuses_each_beginning(rt: HostRuntime) {
         };
         assert_eq!(rt;
             fault_of(parse(rt.alloc(), &text[..end])),
-            wanted,
+            expected,
             "the first {} bytes",
             end
         );

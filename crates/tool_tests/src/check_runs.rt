@@ -8,7 +8,7 @@ const SEARCH: &[&str] = &["lotosseq", "search", "--depth", "1", "A"];
 
 const ACCEPTED: &[(&str, &[u8], &[u8])] = &[
     (
-        "inner processes behind their own, one with a name of an outer one",
+        "inner processes after their own, one with a name of an outer one",
         b"specification S [a] : noexit behaviour P[a] where process P [x] : noexit := Q[x] where process Q [y] : noexit := y; P[y] endproc endproc process Q [x,y] : noexit := x; y; stop endproc endspec",
         b"P 1 noexit\nQ 1 noexit\nQ 2 noexit\n",
     ),
@@ -156,17 +156,17 @@ const REFUSED: &[(&str, &[u8], &[u8])] = &[
         b"lotosseq: 1:40: E22 process Q is not declared\n",
     ),
     (
-        "a repeated gate behind an unknown one",
+        "a repeated gate after an unknown one",
         b"specification S [a] : noexit behaviour b; stop where process P [x,x] : noexit := stop endproc endspec",
         b"lotosseq: 1:67: E20 gate X is declared twice\n",
     ),
     (
-        "a wrong number of gates behind a wrong functionality",
+        "a wrong number of gates after a wrong functionality",
         b"specification S [a] : exit behaviour a; stop where process P [x] : noexit := P endproc endspec",
         b"lotosseq: 1:78: E23 gates of P: 1 formal, 0 actual\n",
     ),
     (
-        "a wrong functionality behind unguarded recursion",
+        "a wrong functionality after unguarded recursion",
         b"specification S : noexit behaviour stop where process P : noexit := P endproc process Q : noexit := exit endproc endspec",
         b"lotosseq: 1:87: E25 Q is declared noexit and is exit\n",
     ),

@@ -108,7 +108,7 @@ const ROWS: &[Row] = &[
         status: 0,
     },
     Row {
-        name: "the empty sequence behind an internal step",
+        name: "the empty sequence after an internal step",
         text: b"specification S [a] : noexit behaviour i; stop [] i; a; stop endspec",
         words: &["lotosseq", "ever", "--explain", "<deadlock>"],
         output: b"<empty> : i\n",
@@ -124,7 +124,7 @@ const ROWS: &[Row] = &[
         status: 0,
     },
     Row {
-        name: "a deadlock behind a step",
+        name: "a deadlock after a step",
         text: b"specification S [a,b] : noexit behaviour a; stop |[a]| a; b; stop endspec",
         words: &["lotosseq", "ever", "A", "<deadlock>"],
         output: b"",
@@ -161,6 +161,16 @@ const ROWS: &[Row] = &[
         words: &["lotosseq", "ever", "a", "<while>", "Ab"],
         output: b"",
         message: b"lotosseq: E49 word 3 is no gate of the specification\n",
+        status: 2,
+    },
+    Row {
+        name: "the first of two words that are no gate",
+        text: b"specification S [a] : noexit behaviour a; stop endspec",
+        words: &[
+            "lotosseq", "ever", "--states", "9", "<until>", "Y", "a", "X",
+        ],
+        output: b"",
+        message: b"lotosseq: E49 word 2 is no gate of the specification\n",
         status: 2,
     },
     Row {
@@ -212,7 +222,8 @@ fn answers(rt: HostRuntime) {
         let out = ArrayWriter::new(1);
         let err = ArrayWriter::new(5);
         let (status, _reader, out, err) = run_on(rt.alloc(), row.words, reader, out, err);
-        let flushes = if row.output.is_empty() { 0usize } else { 1 };
+        // One at the end of an answer, with or without a line; none after a refusal or a stop.
+        let flushes = if row.status <= 1 { 1usize } else { 0 };
         assert_eq!(rt; out.got(), row.output, "{}", row.name);
         assert_eq!(rt; err.got(), row.message, "{}", row.name);
         assert_eq!(rt; status, row.status, "{}", row.name);
@@ -229,6 +240,10 @@ const PATTERNS: &[(&[&str], &[u8])] = &[
     (
         &["lotosseq", "ever", "A", "<while>"],
         b"lotosseq: E48 word 2 needs a label or <any> after it\n",
+    ),
+    (
+        &["lotosseq", "ever", "no_gate", "<until>"],
+        b"lotosseq: E42 word 2 needs a label or <deadlock> after it\n",
     ),
     (
         &["lotosseq", "ever", "<foo>"],
@@ -289,6 +304,23 @@ fn a_flush_that_fails_is_a_failed_write(rt: HostRuntime) {
     let err = ArrayWriter::new(4096);
     let (status, _reader, out, err) = run_on(rt.alloc(), WORDS, reader, out, err);
     assert_eq!(rt; out.got(), LINE);
+    assert_eq!(rt;
+        err.got(),
+        b"lotosseq: output cannot be written\n".as_slice()
+    );
+    assert_eq!(rt; status, 6);
+    assert_eq!(rt; out.flushes, 1);
+}
+
+#[test]
+fn a_flush_that_fails_without_a_match(rt: HostRuntime) {
+    let words = ["lotosseq", "ever", "<while>", "<any>", "B", "B"];
+    let reader = SliceReader::new(BUFFER, 4096);
+    let mut out = ArrayWriter::new(4);
+    out.flush_fails = true;
+    let err = ArrayWriter::new(4096);
+    let (status, _reader, out, err) = run_on(rt.alloc(), words.as_slice(), reader, out, err);
+    assert!(rt; out.got().is_empty());
     assert_eq!(rt;
         err.got(),
         b"lotosseq: output cannot be written\n".as_slice()

@@ -25,7 +25,7 @@ const FAULTS: &[(&str, &[u8], &[u8])] = &[
         b"lotosseq: 1:15: E25 S is declared exit and is noexit\n",
     ),
     (
-        "a token too many behind a parallel expression",
+        "a token too many after a parallel expression",
         b"specification S [a] : noexit behaviour stop ||| stop stop endspec",
         b"lotosseq: 1:54: E04 token is not expected\n",
     ),
@@ -55,7 +55,7 @@ const FAULTS: &[(&str, &[u8], &[u8])] = &[
         b"lotosseq: 1:1: E07 word of full LOTOS\n",
     ),
     (
-        "a data type behind a parallel expression",
+        "a data type after a parallel expression",
         b"specification S [a] : noexit behaviour stop ||| stop where\ntype T is endtype endspec",
         b"lotosseq: 2:1: E07 word of full LOTOS\n",
     ),

@@ -5,7 +5,7 @@ use std::alloc::AllocError;
 
 /// The lines that a run must write.
 #[derive(Clone, Copy, Debug)]
-pub enum Awaited {
+pub enum Expected {
     /// All sequences of twelve labels `A` or `B`, ascending.
     TwoGates,
     /// A sequence of 255 labels `A`.
@@ -14,13 +14,13 @@ pub enum Awaited {
     LongName,
 }
 
-impl Awaited {
+impl Expected {
     /// The byte at an index of the line with this number, counted from 0.
     pub fn byte(self, line: usize, place: usize) -> u8 {
         match self {
-            Awaited::TwoGates => two_gates(line, place),
-            Awaited::OneGate => one_gate(place),
-            Awaited::LongName => long_name(place),
+            Expected::TwoGates => two_gates(line, place),
+            Expected::OneGate => one_gate(place),
+            Expected::LongName => long_name(place),
         }
     }
 }
@@ -53,7 +53,7 @@ fn all_lines_of_twelve_labels(rt: HostRuntime) {
         "<any>", "<any>", "<any>", "<any>", "<any>", "<any>", "<any>",
     ];
     let reader = SliceReader::new(text, 4096);
-    let out = Comparer::new(Awaited::TwoGates, 24);
+    let out = Comparer::new(Expected::TwoGates, 24);
     let err = ArrayWriter::new(4096);
     let (status, _reader, out, err) = run_on(rt.alloc(), words, reader, out, err);
     assert!(rt; err.got().is_empty());
@@ -85,7 +85,7 @@ fn a_line_of_255_labels(rt: HostRuntime) -> Result<(), AllocError> {
         words.push("A")?;
     }
     let reader = SliceReader::new(text, 4096);
-    let out = Comparer::new(Awaited::OneGate, 510);
+    let out = Comparer::new(Expected::OneGate, 510);
     let err = ArrayWriter::new(4096);
     let (status, _reader, out, err) = run_on(rt.alloc(), words.as_slice(), reader, out, err);
     assert!(rt; err.got().is_empty());
@@ -117,7 +117,7 @@ fn a_line_that_is_longer_than_a_page(rt: HostRuntime) -> Result<(), AllocError> 
     text.extend_from_slice(b"; stop endspec")?;
     let words: &[&str] = &["lotosseq", "search", "--depth", "1", "<any>"];
     let reader = SliceReader::new(text.as_slice(), 4096);
-    let out = Comparer::new(Awaited::LongName, LONG + 1);
+    let out = Comparer::new(Expected::LongName, LONG + 1);
     let err = ArrayWriter::new(4096);
     let (status, _reader, out, err) = run_on(alloc, words, reader, out, err);
     assert!(rt; err.got().is_empty());

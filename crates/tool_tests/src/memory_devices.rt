@@ -1,7 +1,7 @@
 //! Readers and writers in memory that move a few bytes per call, count their calls, and fail on demand.
 ghost use Rattle.std.specs.Prelude.{◌≡◌, ◌≤◌, Some, take};
 
-use super::large_runs::Awaited;
+use super::large_runs::Expected;
 use lotos_device::{FromRead, FromWrite};
 use lotos_tool::run;
 use std::alloc::Global;
@@ -147,7 +147,7 @@ impl Write for ArrayWriter {
 #[derive(Drop)]
 pub struct Comparer {
     /// The expected lines.
-    pub awaited: Awaited,
+    pub awaited: Expected,
     /// The length of a line in bytes, its line feed included; 0 means 1.
     pub length: usize,
     /// The number of bytes that were written so far.
@@ -160,7 +160,7 @@ pub struct Comparer {
 
 impl Comparer {
     /// A writer to which nothing was written.
-    pub fn new(awaited: Awaited, length: usize) -> Comparer {
+    pub fn new(awaited: Expected, length: usize) -> Comparer {
         Comparer {
             awaited,
             length,

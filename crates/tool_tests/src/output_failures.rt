@@ -1,4 +1,4 @@
-//! Searches whose output fails within a listing, or cannot be flushed at its end.
+//! Commands whose output fails within a listing, or cannot be flushed at its end.
 
 use super::memory_devices::{ArrayWriter, SliceReader, WhenFull, run_on};
 use std::process::Abort;
@@ -40,8 +40,8 @@ fn the_output_fails_within_each_line(rt: HostRuntime) {
     for (first, last, message) in BROKEN {
         for most in *first..=*last {
             for piece in [1usize, 4, 4096] {
-                break_off(&rt, rt.alloc(), most, piece, WhenFull::Fails, *message);
-                break_off(
+                fail_output(&rt, rt.alloc(), most, piece, WhenFull::Fails, *message);
+                fail_output(
                     &rt,
                     rt.alloc(),
                     most,
@@ -55,7 +55,7 @@ fn the_output_fails_within_each_line(rt: HostRuntime) {
 }
 
 /// Runs the search with an output that is full after `most` bytes, and expects the message.
-fn break_off(
+fn fail_output(
     rt: &impl Abort,
     alloc: std::alloc::Global,
     most: usize,
@@ -75,7 +75,7 @@ fn break_off(
     assert_eq!(rt; out.flushes, 0, "after {most}");
 }
 
-/// A search that ends with a flush; `broken` is the message if the flush fails.
+/// A command that ends with a flush; `broken` is the message if the flush fails.
 struct Row {
     name: &'static str,
     text: &'static [u8],
@@ -103,6 +103,38 @@ const FLUSHED: &[Row] = &[
         broken: b"lotosseq: stopped before the first line: output cannot be written\n",
     },
     Row {
+        name: "a listing without lines, of known words",
+        text: TEXT,
+        words: &["lotosseq", "search", "--depth", "2", "--known", "A", "A"],
+        output: b"",
+        status: 1,
+        broken: b"lotosseq: stopped before the first line: output cannot be written\n",
+    },
+    Row {
+        name: "a match of any length",
+        text: TEXT,
+        words: &["lotosseq", "ever", "B"],
+        output: b"B\n",
+        status: 0,
+        broken: b"lotosseq: output cannot be written\n",
+    },
+    Row {
+        name: "no match of any length",
+        text: TEXT,
+        words: &["lotosseq", "ever", "A", "A"],
+        output: b"",
+        status: 1,
+        broken: b"lotosseq: output cannot be written\n",
+    },
+    Row {
+        name: "a check of no process",
+        text: TEXT,
+        words: &["lotosseq", "check"],
+        output: b"",
+        status: 0,
+        broken: b"lotosseq: output cannot be written\n",
+    },
+    Row {
         name: "the limit",
         text: TEXT,
         words: &[
@@ -120,7 +152,7 @@ const FLUSHED: &[Row] = &[
         broken: b"lotosseq: stopped after B: output cannot be written\n",
     },
     Row {
-        name: "a prefix that is over",
+        name: "a prefix that is oversized",
         text: b"specification S [a,b] : noexit behaviour i; a; stop endspec",
         words: &["lotosseq", "search", "--depth", "2", "--terms", "1", "A"],
         output: b"",

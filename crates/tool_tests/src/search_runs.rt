@@ -3,6 +3,7 @@
 mod bounds;
 mod deadlocks_and_elements;
 mod enabling_and_parallel;
+mod known_gates;
 mod limits;
 mod marks;
 mod operator_rows;

@@ -13,7 +13,7 @@ use Rattle.lotos_check.specs.declared.fault.CheckFault.{CheckFault}
 use Rattle.lotos_check.specs.declared.fault.CheckFault.TheVariants.{E20, E21, E22, E23, E24, E25, E26, E27, E99}
 use Rattle.uses.specs.FaultPositions.{BreaksStaticRules, IsAcceptedText, text_offset}
 
--- a text that spells nothing is not accepted
+-- a text that spells no specification is not accepted
 pub nothing_accepted : (text : List ℕ) (fault : TextFault) (at : ℕ) → SpellsNoSpecification text fault → text_offset fault ≡ Some at → IsAcceptedText text → ⊥
 nothing_accepted text (text_fault.E99 e) at h m a = absurd cc
 nothing_accepted text (text_fault.E01 _) at h m a = h a.whole a.spelled
@@ -24,7 +24,7 @@ nothing_accepted text (text_fault.E05 _) at h m a = h a.whole a.spelled
 nothing_accepted text (text_fault.E06 _) at h m a = h a.whole a.spelled
 nothing_accepted text (text_fault.E07 _) at h m a = h a.whole a.spelled
 
--- nor is one that is too long
+-- a text that is too long is not accepted
 pub too_long : (text : List ℕ) (fault : TextFault) → SpellsNoSpecification text fault → fault ≡ text_fault.E03 → IsAcceptedText text → ⊥
 too_long text fault h e a = let nothing = subst (SpellsNoSpecification text) e h in nothing a.whole a.spelled
 
@@ -39,6 +39,7 @@ text_inside n (text_fault.E05 k) at h m = let same : k ≡ at = cc in subst (λ 
 text_inside n (text_fault.E06 k) at h m = let same : k ≡ at = cc in subst (λ x. x ≤ n) same h
 text_inside n (text_fault.E07 k) at h m = let same : k ≡ at = cc in subst (λ x. x ≤ n) same h
 
+-- a specification with a fault of the static check is not accepted
 refused : (whole : DefinitionView) (fault : CheckFault) (at : ℕ) (system : System) → IsNotAccepted whole fault → offset_of fault ≡ Some at → IsAccepted whole system → ⊥
 refused whole (E99 e) at system h s accepted = absurd cc
 refused whole (E20 gate) at system h s accepted = h system accepted

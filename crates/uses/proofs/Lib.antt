@@ -1,4 +1,4 @@
-pub mod FaultPositions
+pub mod PatternPlaces
 pub mod Faults
 pub mod Searches
 pub mod Runs

@@ -18,22 +18,22 @@ none_in : {A : Type 0} (xs : List A) → None ≡ slice_get xs 0 → (x : A) →
 none_in [] e x h = h
 none_in (y ∷ xs) e x h = absurd cc
 
--- the first of the successors is a step
+-- the first item that `successors` returns is a step of the term
 pub first_is_step : (old new : TableView) → Grows old new → (n : ℕ) → n < length old.terms → (xs : List (Label × ℕ)) → AreSuccessors new n xs →
     (s : Label × ℕ) → Some s ≡ slice_get xs 0 → IsStep new n s
 first_is_step old new grows n lt xs answers s e =
     let stands = grows.terms n _ (slice_get-get_or old.terms n stop lt) in
     let a = answers.only _ stands s.0 s.1 (first_in xs s e) in
-    record { label = a.0; from = _; to = a.1.0; stands = stands; leads = a.1.1; derived = a.1.2 }
+    record { label = a.0; from = _; to = a.1.0; located = stands; leads = a.1.1; derived = a.1.2 }
 
--- a term without successors has no step
+-- if `successors` returns no item, the term is a deadlock
 pub none_is_dead : (old new : TableView) → Grows old new → (n : ℕ) → n < length old.terms → (xs : List (Label × ℕ)) → AreSuccessors new n xs →
     None ≡ slice_get xs 0 → IsDeadlock new n
 none_is_dead old new grows n lt xs answers e =
     let stands = grows.terms n _ (slice_get-get_or old.terms n stop lt) in
-    record { term = _; stands = stands; none = λ k t step. let a = answers.all _ stands k t step in none_in xs e (k, a.0) a.2 }
+    record { term = _; located = stands; none = λ k t step. let a = answers.all _ stands k t step in none_in xs e (k, a.0) a.2 }
 
--- a step leads to a number of the table
+-- a step leads to the number of a term of the table
 pub leads_below : (held : TableView) (n : ℕ) (s : Label × ℕ) → IsStep held n s → s.1 < length held.terms
 leads_below held n s step = slice_get_within held.terms s.1 step.to step.leads
 
@@ -47,7 +47,7 @@ step_grows old new grows n s step = record {
   label = label_grows old new grows s.0 step.label;
   from = step.from;
   to = step.to;
-  stands = grows.terms n step.from step.stands;
+  located = grows.terms n step.from step.located;
   leads = grows.terms s.1 step.to step.leads;
   derived = subst (λ p. Step p step.from s.0 step.to) (sym grows.processes) step.derived;
 }
@@ -56,11 +56,11 @@ run_same : (old new : TableView) → Grows old new → (n : ℕ) (steps : List (
 run_same old new grows n [] m e = e
 run_same old new grows n (s ∷ steps) m r = (step_grows old new grows n s r.0, run_same old new grows s.1 steps m r.1)
 
--- a run from the start stays one where the table grows
+-- a run from the start is also one in a table that has grown
 pub run_grows : (old new : TableView) → Grows old new → (steps : List (Label × ℕ)) (m : ℕ) → RunTo old old.start steps m → RunTo new new.start steps m
 run_grows old new grows steps m r = subst (λ n. RunTo new n steps m) (sym grows.start) (run_same old new grows old.start steps m r)
 
--- one step more at its end
+-- a run with one more step at its end is a run
 pub run_push : (held : TableView) (n : ℕ) (steps : List (Label × ℕ)) (m : ℕ) (s : Label × ℕ) → RunTo held n steps m → IsStep held m s →
     RunTo held n (steps ++ s ∷ []) s.1
 run_push held n [] m s e step = (subst (λ k. IsStep held k s) (sym e) step, refl)

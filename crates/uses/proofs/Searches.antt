@@ -23,7 +23,7 @@ module _ (table : TableView) (pattern : Pattern) (depth terms : ℕ) where
     terms_is = b.terms_is;
   }
 
-  -- the first call
+  -- what the first call returns, if the search was begun with this mark
   first_says : (mark : Option (List Label)) (old new : SearchState) (r : Result (Option Found) Halt) → IsBegun table pattern depth mark terms old →
       new.question ≡ old.question → NextReturns old r new → RunningReturns new.question mark r new.cursor new.stage
   first_says mark old new r b same says =
@@ -52,13 +52,13 @@ module _ (table : TableView) (pattern : Pattern) (depth terms : ℕ) where
         question = new.question;
         search = first_in mark old new b same;
         prefix = a.0.0;
-        shown = a.0.1;
-        over = a.0.2;
+        printed = a.0.1;
+        oversized = a.0.2;
       }
       go Memory a = tt
       go Failed a = a
 
-  -- the second call, behind a first item
+  -- what the second call returns, after an item with the sequence `s`
   second_says : (old new : SearchState) (item : Found) (r : Result (Option Found) Halt) (s : List Label) → old.cursor ≡ Some s → old.stage ≡ running →
       new.question ≡ old.question → NextReturns old r new → RunningReturns new.question (Some s) r new.cursor new.stage
   second_says old new item r s moved goes same says =
@@ -100,13 +100,13 @@ module _ (table : TableView) (pattern : Pattern) (depth terms : ℕ) where
       go Memory a = tt
       go Failed a = a
 
-  -- a first call that stopped
+  -- a first call that halts is a halt before the second item
   pub within_first : (halt : Halt) → IsHaltOf table pattern depth terms None halt → IsSecondHalt table pattern depth terms halt
-  within_first (OverTerms labels) h = (h.question, h.search, None, before, h.prefix, h.shown, h.over)
+  within_first (OverTerms labels) h = (h.question, h.search, None, before, h.prefix, h.printed, h.oversized)
   within_first Memory h = tt
   within_first Failed h = h
 
-  -- a search behind the sequence of a line that stopped
+  -- a halt of a search after the sequence of a line
   pub after_line : (line : Text) (mark : List Label) (halt : Halt) → MarkOf pattern.strong line mark → IsHaltOf table pattern depth terms (Some mark) halt →
       IsHaltAfter table pattern depth terms line halt
   after_line line mark (OverTerms labels) read h = (mark, read, h)

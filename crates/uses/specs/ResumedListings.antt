@@ -55,8 +55,8 @@ module _ (table : TableView) (pattern : Pattern) (depth terms : ℕ) where
     pub question : Question
     pub search : IsSearchIn question
     pub prefix : List Label
-    pub shown : ArePrinted question.names labels prefix
-    pub over : IsFirstOversized question cursor prefix
+    pub printed : ArePrinted question.names labels prefix
+    pub oversized : IsFirstOversized question cursor prefix
 
   -- why no item after the mark was returned; running out of memory needs no reason
   abbrev pub IsHaltOf : Option (List Label) → Halt → Type 0

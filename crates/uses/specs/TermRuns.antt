@@ -10,14 +10,14 @@ pub record IsStep (table : TableView) (here : ℕ) (step : Label × ℕ) : Type 
   pub label : IsLabel table step.0
   pub from : Term
   pub to : Term
-  pub stands : slice_get table.terms here ≡ Some from
+  pub located : slice_get table.terms here ≡ Some from
   pub leads : slice_get table.terms step.1 ≡ Some to
   pub derived : Step table.processes from step.0 to
 
 -- the term with the number `here` has no step at all
 pub record IsDeadlock (table : TableView) (here : ℕ) : Type 0 where
   pub term : Term
-  pub stands : slice_get table.terms here ≡ Some term
+  pub located : slice_get table.terms here ≡ Some term
   pub none : (k : Label) (t : Term) → Step table.processes term k t → ⊥
 
 -- a step of the term, or none if it has no step at all
@@ -36,4 +36,4 @@ pub record IsRunOf (table : TableView) (start : ℕ) (steps : List (Label × ℕ
   pub end : ℕ
   pub run : RunTo table start steps end
   pub within : length steps ≤ depth
-  pub dead : length steps < depth → IsDeadlock table end
+  pub deadlock : length steps < depth → IsDeadlock table end

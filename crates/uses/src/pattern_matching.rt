@@ -3,10 +3,10 @@ ghost use Rattle.std.specs.Prelude.{false, IfErr, IfOk, MatchOption};
 ghost use Rattle.lotos_pattern.specs.Patterns.{Viable};
 ghost use Rattle.lotos_pattern.specs.Places.{IsPlaceOf};
 ghost use Rattle.lotos_pattern.specs.Spelling.{texts_of};
-ghost use Rattle.lotos_pattern.specs.Faults.{IsCause, SpellsNone};
+ghost use Rattle.lotos_pattern.specs.PatternFaults.{IsCause, SpellsNone};
 ghost use Rattle.uses.specs.PatternMatching.{IsAnswer};
 
-use lotos_pattern::laws::one_pattern;
+use lotos_pattern::laws::pattern_is_unique;
 use lotos_pattern::{End, Pattern, PatternFault, Place};
 use std::alloc::Global;
 
@@ -14,7 +14,7 @@ use std::alloc::Global;
 /// steps are not observed, so no sequence with the label `i` is matched.
 ///
 /// [`End::IfDead`] means that the pattern matches the sequence and demands a deadlock: the sequence counts only if it
-/// ends in a term without any step, which its labels do not tell. Without such a demand the result is [`End::Yes`] or
+/// ends in a term without any step, which its labels do not show. Without such a demand the result is [`End::Yes`] or
 /// [`End::No`].
 ///
 /// # Errors
@@ -25,7 +25,7 @@ pub fn matches(alloc: Global, words: &[&str], sequence: &[&str]) -> Result<End, 
     ensures cause { IfErr result (IsCause false (texts_of words.now)) }
     ensures nothing { IfErr result (SpellsNone false (texts_of words.now)) }
 {
-    one_pattern();
+    pattern_is_unique();
     let pattern = Pattern::read(alloc, words, false)?;
     Ok(match place_of(&pattern, sequence) {
         Some(place) => pattern.accepts(place),

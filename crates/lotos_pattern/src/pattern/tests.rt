@@ -1,6 +1,6 @@
 //! Places of sequences, and whether a pattern accepts there.
 use super::Pattern;
-use crate::place::End;
+use crate::place::{End, Place};
 use std::alloc::{AllocError, Global};
 use std::test::Fail;
 
@@ -112,6 +112,26 @@ const PLACES: &[(bool, &[&str], &[&str], Option<End>)] = &[
     (true, &["<until>", "<deadlock>"], &["i"], Some(End::IfDead)),
 ];
 
+/// A pattern, labels, and the NFA states after their sequence.
+const STATES: &[(&[&str], &[&str], &[usize])] = &[
+    (&[], &[], &[0]),
+    (&["A"], &["A"], &[1]),
+    (&["<until>", "B", "A"], &["A", "A"], &[0]),
+    (&["<until>", "B", "A"], &["A", "B"], &[1]),
+    (&["<until>", "B", "A"], &["B", "A"], &[2]),
+    (&["<while>", "A", "<any>"], &[], &[0]),
+    (&["<while>", "A", "<any>"], &["A"], &[0, 2]),
+    (&["<while>", "A", "<any>"], &["A", "A"], &[0, 2]),
+    (&["<while>", "A", "<any>"], &["A", "B"], &[2]),
+    (&["<while>", "<any>", "B"], &["B"], &[0, 2]),
+    (&["<while>", "<any>", "B"], &["B", "A"], &[0]),
+    (&["<while>", "A", "<while>", "B", "A"], &["A"], &[0, 3]),
+    (&["<while>", "A", "<while>", "B", "A"], &["A", "B"], &[1]),
+    (&["<while>", "A", "<while>", "B", "A"], &["B", "A"], &[3]),
+    (&["A", "<until>", "<deadlock>"], &["A", "B"], &[1]),
+    (&["<while>", "A", "<deadlock>"], &["A"], &[0]),
+];
+
 /// An element, as the definition has it.
 enum Part {
     One(&'static str),
@@ -127,7 +147,7 @@ enum Part {
 const BOTH: &[bool] = &[false, true];
 
 /// Internal steps observed.
-const SHOWN: &[bool] = &[true];
+const OBSERVED: &[bool] = &[true];
 
 /// Small patterns: their words, their elements, and whether internal steps are observed. At most two elements need a
 /// label.
@@ -283,33 +303,33 @@ const SMALL: &[(&[&str], &[Part], &[bool])] = &[
         ],
         BOTH,
     ),
-    (&["i"], &[Part::One("i")], SHOWN),
-    (&["<until>", "i"], &[Part::Until("i")], SHOWN),
-    (&["<while>", "i"], &[Part::While("i")], SHOWN),
+    (&["i"], &[Part::One("i")], OBSERVED),
+    (&["<until>", "i"], &[Part::Until("i")], OBSERVED),
+    (&["<while>", "i"], &[Part::While("i")], OBSERVED),
     (
         &["<while>", "i", "A"],
         &[Part::While("i"), Part::One("A")],
-        SHOWN,
+        OBSERVED,
     ),
     (
         &["<any>", "<while>", "i", "i"],
         &[Part::Any, Part::While("i"), Part::One("i")],
-        SHOWN,
+        OBSERVED,
     ),
     (
         &["A", "<while>", "i", "<deadlock>"],
         &[Part::One("A"), Part::While("i"), Part::Deadlock],
-        SHOWN,
+        OBSERVED,
     ),
     (
         &["<until>", "i", "<while>", "A", "<until>", "<deadlock>"],
         &[Part::Until("i"), Part::While("A"), Part::UntilDeadlock],
-        SHOWN,
+        OBSERVED,
     ),
     (
         &["<while>", "A", "i", "<while>", "A"],
         &[Part::While("A"), Part::One("i"), Part::While("A")],
-        SHOWN,
+        OBSERVED,
     ),
 ];
 
@@ -327,12 +347,31 @@ fn finds_places(rt: HostRuntime) -> Result<(), Fail> {
         let pattern = Pattern::read(rt.alloc(), words, *strong)?;
         assert_eq!(rt; pattern.strong(), *strong);
         assert_eq!(rt;
-            end_behind(&pattern, labels),
+            end_after(&pattern, labels),
             *end,
             "{:?} at {:?}",
             words,
             labels
         );
+    }
+    Ok(())
+}
+
+/// The places have the states in the table, and no others.
+#[test]
+fn has_states(rt: HostRuntime) -> Result<(), Fail> {
+    for (words, labels, states) in STATES {
+        let pattern = Pattern::read(rt.alloc(), words, false)?;
+        for state in 0..257 {
+            assert_eq!(rt;
+                is_state_after(&pattern, labels, state),
+                states.contains(&state),
+                "state {} of {:?} at {:?}",
+                state,
+                words,
+                labels
+            );
+        }
     }
     Ok(())
 }
@@ -353,7 +392,7 @@ fn matches_as_defined(rt: HostRuntime) -> Result<(), Fail> {
                 let labels = sequence.as_slice();
                 let end = language.end_behind(rt.alloc(), labels, all.as_slice())?;
                 assert_eq!(rt;
-                    end_behind(&pattern, labels),
+                    end_after(&pattern, labels),
                     end,
                     "{:?} at {:?}, internal steps shown: {}",
                     words,
@@ -371,17 +410,17 @@ fn matches_as_defined(rt: HostRuntime) -> Result<(), Fail> {
 fn holds_the_last_position(rt: HostRuntime) -> Result<(), Fail> {
     let words = repeated(rt.alloc(), &["<while>", "A"], 256)?;
     let passed = Pattern::read(rt.alloc(), words.as_slice(), false)?;
-    assert_eq!(rt; end_behind(&passed, &[]), Some(End::Yes));
-    assert_eq!(rt; end_behind(&passed, &["A", "A"]), Some(End::Yes));
-    assert_eq!(rt; end_behind(&passed, &["A", "B"]), None);
+    assert_eq!(rt; end_after(&passed, &[]), Some(End::Yes));
+    assert_eq!(rt; end_after(&passed, &["A", "A"]), Some(End::Yes));
+    assert_eq!(rt; end_after(&passed, &["A", "B"]), None);
     let words = repeated(rt.alloc(), &["A"], 256)?;
     let matched = Pattern::read(rt.alloc(), words.as_slice(), false)?;
     let mut labels = repeated(rt.alloc(), &["A"], 255)?;
-    assert_eq!(rt; end_behind(&matched, labels.as_slice()), Some(End::No));
+    assert_eq!(rt; end_after(&matched, labels.as_slice()), Some(End::No));
     labels.push("A")?;
-    assert_eq!(rt; end_behind(&matched, labels.as_slice()), Some(End::Yes));
+    assert_eq!(rt; end_after(&matched, labels.as_slice()), Some(End::Yes));
     labels.push("A")?;
-    assert_eq!(rt; end_behind(&matched, labels.as_slice()), None);
+    assert_eq!(rt; end_after(&matched, labels.as_slice()), None);
     Ok(())
 }
 
@@ -390,28 +429,28 @@ const BEFORE: [usize; 8] = [1, 62, 63, 64, 65, 127, 128, 255];
 
 /// The last element is found after many others, whether these are done one by one or skipped.
 #[test]
-fn holds_positions_of_each_word(rt: HostRuntime) -> Result<(), Fail> {
+fn holds_states_of_each_word(rt: HostRuntime) -> Result<(), Fail> {
     for count in BEFORE {
         let mut words = repeated(rt.alloc(), &["A"], count)?;
         words.push("B")?;
         let matched = Pattern::read(rt.alloc(), words.as_slice(), false)?;
         let mut labels = repeated(rt.alloc(), &["A"], count)?;
         assert_eq!(rt;
-            end_behind(&matched, labels.as_slice()),
+            end_after(&matched, labels.as_slice()),
             Some(End::No),
             "{} done",
             count
         );
         labels.push("B")?;
         assert_eq!(rt;
-            end_behind(&matched, labels.as_slice()),
+            end_after(&matched, labels.as_slice()),
             Some(End::Yes),
             "{} done, B",
             count
         );
         labels.push("B")?;
         assert_eq!(rt;
-            end_behind(&matched, labels.as_slice()),
+            end_after(&matched, labels.as_slice()),
             None,
             "{} done, B B",
             count
@@ -420,19 +459,19 @@ fn holds_positions_of_each_word(rt: HostRuntime) -> Result<(), Fail> {
         words.push("B")?;
         let passed = Pattern::read(rt.alloc(), words.as_slice(), false)?;
         assert_eq!(rt;
-            end_behind(&passed, &["A"]),
+            end_after(&passed, &["A"]),
             Some(End::No),
             "{} passed over",
             count
         );
         assert_eq!(rt;
-            end_behind(&passed, &["A", "B"]),
+            end_after(&passed, &["A", "B"]),
             Some(End::Yes),
             "{} passed over, B",
             count
         );
         assert_eq!(rt;
-            end_behind(&passed, &["B", "A"]),
+            end_after(&passed, &["B", "A"]),
             None,
             "{} passed over, B A",
             count
@@ -455,12 +494,25 @@ fn repeated(
 }
 
 /// Whether the sequence may end at its place in the pattern; none if it has no place.
-fn end_behind(pattern: &Pattern, labels: &[&str]) -> Option<End> {
+fn end_after(pattern: &Pattern, labels: &[&str]) -> Option<End> {
+    Some(pattern.accepts(place_after(pattern, labels)?))
+}
+
+/// The place of the sequence in the pattern, if it has one.
+fn place_after(pattern: &Pattern, labels: &[&str]) -> Option<Place> {
     let mut place = pattern.begin();
     for label in labels {
         place = pattern.step(place, label)?;
     }
-    Some(pattern.accepts(place))
+    Some(place)
+}
+
+/// Whether the sequence has a place in the pattern, with this state.
+fn is_state_after(pattern: &Pattern, labels: &[&str], state: usize) -> bool {
+    match place_after(pattern, labels) {
+        Some(place) => place.first_state_from(state) == Some(state),
+        None => false,
+    }
 }
 
 /// The language of a pattern, by the definition.

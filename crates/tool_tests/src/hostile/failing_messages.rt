@@ -54,7 +54,7 @@ const ROWS: &[Row] = &[
         status: 3,
     },
     Row {
-        name: "a prefix that is over",
+        name: "a prefix that is oversized",
         text: b"specification S [a] : noexit behaviour i; a; stop endspec",
         words: &["lotosseq", "search", "--depth", "2", "--terms", "1", "A"],
         most: 99,

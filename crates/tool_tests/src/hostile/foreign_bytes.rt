@@ -67,7 +67,7 @@ fn bytes_that_are_no_ascii_begin_no_token(rt: HostRuntime) -> Result<(), AllocEr
 }
 
 /// Words with characters that are not ASCII, some of which have a case variant in ASCII, and one with a zero byte.
-const STRANGERS: &[&str] = &[
+const FOREIGN_NAMES: &[&str] = &[
     "\u{e4}",
     "A\u{e9}",
     "\u{131}",
@@ -84,25 +84,25 @@ const STRANGERS: &[&str] = &[
 
 #[test]
 fn letters_that_are_no_ascii_are_no_words_of_a_pattern(rt: HostRuntime) {
-    for stranger in STRANGERS {
+    for name in FOREIGN_NAMES {
         for words in [
-            ["lotosseq", "search", "--depth", "1", *stranger].as_slice(),
-            ["lotosseq", "search", "--depth", "1", "--strong", *stranger].as_slice(),
+            ["lotosseq", "search", "--depth", "1", *name].as_slice(),
+            ["lotosseq", "search", "--depth", "1", "--strong", *name].as_slice(),
         ] {
-            expect_unread(
+            expect_refused_unread(
                 &rt,
                 rt.alloc(),
-                stranger,
+                name,
                 words,
                 b"lotosseq: E41 word 1 is neither a label nor an element\n",
             );
         }
         for element in ["<until>", "<UNTIL>"] {
-            let words = ["lotosseq", "search", "--depth", "1", element, *stranger];
-            expect_unread(
+            let words = ["lotosseq", "search", "--depth", "1", element, *name];
+            expect_refused_unread(
                 &rt,
                 rt.alloc(),
-                stranger,
+                name,
                 words.as_slice(),
                 b"lotosseq: E42 word 1 needs a label or <deadlock> after it\n",
             );
@@ -112,14 +112,12 @@ fn letters_that_are_no_ascii_are_no_words_of_a_pattern(rt: HostRuntime) {
 
 #[test]
 fn letters_that_are_no_ascii_are_no_lines_of_a_listing(rt: HostRuntime) {
-    for stranger in STRANGERS {
-        let words = [
-            "lotosseq", "search", "--depth", "1", "--after", *stranger, "A",
-        ];
-        expect_unread(
+    for name in FOREIGN_NAMES {
+        let words = ["lotosseq", "search", "--depth", "1", "--after", *name, "A"];
+        expect_refused_unread(
             &rt,
             rt.alloc(),
-            stranger,
+            name,
             words.as_slice(),
             b"lotosseq: E46 mark is no line of a listing\n",
         );
@@ -127,7 +125,13 @@ fn letters_that_are_no_ascii_are_no_lines_of_a_listing(rt: HostRuntime) {
 }
 
 /// Runs the words, and expects them to be refused before anything is read.
-fn expect_unread(rt: &impl Abort, alloc: Global, name: &str, words: &[&str], message: &[u8]) {
+fn expect_refused_unread(
+    rt: &impl Abort,
+    alloc: Global,
+    name: &str,
+    words: &[&str],
+    message: &[u8],
+) {
     let reader = SliceReader::new(b"specification", 1);
     let out = ArrayWriter::new(4096);
     let err = ArrayWriter::new(4096);

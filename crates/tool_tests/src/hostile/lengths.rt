@@ -21,7 +21,7 @@ fn filled(alloc: Global, text: &[u8], byte: u8, length: usize) -> Result<Vec<u8>
 }
 
 #[test]
-fn blanks_behind_a_text_count(rt: HostRuntime) -> Result<(), AllocError> {
+fn blanks_after_a_text_count(rt: HostRuntime) -> Result<(), AllocError> {
     let longest = filled(rt.alloc(), TEXT, b' ', TEXT_LIMIT)?;
     let found = Answer {
         output: b"A\n",
@@ -95,7 +95,7 @@ fn an_endless_text_is_refused_after_one_byte_too_many(rt: HostRuntime) {
 }
 
 #[test]
-fn no_byte_is_read_behind_one_too_many(rt: HostRuntime) -> Result<(), AllocError> {
+fn no_byte_is_read_after_one_too_many(rt: HostRuntime) -> Result<(), AllocError> {
     let text = filled(rt.alloc(), TEXT, b' ', TEXT_LIMIT + 2)?;
     let cases: [(usize, &[u8]); 2] = [
         (1_048_577, b"lotosseq: E47 input cannot be read\n"),

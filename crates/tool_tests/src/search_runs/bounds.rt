@@ -4,7 +4,7 @@ use super::{Row, expect};
 
 const ROWS: &[Row] = &[
     Row {
-        name: "a prefix is over before any line",
+        name: "a prefix is oversized before any line",
         text: b"specification S [a,b] : noexit behaviour a; stop [] a; b; stop endspec",
         words: &[
             "lotosseq", "search", "--depth", "2", "--terms", "1", "<any>",
@@ -14,7 +14,7 @@ const ROWS: &[Row] = &[
         status: 4,
     },
     Row {
-        name: "a prefix is over behind a line",
+        name: "a prefix is oversized after a line",
         text: b"specification S [a,b] : noexit behaviour a; stop [] b; stop [] b; a; stop endspec",
         words: &[
             "lotosseq", "search", "--depth", "1", "--terms", "1", "<any>",
@@ -24,7 +24,7 @@ const ROWS: &[Row] = &[
         status: 4,
     },
     Row {
-        name: "the limit comes before the prefix that is over",
+        name: "the limit comes before the prefix that is oversized",
         text: b"specification S [a,b] : noexit behaviour a; stop [] b; stop [] b; a; stop endspec",
         words: &[
             "lotosseq", "search", "--depth", "1", "--terms", "1", "--limit", "1", "<any>",
@@ -34,7 +34,7 @@ const ROWS: &[Row] = &[
         status: 3,
     },
     Row {
-        name: "a prefix is over behind the mark",
+        name: "a prefix is oversized after the mark",
         text: b"specification S [a,b] : noexit behaviour a; stop [] b; stop [] b; a; stop endspec",
         words: &[
             "lotosseq", "search", "--depth", "1", "--terms", "1", "--after", "A", "<any>",
@@ -44,7 +44,7 @@ const ROWS: &[Row] = &[
         status: 4,
     },
     Row {
-        name: "a prefix is over behind a line behind the mark",
+        name: "a prefix is oversized after a line after the mark",
         text: b"specification S [a,b] : noexit behaviour a; stop [] b; stop [] b; a; stop endspec",
         words: &[
             "lotosseq", "search", "--depth", "1", "--terms", "1", "--after", "<empty>", "<any>",
@@ -54,7 +54,7 @@ const ROWS: &[Row] = &[
         status: 4,
     },
     Row {
-        name: "a prefix is over that is the mark",
+        name: "the mark is oversized",
         text: b"specification S [a,b] : noexit behaviour a; stop [] b; stop [] b; a; stop endspec",
         words: &[
             "lotosseq", "search", "--depth", "1", "--terms", "1", "--after", "B", "<any>",
@@ -64,7 +64,7 @@ const ROWS: &[Row] = &[
         status: 4,
     },
     Row {
-        name: "a prefix is over before the mark",
+        name: "a prefix is oversized before the mark",
         text: b"specification S [a,b] : noexit behaviour a; stop [] b; stop [] b; a; stop endspec",
         words: &[
             "lotosseq", "search", "--depth", "1", "--terms", "1", "--after", "A A", "<any>",
@@ -74,7 +74,7 @@ const ROWS: &[Row] = &[
         status: 4,
     },
     Row {
-        name: "no prefix is over",
+        name: "no prefix is oversized",
         text: b"specification S [a,b] : noexit behaviour a; stop [] b; stop [] b; a; stop endspec",
         words: &[
             "lotosseq", "search", "--depth", "1", "--terms", "2", "<any>",
@@ -86,7 +86,7 @@ const ROWS: &[Row] = &[
 ];
 
 #[test]
-fn prefixes_that_are_over(rt: HostRuntime) {
+fn oversized_prefixes(rt: HostRuntime) {
     for row in ROWS {
         expect(&rt, rt.alloc(), row);
     }

@@ -12,7 +12,7 @@ const ROWS: &[Row] = &[
         status: 1,
     },
     Row {
-        name: "a deadlock behind an internal step",
+        name: "a deadlock after an internal step",
         text: b"specification S [a,b] : noexit behaviour i; stop endspec",
         words: &[
             "lotosseq",

@@ -4,7 +4,7 @@ use super::{Row, expect};
 
 const ROWS: &[Row] = &[
     Row {
-        name: "recursion behind enabling, one step short",
+        name: "recursion after enabling, one step short",
         text: b"specification S [a,b] : noexit behaviour P[a] where process P [x] : noexit := x; exit >> P[x] endproc endspec",
         words: &[
             "lotosseq",
@@ -21,7 +21,7 @@ const ROWS: &[Row] = &[
         status: 1,
     },
     Row {
-        name: "recursion behind enabling",
+        name: "recursion after enabling",
         text: b"specification S [a,b] : noexit behaviour P[a] where process P [x] : noexit := x; exit >> P[x] endproc endspec",
         words: &[
             "lotosseq",

@@ -55,7 +55,7 @@ const ROWS: &[Row] = &[
         status: 3,
     },
     Row {
-        name: "a limit behind a line",
+        name: "a limit after a line",
         text: b"specification S [a,b] : exit behaviour a; exit [> b; stop endspec",
         words: &[
             "lotosseq",

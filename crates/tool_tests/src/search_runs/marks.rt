@@ -4,7 +4,7 @@ use super::{Row, expect};
 
 const ROWS: &[Row] = &[
     Row {
-        name: "behind a line",
+        name: "after a line",
         text: b"specification S [a,b] : exit behaviour a; exit [> b; stop endspec",
         words: &[
             "lotosseq",
@@ -38,7 +38,7 @@ const ROWS: &[Row] = &[
         status: 3,
     },
     Row {
-        name: "behind the last line",
+        name: "after the last line",
         text: b"specification S [a,b] : exit behaviour a; exit [> b; stop endspec",
         words: &[
             "lotosseq",
@@ -55,7 +55,7 @@ const ROWS: &[Row] = &[
         status: 1,
     },
     Row {
-        name: "behind a line that is not there",
+        name: "after a line that is not there",
         text: b"specification S [a,b] : exit behaviour a; exit [> b; stop endspec",
         words: &[
             "lotosseq",
@@ -72,7 +72,7 @@ const ROWS: &[Row] = &[
         status: 0,
     },
     Row {
-        name: "behind a line with its word",
+        name: "after a line with its word",
         text: b"specification S [a,b] : noexit behaviour i; a; stop [] a; b; stop endspec",
         words: &[
             "lotosseq",
@@ -89,7 +89,7 @@ const ROWS: &[Row] = &[
         status: 0,
     },
     Row {
-        name: "behind the empty sequence",
+        name: "after the empty sequence",
         text: b"specification S [a,b] : exit behaviour a; exit [> b; stop endspec",
         words: &[
             "lotosseq",
@@ -106,7 +106,7 @@ const ROWS: &[Row] = &[
         status: 0,
     },
     Row {
-        name: "behind a line in lower case",
+        name: "after a line in lower case",
         text: b"specification S [a,b] : exit behaviour a; exit [> b; stop endspec",
         words: &[
             "lotosseq",
@@ -123,7 +123,7 @@ const ROWS: &[Row] = &[
         status: 0,
     },
     Row {
-        name: "behind a line in mixed case, whose word is not looked at",
+        name: "after a line in mixed case, whose word is not looked at",
         text: b"specification S [a,b] : exit behaviour a; exit [> b; stop endspec",
         words: &[
             "lotosseq",
@@ -140,7 +140,7 @@ const ROWS: &[Row] = &[
         status: 1,
     },
     Row {
-        name: "behind a line that is greater than all",
+        name: "after a line that is greater than all",
         text: b"specification S [a,b] : exit behaviour a; exit [> b; stop endspec",
         words: &[
             "lotosseq",
@@ -157,7 +157,7 @@ const ROWS: &[Row] = &[
         status: 1,
     },
     Row {
-        name: "behind a line with a label that is no gate",
+        name: "after a line with a label that is no gate",
         text: b"specification S [a,b] : exit behaviour a; exit [> b; stop endspec",
         words: &[
             "lotosseq",
@@ -176,7 +176,7 @@ const ROWS: &[Row] = &[
 ];
 
 #[test]
-fn listings_behind_a_mark(rt: HostRuntime) {
+fn listings_after_a_mark(rt: HostRuntime) {
     for row in ROWS {
         expect(&rt, rt.alloc(), row);
     }

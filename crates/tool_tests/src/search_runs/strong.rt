@@ -49,7 +49,7 @@ const ROWS: &[Row] = &[
         status: 0,
     },
     Row {
-        name: "behind a line, internal steps shown",
+        name: "after a line, internal steps shown",
         text: b"specification S [a,b] : noexit behaviour i; a; stop [] a; b; stop endspec",
         words: &[
             "lotosseq",
@@ -67,7 +67,7 @@ const ROWS: &[Row] = &[
         status: 0,
     },
     Row {
-        name: "behind a line with an internal step",
+        name: "after a line with an internal step",
         text: b"specification S [a,b] : noexit behaviour i; a; stop [] a; b; stop endspec",
         words: &[
             "lotosseq",

@@ -7,23 +7,23 @@ use Rattle.lotos_check.proofs.VisibleNames.{from_place}
 use Rattle.lotos_check.proofs.PassedDefinitions.{passed_none, passed_more, passed_again, passed_inside, passed_all, gate_again}
 use Rattle.lotos_check.proofs.duplicates.+check_distinct.Goals as goal
 
-pub returns-in-Some-clause-repeat : goal.returns-in-Some-clause-repeat
-returns-in-Some-clause-repeat t c = gate_again c.args.whole.now c.in-Some.gate c.as_slice.result.now c.as_slice.ensures.value
+pub returns-in-Some-clause-fails : goal.returns-in-Some-clause-fails
+returns-in-Some-clause-fails t c = gate_again c.args.whole.now c.in-Some.gate c.as_slice.result.now c.as_slice.ensures.value
     (rw c.in-Some.is at c.in_ok-gate.ensures)
 
 pub loop-inner-init : goal.loop-inner-init
 loop-inner-init t c = passed_none (λ k. k.now) c.new-names.result.keys c.deref-inner-items.result.now c.new-names.ensures.empty
 
-pub returns-then-not-branch-clause-repeat : goal.returns-then-not-branch-clause-repeat
-returns-then-not-branch-clause-repeat t c =
+pub returns-then-not-branch-clause-fails : goal.returns-then-not-branch-clause-fails
+returns-then-not-branch-clause-fails t c =
     let within : c.loop-inner.inner-index < length c.deref-inner-items.result.now = omega arith in
     let next = from_place c.deref-inner-items.result.now c.loop-inner.inner-index _ c.inner-item.result within c.inner-item.is in
     passed_again (λ k. k.now)
     c.loop-inner.names.keys c.insert.new.self.keys c.text.result c.deref-inner-items.result.now _ _ c.inner-item.result c.text.result.now
     c.loop-inner.invariant next c.text.ensures.bytes _ c.in_ok-insert.ensures.added c.args.whole.now c.deref-inner-items.ensures.value _ c.in_ok-copy_placed.ensures c.if-not-branch.true
 
-pub returns-in_err-check_distinct-clause-repeat : goal.returns-in_err-check_distinct-clause-repeat
-returns-in_err-check_distinct-clause-repeat t c =
+pub returns-in_err-check_distinct-clause-fails : goal.returns-in_err-check_distinct-clause-fails
+returns-in_err-check_distinct-clause-fails t c =
     let within : c.loop-inner.inner-index < length c.deref-inner-items.result.now = omega arith in
     let next = from_place c.deref-inner-items.result.now c.loop-inner.inner-index _ c.inner-item.result within c.inner-item.is in
     passed_on (IsDuplicateFault (definition_view c.args.whole.now))
@@ -31,7 +31,7 @@ returns-in_err-check_distinct-clause-repeat t c =
     (passed_inside (λ k. k.now)
     c.loop-inner.names.keys c.insert.new.self.keys c.text.result c.deref-inner-items.result.now _ _ c.inner-item.result c.text.result.now
     c.loop-inner.invariant next c.text.ensures.bytes _ c.in_ok-insert.ensures.added c.args.whole.now c.deref-inner-items.ensures.value
-    c.in_err-check_distinct.field-0.0 c.in_err-check_distinct.ensures.repeat)
+    c.in_err-check_distinct.field-0.0 c.in_err-check_distinct.ensures.fails)
 
 pub loop-inner-preserved : goal.loop-inner-preserved
 loop-inner-preserved t c =

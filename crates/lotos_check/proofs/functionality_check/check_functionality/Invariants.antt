@@ -6,5 +6,6 @@ use Rattle.lotos_check.proofs.functionality_check.check_functionality.Given as g
 
 abbrev pub invariant-loop-index : goal.invariant-loop-index
 invariant-loop-index l =
-    Pairwise HasDeclaredFunctionality (drop l.index (map (λ d. definition_view d.now) l.definitions)) (drop l.index l.found) →
+    Pairwise HasDeclaredFunctionality (drop l.index (map (λ d. definition_view d.now) l.definitions))
+    (drop l.index l.found) →
     Pairwise HasDeclaredFunctionality (map (λ d. definition_view d.now) l.definitions) l.found

@@ -1,7 +1,7 @@
 use Rattle.std.proofs.Common.{rules, ◌≡◌, ℕ, Some, get_or, below_more, arith}
 use Rattle.std.specs.Prelude.{slice_get}
-use Rattle.lotos_check.proofs.InScopes.{in_read, each_in}
-use Rattle.lotos_check.proofs.Numbered.{numbered_at, unnumbered_at}
+use Rattle.lotos_check.proofs.ListIndices.{in_read, each_in}
+use Rattle.lotos_check.proofs.RankedProcesses.{numbered_at, unnumbered_at}
 use Rattle.lotos_check.proofs.guardedness.has_unranked_callee.Goals as goal
 
 pub bounds-ranks-process : goal.bounds-ranks-process

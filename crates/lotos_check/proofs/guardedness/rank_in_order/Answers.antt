@@ -1,4 +1,4 @@
-use Rattle.lotos_check.proofs.InScopes.{in_read}
+use Rattle.lotos_check.proofs.ListIndices.{in_read}
 use Rattle.lotos_check.proofs.guardedness.rank_in_order.Goals as goal
 
 pub try_rank-next-requires-clause-within : goal.try_rank-next-requires-clause-within

@@ -31,8 +31,8 @@ returns-then-is_empty c =
     let whole = take_at ranks (drop (length ranks) c.in_ok-ranks.ranks.items) c.in_ok-ranks.ranks.len (omega arith) in
     let after : c.as_slice-then-is_empty.result.now ≡ ranks = rw whole at c.as_slice-then-is_empty.ensures.value in
     let numbered = rw c.as_slice-2.ensures.value at c.assign_ranks.ensures in
-    let numbers = rw after at c.in_ok-numbers.ensures in
-    are_ranks _ (map process_of c.args.processes.now) ranks c.in_ok-edges.ensures numbered c.in_ok-numbers.numbers.items numbers
+    let numbers = rw after at c.in_ok-all_ranks.ensures in
+    are_ranks _ (map process_of c.args.processes.now) ranks c.in_ok-edges.ensures numbered c.in_ok-all_ranks.all_ranks.items numbers
 
 pub returns : goal.returns
 returns c =
@@ -42,10 +42,10 @@ returns c =
     let whole = take_at ranks (drop (length ranks) c.in_ok-ranks.ranks.items) c.in_ok-ranks.ranks.len (omega arith) in
     let after : c.as_slice-4.result.now ≡ ranks = rw whole at c.as_slice-4.ensures.value in
     let numbered = rw c.as_slice-2.ensures.value at c.assign_ranks.ensures in
-    let waiting = rw after at c.in_ok-waiting.ensures in
-    let found = c.in_ok-waiting.waiting.items in
+    let waiting = rw after at c.in_ok-unranked.ensures in
+    let found = c.in_ok-unranked.unranked.items in
     is_unguarded _ (map process_of c.args.processes.now) ranks c.in_ok-edges.ensures numbered found waiting (λ e.
     let some = c.if-is_empty.ensures in
-    let count = c.in_ok-waiting.waiting.ok.0 in
-    let none : length c.in_ok-waiting.waiting.items ≡ 0 = rw e refl in
+    let count = c.in_ok-unranked.unranked.ok.0 in
+    let none : length c.in_ok-unranked.unranked.items ≡ 0 = rw e refl in
     grind arith)

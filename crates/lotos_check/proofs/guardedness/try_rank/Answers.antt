@@ -1,7 +1,7 @@
 use Rattle.std.proofs.Common.{rules, ◌≡◌, ◌<◌, length, arith}
 use Rattle.std.proofs.lemmas.List.{length-map}
 use Rattle.lotos_check.proofs.CallLists.{list_at}
-use Rattle.lotos_check.proofs.Numbered.{unnumbered_at, number_there}
+use Rattle.lotos_check.proofs.RankedProcesses.{unnumbered_at, number_there}
 use Rattle.lotos_check.proofs.RankRounds.{ordered_set}
 use Rattle.lotos_check.proofs.guardedness.try_rank.Goals as goal
 use Rattle.lotos_check.proofs.guardedness.try_rank.Goals.{then-is_some-via-then-is_some, then-is_some-via-else-is_some+then-has_unranked_callee}

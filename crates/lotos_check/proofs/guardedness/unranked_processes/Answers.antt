@@ -3,6 +3,6 @@ use Rattle.lotos_check.proofs.UnrankedProcesses.{places_end, are_waiting}
 use Rattle.lotos_check.proofs.guardedness.unranked_processes.Goals as goal
 
 pub returns : goal.returns
-returns c = are_waiting c.loop-rank.waiting.items c.args.ranks.now
-    (places_end c.loop-rank.waiting.items c.loop-rank.rank-index c.args.ranks.now
+returns c = are_waiting c.loop-rank.unranked.items c.args.ranks.now
+    (places_end c.loop-rank.unranked.items c.loop-rank.rank-index c.args.ranks.now
     (omega (arith, c.loop-rank-test.false)) c.loop-rank.invariant.rest)

@@ -8,4 +8,5 @@ abbrev pub decreases-count_inner : goal.decreases-count_inner
 decreases-count_inner l = goal.size-count_inner l
 
 abbrev pub invariant-loop-inner : goal.invariant-loop-inner
-invariant-loop-inner l = l.total + count (definitions_view (drop l.inner-index l.inner-items)) ≡ count (inner_of (definition_view l.of))
+invariant-loop-inner l = l.total + count (definitions_view (drop l.inner-index l.inner-items))
+    ≡ count (inner_of (definition_view l.definition))

@@ -4,7 +4,7 @@ use Rattle.lotos_text.specs.AstOf.{behaviour_view, sync_view}
 use Rattle.lotos_check.specs.NameLists.{texts}
 use Rattle.lotos_check.specs.ProcessScopes.{HasNames}
 use Rattle.lotos_check.proofs.Operands.{misnamed_lift, of_prefix, of_choice, of_par, of_hide, of_enable, of_disable}
-use Rattle.lotos_check.proofs.Forms.{carried, found_stop, found_exit}
+use Rattle.lotos_check.proofs.ResolvedForms.{carried, found_stop, found_exit}
 use Rattle.lotos_check.proofs.OwnFaults.{misnamed_action, misnamed_sync}
 use Rattle.lotos_check.proofs.resolution.+resolve.Goals as goal
 

@@ -2,7 +2,7 @@ use Rattle.std.proofs.Common.{refl, sym, ap, ◌∙◌, length}
 use Rattle.lotos_text.specs.AstOf.{definition_view}
 use Rattle.lotos_check.specs.Flat.{call}
 use Rattle.lotos_check.proofs.DefinitionParts.{formals_shown, declared_shown}
-use Rattle.lotos_check.proofs.Forms.{carried}
+use Rattle.lotos_check.proofs.ResolvedForms.{carried}
 use Rattle.lotos_check.proofs.OwnFaults.{misnamed_actual, unseen_call, unfit_call, found_call}
 use Rattle.lotos_check.proofs.resolution.resolve_call.Goals as goal
 
@@ -13,9 +13,9 @@ returns-in_default c = λ scope known shows knows.
 
 pub returns-then-formal-actuals : goal.returns-then-formal-actuals
 returns-then-formal-actuals c = λ scope known shows knows.
-    let of = c.in-Some.meaning.definition.now in
+    let of = c.in-Some.binding.definition.now in
     unfit_call scope known c.args.name.now c.args.actuals.now c.text.result.now c.in_ok-copy_placed-2.field-0
-    c.in-Some.meaning.process (definition_view of) (length c.as_slice-formals.result.now)
+    c.in-Some.binding.process (definition_view of) (length c.as_slice-formals.result.now)
     (length c.args.actuals.now) c.text.ensures.bytes
     c.in_ok-copy_placed-2.ensures (c.in-Some.ensures scope shows) (ap length (c.as_slice-formals.ensures.value ∙ formals_shown of)) refl
     c.if-formal-actuals.true
@@ -28,9 +28,9 @@ returns-in_err-check_declared c = λ scope known shows knows.
 
 pub returns : goal.returns
 returns c = λ scope known shows knows.
-    let of = c.in-Some.meaning.definition.now in
-    found_call scope known c.args.name.now c.args.actuals.now c.text.result.now c.in-Some.meaning.process (definition_view of) _
+    let of = c.in-Some.binding.definition.now in
+    found_call scope known c.args.name.now c.args.actuals.now c.text.result.now c.in-Some.binding.process (definition_view of) _
     c.text.ensures.bytes (c.in-Some.ensures scope shows)
     (sym (ap length (c.as_slice-formals.ensures.value ∙ formals_shown of)) ∙ c.if-formal-actuals.false)
-    (c.in_ok-check_declared.ensures.declared known knows) (ap (call c.in-Some.meaning.process) c.in_ok-copy_names.ensures)
+    (c.in_ok-check_declared.ensures.declared known knows) (ap (call c.in-Some.binding.process) c.in_ok-copy_names.ensures)
     (declared_shown of) refl

@@ -15,7 +15,7 @@ use Rattle.lotos_check.proofs.SameFault.{passed_on}
 use Rattle.lotos_check.proofs.Faults.{repeat_faulty, misnamed_faulty, untyped_faulty, faulty_refused}
 use Rattle.lotos_check.proofs.FaultOffsets.{faulty_inside}
 use Rattle.lotos_check.proofs.Rules.{walked, well_typed}
-use Rattle.lotos_check.proofs.Joined.{inner_below, found_length, unguarded_below, unguarded_joined, flat_joined, calls_below, guarded_by}
+use Rattle.lotos_check.proofs.PassResults.{inner_below, found_length, unguarded_below, unguarded_joined, flat_joined, calls_below, guarded_by}
 use Rattle.lotos_check.proofs.static_check.check.Goals.{In_ok-add_definitions, In-Guarded, After-as_slice-2, After-as_slice-5}
 use Rattle.lotos_check.proofs.static_check.check.Goals as goal
 
@@ -52,7 +52,7 @@ returns-in_err-check_distinct-clause-inside c =
     let whole = definition_view c.args.tree.whole in
     let fault = c.in_err-check_distinct.field-0.0 in
     passed_on (λ f. (n : ℕ) → IsInside n whole → IsOffsetWithin n f) c.from_residual.result fault c.from_residual.ensures.1
-    (λ n. faulty_inside whole fault n (repeat_faulty whole fault c.in_err-check_distinct.ensures.repeat))
+    (λ n. faulty_inside whole fault n (repeat_faulty whole fault c.in_err-check_distinct.ensures.fails))
 
 pub returns-in_err-resolve_bodies : goal.returns-in_err-resolve_bodies
 returns-in_err-resolve_bodies c =

@@ -7,6 +7,7 @@ use Rattle.lotos_check.proofs.static_check.flatten.Given as goal
 abbrev pub invariant-loop-one : goal.invariant-loop-one
 invariant-loop-one l = record {
   left : into_iter_len l.one-iterator ≡ length (into_iter_items l.one-iterator);
-  makes : Flattens (map (λ d. definition_view d.now) l.definitions) (into_iter_items l.initial.one-iterator) l.index
+  makes : Flattens (map (λ d. definition_view d.now) l.definitions)
+      (into_iter_items l.initial.one-iterator) l.index
       (into_iter_items l.one-iterator) l.start l.processes.items;
 }

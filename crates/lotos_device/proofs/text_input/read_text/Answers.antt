@@ -3,7 +3,7 @@ use Rattle.std.proofs.lemmas.List.{length-take}
 use Rattle.std.proofs.KnownBytes.{Consumes-kept, Consumes-trans}
 use Rattle.lotos_device.proofs.text_input.read_text.Goals as goal
 
--- what was taken is the text so far and what the last read gave, for which there was no room
+-- the bytes that were read are the text so far and those of the last read, which the text could not grow by
 pub returns-in_err-extend_from_slice-clause-memory :
     goal.returns-in_err-extend_from_slice-clause-memory
 returns-in_err-extend_from_slice-clause-memory g c =

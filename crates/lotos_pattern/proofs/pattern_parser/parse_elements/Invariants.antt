@@ -3,10 +3,11 @@ use Rattle.lotos_pattern.specs.Spelling.{PatternOf, texts_of}
 use Rattle.lotos_pattern.specs.ElementView.{elements_of, pattern_of}
 use Rattle.lotos_pattern.proofs.pattern_parser.parse_elements.Given as goal
 
--- the words before the place spell the elements so far
+-- the words before the index spell the elements so far
 abbrev pub invariant-loop-place : goal.invariant-loop-place
 invariant-loop-place l = record {
-  spelled : PatternOf l.strong (take l.place (texts_of l.words)) (pattern_of l.strong (elements_of l.elements.items));
+  spelled : PatternOf l.strong (take l.place (texts_of l.words))
+      (pattern_of l.strong (elements_of l.elements.items));
   within : l.place ≤ length l.words;
 }
 

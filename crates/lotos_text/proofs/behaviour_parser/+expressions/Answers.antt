@@ -212,6 +212,6 @@ parse_operand-returns-in_ok-expect_operand_end-in-Exit-clause-parses t c =
 
 pub parse_operand-returns-in-Nothing-clause-fails : goal.parse_operand-returns-in-Nothing-clause-fails
 parse_operand-returns-in-Nothing-clause-fails t c =
-    let shown = rw c.in-Some.ensures at c.requires.shown in
+    let shown = rw c.in-Some.ensures at c.requires.no_hide in
     rw c.in-Some.ensures (lost_begun c.args.text.now c.in-Some.first c.in-Some.rest.now
     (sym c.operand_start.ensures ∙ c.in-Nothing.is) shown)

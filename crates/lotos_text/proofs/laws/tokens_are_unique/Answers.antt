@@ -1,8 +1,8 @@
 use Rattle.lotos_text.proofs.LexingUnique.{one_cut, one_place, sticks_uncut}
 use Rattle.lotos_text.proofs.laws.tokens_are_unique.Goals as goal
 
-pub returns-clause-cut : goal.returns-clause-cut
-returns-clause-cut c = one_cut
+pub returns-clause-lexes : goal.returns-clause-lexes
+returns-clause-lexes c = one_cut
 
 pub returns-clause-place : goal.returns-clause-place
 returns-clause-place c = one_place

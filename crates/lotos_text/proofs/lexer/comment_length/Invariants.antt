@@ -2,7 +2,7 @@ use Rattle.std.proofs.Common.{◌-◌, length}
 use Rattle.lotos_text.proofs.Comments.{NoneBefore}
 use Rattle.lotos_text.proofs.lexer.comment_length.Given as goal
 
--- no closing stands before the offset
+-- no comment closes before the offset
 abbrev pub invariant-loop-at : goal.invariant-loop-at
 invariant-loop-at l = NoneBefore l.text l.at
 

@@ -26,19 +26,19 @@ loop-at-preserved c =
     let next = reached_token c.args.text.now c.loop-at.at c.in-Token.length c.in-Token.kind c.loop-at.found.items c.loop-at.invariant c.in-Token.ensures in
     subst (Reached c.args.text.now (c.loop-at.at + c.in-Token.length)) (sym c.in_ok-push-in-Token.ensures.items) next
 
-pub returns-in-Unclosed-clause-stuck : goal.returns-in-Unclosed-clause-stuck
-returns-in-Unclosed-clause-stuck c = record {
+pub returns-in-Unclosed-clause-fails : goal.returns-in-Unclosed-clause-fails
+returns-in-Unclosed-clause-fails c = record {
   short = c.if-text-gt-TEXT_LIMIT.false;
-  sticks = stuck_at_comment c.args.text.now c.loop-at.at c.loop-at.found.items c.loop-at.invariant c.in-Unclosed.ensures;
+  fails = stuck_at_comment c.args.text.now c.loop-at.at c.loop-at.found.items c.loop-at.invariant c.in-Unclosed.ensures;
 }
 
-pub returns-in-Unknown-clause-stuck : goal.returns-in-Unknown-clause-stuck
-returns-in-Unknown-clause-stuck c = record {
+pub returns-in-Unknown-clause-fails : goal.returns-in-Unknown-clause-fails
+returns-in-Unknown-clause-fails c = record {
   short = c.if-text-gt-TEXT_LIMIT.false;
-  sticks = stuck_at_byte c.args.text.now c.loop-at.at c.loop-at.found.items c.loop-at.invariant c.in-Unknown.ensures;
+  fails = stuck_at_byte c.args.text.now c.loop-at.at c.loop-at.found.items c.loop-at.invariant c.in-Unknown.ensures;
 }
 
-pub returns-clause-stand : goal.returns-clause-stand
-returns-clause-stand c =
+pub returns-clause-in_text : goal.returns-clause-in_text
+returns-clause-in_text c =
     all_stand c.args.text.now c.loop-at.found.items
     (reached_end c.args.text.now c.loop-at.at c.loop-at.found.items c.loop-at.invariant c.loop-at-test.false)

@@ -9,7 +9,7 @@ use Rattle.lotos_text.proofs.parse_primitives.parse_names.Given as goal
 abbrev pub decreases-loop-found : goal.decreases-loop-found
 decreases-loop-found l = length l.rest
 
--- what is found or lost in the rest is found or lost in the whole
+-- a phrase that parses or fails in the rest does so in all tokens
 abbrev pub invariant-loop-found : goal.invariant-loop-found
 invariant-loop-found l = record {
   stand : AreTokensIn l.text l.rest;

@@ -13,28 +13,28 @@ use Rattle.lotos_text.proofs.ParseErrors.{freed_on, missed_free, carried_on, dee
 use Rattle.lotos_text.proofs.AstViews.{seen, seen_pushed, seen_row}
 use Rattle.lotos_text.proofs.parser.+definitions.Goals as goal
 
--- contents
+-- a definition after its first keyword
 
 pub parse_definition_rest-returns-in_err-heading-clause-fails : goal.parse_definition_rest-returns-in_err-heading-clause-fails
 parse_definition_rest-returns-in_err-heading-clause-fails t c =
-    freed_on (HeaderPhrase c.args.text.now) (DefinitionRest c.args.text.now (definition_kind_view c.args.what)) c.args.nesting_left c.args.tokens.now
+    freed_on (HeaderPhrase c.args.text.now) (DefinitionRest c.args.text.now (definition_kind_view c.args.kind)) c.args.nesting_left c.args.tokens.now
     c.args.tokens.now
-    (λ at. lost_header c.args.text.now (definition_kind_view c.args.what) None c.args.tokens.now at)
+    (λ at. lost_header c.args.text.now (definition_kind_view c.args.kind) None c.args.tokens.now at)
     c.from_residual.result c.in_err-heading.field-0.0 c.from_residual.ensures.1 c.in_err-heading.ensures.fails
 
 pub parse_definition_rest-returns-in_err-rest-clause-fails : goal.parse_definition_rest-returns-in_err-rest-clause-fails
 parse_definition_rest-returns-in_err-rest-clause-fails t c =
-    missed_free (OneToken c.defining_sign.result) (DefinitionRest c.args.text.now (definition_kind_view c.args.what)) c.args.nesting_left
+    missed_free (OneToken c.defining_sign.result) (DefinitionRest c.args.text.now (definition_kind_view c.args.kind)) c.args.nesting_left
     c.in_ok-heading.rest.now c.args.tokens.now
-    (λ at l. lost_sign c.args.text.now (definition_kind_view c.args.what) None c.args.tokens.now c.in_ok-heading.rest.now at _
+    (λ at l. lost_sign c.args.text.now (definition_kind_view c.args.kind) None c.args.tokens.now c.in_ok-heading.rest.now at _
     c.in_ok-heading.ensures.parses (subst (λ k. Fails (OneToken k) c.in_ok-heading.rest.now at) c.defining_sign.ensures l))
     c.from_residual-in_err-rest.result c.in_err-rest.field-0.0 c.from_residual-in_err-rest.ensures.1 c.in_err-rest.ensures.fails
 
 pub parse_definition_rest-returns-in_err-body-clause-fails : goal.parse_definition_rest-returns-in_err-body-clause-fails
 parse_definition_rest-returns-in_err-body-clause-fails t c =
-    carried_on (BehaviourPhrase c.args.text.now enabling) (DefinitionRest c.args.text.now (definition_kind_view c.args.what)) c.args.nesting_left c.args.nesting_left
+    carried_on (BehaviourPhrase c.args.text.now enabling) (DefinitionRest c.args.text.now (definition_kind_view c.args.kind)) c.args.nesting_left c.args.nesting_left
     c.in_ok-rest.rest.now c.args.tokens.now
-    (carries_behaviour c.args.text.now (definition_kind_view c.args.what) c.args.nesting_left c.args.tokens.now c.in_ok-heading.rest.now
+    (carries_behaviour c.args.text.now (definition_kind_view c.args.kind) c.args.nesting_left c.args.tokens.now c.in_ok-heading.rest.now
     c.in_ok-rest.rest.now c.in_ok-rest.field-0-0 _ c.in_ok-heading.ensures.parses c.in_ok-rest.ensures.parses.0
     (subst (λ k. IsOfKind c.in_ok-rest.field-0-0 k) c.defining_sign.ensures c.in_ok-rest.ensures.parses.1))
     c.from_residual-in_err-body.result c.in_err-body.field-0.0 c.from_residual-in_err-body.ensures.1 c.in_err-body.ensures.fails
@@ -49,7 +49,7 @@ parse_definition_rest-parse_where-requires t c =
 
 pub parse_definition_rest-returns-in_err-inner-clause-fails : goal.parse_definition_rest-returns-in_err-inner-clause-fails
 parse_definition_rest-returns-in_err-inner-clause-fails t c =
-    let what = definition_kind_view c.args.what in
+    let what = definition_kind_view c.args.kind in
     let body =
     found_body c.args.text.now what (Some c.args.nesting_left) c.in_ok-heading.rest.now c.in_ok-rest.rest.now c.in_ok-body.rest.now
     c.in_ok-rest.field-0-0 _ c.in_ok-rest.ensures.parses.0
@@ -63,7 +63,7 @@ parse_definition_rest-returns-in_err-inner-clause-fails t c =
 
 pub parse_definition_rest-returns-in_err-rest-2-clause-fails : goal.parse_definition_rest-returns-in_err-rest-2-clause-fails
 parse_definition_rest-returns-in_err-rest-2-clause-fails t c =
-    let what = definition_kind_view c.args.what in
+    let what = definition_kind_view c.args.kind in
     let body =
     found_body c.args.text.now what (Some c.args.nesting_left) c.in_ok-heading.rest.now c.in_ok-rest.rest.now c.in_ok-body.rest.now
     c.in_ok-rest.field-0-0 _ c.in_ok-rest.ensures.parses.0
@@ -77,7 +77,7 @@ parse_definition_rest-returns-in_err-rest-2-clause-fails t c =
 
 pub parse_definition_rest-returns-clause-parses : goal.parse_definition_rest-returns-clause-parses
 parse_definition_rest-returns-clause-parses t c =
-    let what = definition_kind_view c.args.what in
+    let what = definition_kind_view c.args.kind in
     let body =
     found_body c.args.text.now what (Some c.args.nesting_left) c.in_ok-heading.rest.now c.in_ok-rest.rest.now c.in_ok-body.rest.now
     c.in_ok-rest.field-0-0 _ c.in_ok-rest.ensures.parses.0
@@ -89,7 +89,7 @@ parse_definition_rest-returns-clause-parses t c =
     c.in_ok-inner.ensures.parses c.in_ok-rest-2.ensures.parses.0
     (subst (λ k. IsOfKind c.in_ok-rest-2.field-0-0 k) c.closing_word.ensures c.in_ok-rest-2.ensures.parses.1))
 
--- inner
+-- inner definitions
 
 pub parse_where-parse_definitions-requires : goal.parse_where-parse_definitions-requires
 parse_where-parse_definitions-requires t c =
@@ -117,7 +117,7 @@ parse_where-returns-in-None-clause-parses t c =
     (sym c.new.ensures.items)
     (found_no_inner c.args.text.now (Some c.args.nesting_left) c.args.tokens.now c.in-None.ensures.none)
 
--- row
+-- lists of definitions
 
 pub parse_definitions-loop-found-init : goal.parse_definitions-loop-found-init
 parse_definitions-loop-found-init t c = record {

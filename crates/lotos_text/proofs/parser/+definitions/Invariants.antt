@@ -17,14 +17,17 @@ decreases-parse_where l = length l.tokens.now
 abbrev pub decreases-parse_definitions : goal.decreases-parse_definitions
 decreases-parse_definitions l = length l.tokens.now
 
--- what is found or lost in the rest is found or lost in the whole
+-- a phrase that parses or fails in the rest does so in all tokens
 abbrev pub invariant-parse_definitions-loop-found : goal.invariant-parse_definitions-loop-found
 invariant-parse_definitions-loop-found l = record {
   stand : AreTokensIn l.text l.rest;
   left : length l.rest ≤ length l.fn.tokens;
-  finds : (ds : List DefinitionView) (behind : List Token) → Parses (DefinitionList l.text (Some l.nesting_left)) l.rest (definition_list_view ds) behind →
-      Parses (DefinitionList l.text (Some l.nesting_left)) l.fn.tokens (definition_list_view (map definition_view l.found.items ++ ds)) behind;
-  carries : Carries (DefinitionList l.text) l.nesting_left l.rest (DefinitionList l.text) l.nesting_left l.fn.tokens;
+  finds : (ds : List DefinitionView) (behind : List Token) →
+      Parses (DefinitionList l.text (Some l.nesting_left)) l.rest (definition_list_view ds) behind →
+      Parses (DefinitionList l.text (Some l.nesting_left)) l.fn.tokens
+      (definition_list_view (map definition_view l.found.items ++ ds)) behind;
+  carries : Carries (DefinitionList l.text) l.nesting_left l.rest
+      (DefinitionList l.text) l.nesting_left l.fn.tokens;
 }
 
 abbrev pub decreases-parse_definitions-loop-found : goal.decreases-parse_definitions-loop-found

@@ -6,12 +6,12 @@ use Rattle.lotos_tool.proofs.ever_command.ever.Goals as goal
 pub returns-in-Ok-None-clause-answers : goal.returns-in-Ok-None-clause-answers
 returns-in-Ok-None-clause-answers g c =
     told_answered c.args.request.now _ _ (system_of c.in-Ok-read_specification.found) c.in-Ok.pattern
-    c.in-Ok-read_specification.ensures.accepted c.in-Ok.ensures.pattern _ _ c.answer_question.result
-    (rw c.in-Ok-None.field-0-is at c.in-Ok-None.ensures) c.answer_question.ensures.told
+    c.in-Ok-read_specification.ensures.accepted c.in-Ok.ensures.pattern _ _ c.write_match.result
+    (rw c.in-Ok-None.field-0-is at c.in-Ok-None.ensures) c.write_match.ensures.outcome
 
 pub returns-in-Ok-None-clause-input : goal.returns-in-Ok-None-clause-input
 returns-in-Ok-None-clause-input g c =
-    c.in-Ok-read_specification.ensures.failed ∙ sym (told_was_read _ _ _ _ _ c.answer_question.result c.answer_question.ensures.told)
+    c.in-Ok-read_specification.ensures.failed ∙ sym (told_was_read _ _ _ _ _ c.write_match.result c.write_match.ensures.outcome)
 
 pub returns-in-Ok-Some-clause-answers : goal.returns-in-Ok-Some-clause-answers
 returns-in-Ok-Some-clause-answers g c =

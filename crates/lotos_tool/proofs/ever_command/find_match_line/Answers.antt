@@ -17,14 +17,14 @@ returns-in_err-found-clause-none c =
       question = c.table_has_match_question.ensures (system_of c.args.found) c.in_ok-table.table p c.in_ok-table.ensures c.start.ensures.sound;
       pattern = refl;
     } in
-    handed_on _ c.in_err-found.field-0.0 c.args.request.now (system_of c.args.found) p q (halt.1 ∙ ap (λ v. Err v) halt.2) asked c.in_err-found.ensures.over
+    handed_on _ c.in_err-found.field-0.0 c.args.request.now (system_of c.args.found) p q (halt.1 ∙ ap (λ v. Err v) halt.2) asked c.in_err-found.ensures.too_many_states
 
 pub format_match-requires : goal.format_match-requires
 format_match-requires c =
     let p = c.args.pattern.now in
     let q = match_question_of c.in_ok-table.table p in
     let found : IsFound q c.in-Some.found = subst (IsAnswer q) c.in-Some.is c.in_ok-found.ensures.answer in
-    record { shown = (item_of q found.word, shown_now c.in_ok-table.table c.find_shortest_match.new.table p c.in-Some.found c.in_ok-found.ensures.grows found) }
+    record { printed = (item_of q found.word, shown_now c.in_ok-table.table c.find_shortest_match.new.table p c.in-Some.found c.in_ok-found.ensures.grows found) }
 
 pub returns-in-Some-clause-line : goal.returns-in-Some-clause-line
 returns-in-Some-clause-line c =

@@ -6,4 +6,5 @@ use Rattle.lotos_tool.proofs.output_lines.format_processes.Given as goal
 
 -- the lines so far are those of the processes before the index
 abbrev pub invariant-loop-process : goal.invariant-loop-process
-invariant-loop-process l = l.lines.items ≡ flat_map (λ p. process_line (process_of p)) (take l.process-index l.processes)
+invariant-loop-process l =
+    l.lines.items ≡ flat_map (λ p. process_line (process_of p)) (take l.process-index l.processes)

@@ -7,6 +7,6 @@ use Rattle.lotos_tool.proofs.output_lines.format_sequence.Given as goal
 
 -- the text so far, and a blank and the printed text of each label that is left, make up the text of the sequence
 abbrev pub invariant-loop-label : goal.invariant-loop-label
-invariant-loop-label g l = (s : List Label) → ArePrinted (g.T.LabelPrinter.names l.texts) l.labels s →
-    (left : List Label) × ArePrinted (g.T.LabelPrinter.names l.texts) (drop l.label-index l.rest) left
+invariant-loop-label g l = (s : List Label) → ArePrinted (g.T.LabelTexts.names l.texts) l.labels s →
+    (left : List Label) × ArePrinted (g.T.LabelTexts.names l.texts) (drop l.label-index l.rest) left
     × (string_bytes l.text ++ flat_map (λ m. 32 ∷ m) left ≡ sequence_text s)

@@ -1,6 +1,8 @@
 use Rattle.std.proofs.Common.{◌≡◌, ℕ, Bool, List, Option, inl, inr, refl, rules, subst}
 use Rattle.std.proofs.KnownBytes.{Keeps-refl}
-use Rattle.lotos_tool.specs.OutcomeContracts.{SearchOutcome, CheckOutcome, is_input_fault}
+use Rattle.lotos_tool.specs.ListingOutcome.{SearchOutcome}
+use Rattle.lotos_tool.specs.CheckOutcome.{CheckOutcome}
+use Rattle.lotos_tool.specs.OutcomeFlags.{is_input_fault}
 use Rattle.lotos_command.specs.CommandFaults.{IsFaultOf}
 use Rattle.lotos_command.specs.Request.{RequestOf, request_view, texts_of}
 use Rattle.lotos_tool.specs.ProgramRuns.{CheckRan, EverRan, SearchRan, check_status_of, ever_status_of, status_of}
@@ -52,7 +54,7 @@ returns-in-Err-Help-clause-ran g c =
     inr (inr (inr (record {
       kept = Keeps-refl _;
       unfailed = search rules;
-      reported = helped (subst (IsFaultOf (texts_of c.args.words.now)) c.in-Err-Help.field-0-is c.in-Err-Help.ensures.fault) _ c.write_help.ensures.shown;
+      reported = helped (subst (IsFaultOf (texts_of c.args.words.now)) c.in-Err-Help.field-0-is c.in-Err-Help.ensures.fault) _ c.write_help.ensures.printed;
       taken = λ t. let m = c.in-Err-Help.ensures.taken t in let e = c.in-Err-Help.field-0-is in cc;
     })))
 

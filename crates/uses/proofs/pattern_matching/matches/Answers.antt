@@ -1,7 +1,7 @@
 use Rattle.std.proofs.Common.{false}
 use Rattle.lotos_pattern.specs.Places.{Accepts}
 use Rattle.lotos_pattern.specs.Spelling.{texts_of}
-use Rattle.uses.proofs.FaultPositions.{not_matched}
+use Rattle.uses.proofs.PatternPlaces.{not_matched}
 use Rattle.uses.proofs.pattern_matching.matches.Goals as goal
 use Rattle.uses.proofs.pattern_matching.matches.Goals.{in-Some, in-None}
 
@@ -19,6 +19,6 @@ returns-clause-answer c =
     record {
       pattern = p;
       spelled = spelled;
-      only = λ other h. c.one_pattern.ensures false words other p h spelled;
+      only = λ other h. c.pattern_is_unique.ensures false words other p h spelled;
       accepts = accepts;
     }

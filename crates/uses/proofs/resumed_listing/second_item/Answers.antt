@@ -18,7 +18,7 @@ returns-in_err-second-in-Some-clause-stopped c =
     let p = err_from_is_err_and c.from_residual-in_err-second-in-Some.result c.from_residual-in_err-second-in-Some.ensures.1 in
     let first = subst (λ f. IsFirstItem a.table a.pattern a.depth a.terms None (c.in_ok-search.search, f)) c.in-Some.is c.in_ok-search.ensures.found in
     rw (p.1, p.2) (second_stops a.table a.pattern a.depth a.terms c.in_ok-search.search c.next.new.self c.in-Some.field-0 c.in_err-second-in-Some.field-0.0 first c.next.ensures.same
-    c.in_err-second-in-Some.ensures.says)
+    c.in_err-second-in-Some.ensures.next_returns)
 
 pub returns-clause-found : goal.returns-clause-found
 returns-clause-found c =
@@ -27,7 +27,7 @@ returns-clause-found c =
       | in-Some+in_ok-second-in-Some w ↦
           let first = subst (λ f. IsFirstItem a.table a.pattern a.depth a.terms None (c.in_ok-search.search, f)) w.in-Some.is c.in_ok-search.ensures.found in
           rw w.result-is (second_found a.table a.pattern a.depth a.terms c.in_ok-search.search w.next.new.self w.in-Some.field-0 w.in_ok-second-in-Some.second first w.next.ensures.same
-          w.in_ok-second-in-Some.ensures.says)
+          w.in_ok-second-in-Some.ensures.next_returns)
       | in-None w ↦
           let first = subst (λ f. IsFirstItem a.table a.pattern a.depth a.terms None (c.in_ok-search.search, f)) w.in-None.is c.in_ok-search.ensures.found in
           rw w.result-is (none_found a.table a.pattern a.depth a.terms c.in_ok-search.search first)

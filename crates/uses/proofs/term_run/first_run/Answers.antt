@@ -31,7 +31,7 @@ returns-in-None-clause-run c =
       end = c.loop.here;
       run = run_grows c.loop.table new c.in_ok-next.ensures.grows c.loop.run.items c.loop.here c.loop.invariant.run;
       within = omega (arith, steps, less);
-      dead = λ _. subst (IsStepIfAny new c.loop.here) c.in-None.is c.in_ok-next.ensures.step;
+      deadlock = λ _. subst (IsStepIfAny new c.loop.here) c.in-None.is c.in_ok-next.ensures.step;
     }
 
 pub returns-in_err-push-in-Some-clause-grows : goal.returns-in_err-push-in-Some-clause-grows
@@ -68,5 +68,5 @@ returns-clause-run c =
       end = c.loop.here;
       run = c.loop.invariant.run;
       within = omega (arith, steps, most);
-      dead = λ (less : length c.loop.run.items < c.args.depth). absurd (omega (arith, steps, over, less));
+      deadlock = λ (less : length c.loop.run.items < c.args.depth). absurd (omega (arith, steps, over, less));
     }

@@ -9,4 +9,4 @@ pub returns : goal.returns
 returns c =
     let shown = ap elements_of c.as_slice.ensures.value ∙ ap (λ p. p.elements) c.self.view_is in
     let done = subst (λ (p : List Element). (k : ℕ) → IsJoin Segment (drop k p) [] ↔ (c.min_accepting_state.result ≤ k)) shown c.min_accepting_state.ensures in
-    ending c.args.self.now.elements c.args.place.now c.min_accepting_state.result c.has_state.result done c.has_state.ensures
+    ending c.args.self.now.elements c.args.place.now c.min_accepting_state.result c.has_state_from.result done c.has_state_from.ensures

@@ -1,0 +1,3 @@
+pub mod Exploration
+pub mod MatchLabels
+pub mod ReturnedLabels

@@ -1,0 +1,92 @@
+//! Texts of specifications: their ASTs, their systems, and the steps and the normal forms of their terms.
+
+use crate::ast_lines::write_definition;
+use crate::front_end::{checked, parsed, table_of_system};
+use crate::lines::Line;
+use crate::retry_heap::{Heap, Stop};
+use crate::system_lines::{write_fault, write_system};
+use crate::table_calls::Explored;
+use lotos_check::Checked;
+use lotos_text::{Name, Specification};
+use std::alloc::AllocError;
+
+const ROWS: &[&str] = &[
+    "specification S [a,b] : exit behaviour a; (i; exit [] b; exit) endspec",
+    "specification S [a] : exit behaviour hide c in a; c; exit |[c]| c; exit endspec",
+    "specification S [a,b] : exit behaviour a; exit >> b; exit [> stop ||| exit endspec",
+    "specification S [a,b] : noexit behaviour P[a,b] || Q[a,b]
+where process P [x,y] : noexit := x; y; stop where process R : exit := exit endproc endproc
+process Q [x,y] : exit := x; exit [] y; exit endproc endspec",
+    "specification S [a,b] : noexit behaviour P[a,b] where process P [x,y] : noexit := x; P[y,x] endproc endspec",
+    "specification S [a] : noexit behaviour a; (stop [] P[a]",
+    "specification S [a] : noexit behaviour a; choice",
+    "specification S [a,A] : noexit behaviour stop endspec",
+    "specification S [a] : noexit behaviour b; stop endspec",
+    "specification S [a] : noexit behaviour Q[a] endspec",
+    "specification S [a] : noexit behaviour P[a] where process P [x,y] : noexit := stop endproc endspec",
+    "specification S : noexit behaviour stop where process P : noexit := stop endproc process p : noexit := stop endproc endspec",
+    "specification S [a] : exit behaviour P[a] where process P [x] : exit := x; stop endproc endspec",
+    "specification S [a] : noexit behaviour a; stop >> stop endspec",
+    "specification S : noexit behaviour P where process P : noexit := Q endproc process Q : noexit := P [] stop endproc endspec",
+];
+
+pub fn rows(rt: &impl Print, heap: &mut Heap) -> Result<(), Stop> {
+    for text in ROWS {
+        match parsed(heap, text) {
+            Ok(tree) => accept(rt, heap, tree, text)?,
+            Err(fault) => println!(rt; "tree: {fault:?}")?,
+        }
+    }
+    Ok(())
+}
+
+/// Writes an AST, and the result of its check.
+fn accept(rt: &impl Print, heap: &mut Heap, tree: Specification, text: &str) -> Result<(), Stop> {
+    let mut line = Line::new();
+    write_definition(&mut line, &tree.whole)?;
+    println!(rt; "tree: {line}")?;
+    let name = copied(heap, &tree.whole.name.name)?;
+    let name = name.text();
+    println!(rt; "copy: {name}")?;
+    let mut line = Line::new();
+    match checked(heap, tree, text)? {
+        Ok(system) => {
+            write_system(&mut line, &system)?;
+            println!(rt; "system:{line}")?;
+            follow(rt, heap, system, text)
+        }
+        Err(fault) => {
+            write_fault(&mut line, &fault)?;
+            Ok(println!(rt; "system:{line}")?)
+        }
+    }
+}
+
+fn copied(heap: &mut Heap, name: &Name) -> Result<Name, AllocError> {
+    match name.copy(heap.alloc) {
+        Ok(copy) => Ok(copy),
+        Err(_) => {
+            heap.count_failure();
+            name.copy(heap.alloc)
+        }
+    }
+}
+
+/// Writes the steps of the first terms of a system, then the same once more, and then the normal forms.
+fn follow(rt: &impl Print, heap: &mut Heap, system: Checked, text: &str) -> Result<(), Stop> {
+    let table = table_of_system(heap, system, text)?;
+    let mut explored = Explored::new(heap, table)?;
+    for what in ["steps", "again"] {
+        let mut line = Line::new();
+        explored.write_first(heap, &mut line)?;
+        println!(rt; "{what}:{line}")?;
+    }
+    follow_forms(rt, heap, &mut explored)
+}
+
+/// Writes the normal forms of the first terms.
+fn follow_forms(rt: &impl Print, heap: &mut Heap, explored: &mut Explored) -> Result<(), Stop> {
+    let mut line = Line::new();
+    explored.write_forms(heap, &mut line)?;
+    Ok(println!(rt; "forms:{line}")?)
+}

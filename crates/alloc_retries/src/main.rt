@@ -1,0 +1,50 @@
+//! Makes each public call that allocates, over tables of arguments, and writes what it returns.
+//!
+//! A call that runs out of memory is retried with the same arguments, and the second result is written. So the output
+//! is the same whichever one allocation fails, as long as the call reports the failure and leaves its borrowed
+//! arguments unchanged. The number of retried calls is written to standard error.
+#![tactic(auto)]
+
+mod ast_lines;
+mod check_calls;
+mod front_end;
+mod lexing_calls;
+mod lines;
+mod mark_calls;
+mod match_calls;
+mod pattern_calls;
+mod read_calls;
+mod request_calls;
+mod retry_heap;
+mod search_calls;
+mod system_lines;
+mod table_calls;
+
+use retry_heap::{Heap, Stop};
+use std::process::ExitCode;
+
+fn main(rt: HostRuntime) -> ExitCode {
+    let mut heap = Heap::new(rt.alloc());
+    let done = all(&rt, &mut heap);
+    let failures = heap.failures();
+    let said = match done {
+        Ok(()) => eprintln!(rt; "calls that were refused memory: {failures}"),
+        Err(stop) => eprintln!(rt; "stopped: {stop:?}"),
+    };
+    if done.is_ok() && said.is_ok() {
+        ExitCode::SUCCESS
+    } else {
+        ExitCode::FAILURE
+    }
+}
+
+fn all(rt: &impl Print, heap: &mut Heap) -> Result<(), Stop> {
+    lexing_calls::rows(rt, heap)?;
+    check_calls::rows(rt, heap)?;
+    pattern_calls::rows(rt, heap)?;
+    mark_calls::rows(rt, heap)?;
+    search_calls::rows(rt, heap)?;
+    match_calls::rows(rt, heap)?;
+    request_calls::rows(rt, heap)?;
+    read_calls::rows(rt, heap)
+}

@@ -1,0 +1,162 @@
+//! Shortest matches.
+ghost use Rattle.std.specs.Prelude.{◌≡◌, IfOk, Some};
+ghost use Rattle.lotos_check.specs.NameLists.{In};
+ghost use Rattle.lotos_terms.specs.TableView.{IsLabel};
+ghost use Rattle.lotos_terms.specs.declared.label.Label.{Label as TermLabel};
+ghost use Rattle.lotos_ever.specs.declared.found.Found.{Found as FoundMatch};
+
+use crate::front_end::table_of;
+use crate::lines::{Line, put, put_blank, put_number};
+use crate::pattern_calls::pattern_of;
+use crate::retry_heap::{Heap, Stop};
+use lotos_ever::laws::printed_labels_are_labels;
+use lotos_ever::{Found, Halt, find_shortest_match};
+use lotos_pattern::Pattern;
+use lotos_terms::{Label, Table};
+use std::alloc::Global;
+
+/// What a match is searched for.
+struct Question {
+    /// A specification.
+    text: &'static str,
+    words: &'static [&'static str],
+    strong: bool,
+    /// The most product states that may be stored.
+    states: usize,
+}
+
+const ROWS: &[Question] = &[
+    Question {
+        text: "specification S [a,b] : noexit behaviour a; b; stop endspec",
+        words: &["A", "B"],
+        strong: false,
+        states: 100,
+    },
+    // A call in the right operand of an enabling, with its gates swapped.
+    Question {
+        text: "specification S [a,b] : noexit behaviour P[a,b] where process P [x,y] : noexit := x; exit >> y; P[y,x] endproc endspec",
+        words: &["A", "B", "B"],
+        strong: false,
+        states: 100,
+    },
+    Question {
+        text: "specification S [a,b] : noexit behaviour b; b; b; stop [] a; i; stop endspec",
+        words: &["<until>", "<deadlock>"],
+        strong: false,
+        states: 100,
+    },
+    // A loop, whose labels are A B B A over and over.
+    Question {
+        text: "specification S [a,b] : noexit behaviour P[a,b] where process P [x,y] : noexit := x; y; P[y,x] endproc endspec",
+        words: &["<while>", "<any>", "A", "B", "A"],
+        strong: false,
+        states: 100,
+    },
+    Question {
+        text: "specification S [a,b] : noexit behaviour a; b; stop endspec",
+        words: &["<until>", "exit"],
+        strong: false,
+        states: 2,
+    },
+    Question {
+        text: "specification S [a,b] : noexit behaviour i; a; i; b; stop endspec",
+        words: &["<until>", "B"],
+        strong: true,
+        states: 100,
+    },
+    Question {
+        text: "specification S : noexit behaviour stop endspec",
+        words: &["<deadlock>"],
+        strong: false,
+        states: 100,
+    },
+];
+
+pub fn rows(rt: &impl Print, heap: &mut Heap) -> Result<(), Stop> {
+    for question in ROWS {
+        let mut line = Line::new();
+        write_answer(heap, question, &mut line)?;
+        println!(rt; "match: {line}")?;
+    }
+    Ok(())
+}
+
+/// Writes what the search for a match returns.
+fn write_answer(heap: &mut Heap, question: &Question, line: &mut Line) -> Result<(), Stop> {
+    let pattern = pattern_of(heap, question.words, question.strong)?;
+    let mut table = table_of(heap, question.text)?;
+    match find_match(heap, &mut table, &pattern, question.states) {
+        Ok(Some(found)) => write_match(line, &table, &found),
+        Ok(None) => put(line, "none"),
+        Err(Halt::TooManyStates) => write_bound(line, question.states),
+        Err(Halt::Memory) => Err(Stop::Memory),
+    }
+}
+
+/// A shortest match, retried after an allocation failure.
+fn find_match(
+    heap: &mut Heap,
+    table: &mut Table,
+    pattern: &Pattern,
+    states: usize,
+) -> Result<Option<Found>, Halt>
+    ensures { IfOk result (λ o. (found : FoundMatch) → o ≡ Some found →
+        ((k : TermLabel) → In k found.sequence.items → IsLabel table.new k) ×
+        ((k : TermLabel) → In k found.word.items → IsLabel table.new k)) }
+{
+    match find_match_once(heap.alloc, table, pattern, states) {
+        Err(Halt::Memory) => {
+            heap.count_failure();
+            find_match_once(heap.alloc, table, pattern, states)
+        }
+        answer => answer,
+    }
+}
+
+/// A shortest match. Its labels are labels of the table.
+fn find_match_once(
+    alloc: Global,
+    table: &mut Table,
+    pattern: &Pattern,
+    states: usize,
+) -> Result<Option<Found>, Halt>
+    ensures { IfOk result (λ o. (found : FoundMatch) → o ≡ Some found →
+        ((k : TermLabel) → In k found.sequence.items → IsLabel table.new k) ×
+        ((k : TermLabel) → In k found.word.items → IsLabel table.new k)) }
+{
+    printed_labels_are_labels();
+    find_shortest_match(alloc, table, pattern, states)
+}
+
+/// Writes the observed sequence and the run of a match.
+fn write_match(line: &mut Line, table: &Table, found: &Found) -> Result<(), Stop>
+    requires sequence { (k : TermLabel) → In k found.now.sequence.items → IsLabel table.now k }
+    requires word { (k : TermLabel) → In k found.now.word.items → IsLabel table.now k }
+{
+    spell(line, table, found.sequence.as_slice())?;
+    put(line, " : ")?;
+    spell(line, table, found.word.as_slice())
+}
+
+/// Writes that more states were found than the bound.
+fn write_bound(line: &mut Line, states: usize) -> Result<(), Stop> {
+    put(line, "more than ")?;
+    put_number(line, states)?;
+    put(line, " states")
+}
+
+/// Writes a sequence of labels of the table, separated by one blank each.
+fn spell(line: &mut Line, table: &Table, labels: &[Label]) -> Result<(), Stop>
+    requires known { (k : TermLabel) → In k labels.now → IsLabel table.now k }
+{
+    if labels.is_empty() {
+        put(line, "<empty>")?;
+    }
+    let mut is_first = true;
+    for label in labels {
+        put_blank(line, is_first)?;
+        put(line, table.label_text(*label))?;
+        is_first = false;
+    }
+    Ok(())
+}

@@ -1,0 +1,61 @@
+//! Words of patterns, and whether the prefixes of a sequence match.
+
+use crate::lines::{Line, put};
+use crate::retry_heap::{Heap, Stop};
+use lotos_pattern::{Pattern, PatternFault};
+use std::fmt::Write;
+
+/// Words, whether internal steps are observed, and a sequence.
+const ROWS: &[(&[&str], bool, &[&str])] = &[
+    (
+        &["A", "<any>", "b", "<until>", "c", "exit", "<deadlock>"],
+        false,
+        &["A", "exit", "B", "A", "C", "exit", "A"],
+    ),
+    (&["<while>", "a", "i"], true, &["A", "A", "i"]),
+    (&["<until>", "<deadlock>"], false, &["A"]),
+    (&["A-B"], false, &[]),
+    (&["a", "b", "c", "d", "e", "<until>"], false, &[]),
+    (&["a", "<deadlock>", "b"], false, &[]),
+    (&["A"; 257], false, &[]),
+    (&["a", "I"], false, &[]),
+    (&["<while>", "<while>"], false, &[]),
+];
+
+pub fn rows(rt: &impl Print, heap: &mut Heap) -> Result<(), Stop> {
+    for (words, strong, sequence) in ROWS {
+        let mut line = Line::new();
+        match pattern_of(heap, words, *strong) {
+            Ok(pattern) => write_ends(&mut line, &pattern, sequence)?,
+            Err(fault) => write!(line, " {fault:?}")?,
+        }
+        println!(rt; "pattern:{line}")?;
+    }
+    Ok(())
+}
+
+pub fn pattern_of(heap: &mut Heap, words: &[&str], strong: bool) -> Result<Pattern, PatternFault> {
+    match Pattern::read(heap.alloc, words, strong) {
+        Err(PatternFault::E99(_)) => {
+            heap.count_failure();
+            Pattern::read(heap.alloc, words, strong)
+        }
+        answer => answer,
+    }
+}
+
+/// Writes whether each prefix of the sequence may end there, up to the first that the pattern cannot match.
+fn write_ends(line: &mut Line, pattern: &Pattern, sequence: &[&str]) -> Result<(), Stop> {
+    let mut place = pattern.begin();
+    let end = pattern.accepts(place);
+    write!(line, " {end:?}")?;
+    for label in sequence {
+        let Some(next) = pattern.step(place, label) else {
+            return put(line, " none");
+        };
+        place = next;
+        let end = pattern.accepts(place);
+        write!(line, " {end:?}")?;
+    }
+    Ok(())
+}

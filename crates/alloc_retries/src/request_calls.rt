@@ -1,0 +1,45 @@
+//! Words of the command line.
+
+use crate::retry_heap::{Heap, Stop};
+use lotos_command::{CommandFault, Request, request};
+
+const ROWS: &[&[&str]] = &[
+    &["lotosseq", "check"],
+    &[
+        "lotosseq",
+        "search",
+        "--after=A : i A",
+        "--depth",
+        "+7",
+        "--strong",
+        "--limit",
+        "3",
+        "--",
+        "-x",
+        "A",
+    ],
+    &["lotosseq", "search", "--depth", "256"],
+    &["lotosseq", "check", "-h"],
+];
+
+pub fn rows(rt: &impl Print, heap: &mut Heap) -> Result<(), Stop> {
+    for words in ROWS {
+        match parsed_request(heap, words) {
+            Ok(found) => println!(rt; "request: {found:?}")?,
+            Err(CommandFault::Help(text)) => println!(rt; "request: help\n{text}")?,
+            Err(CommandFault::Wrong(text)) => println!(rt; "request: wrong\n{text}")?,
+            Err(CommandFault::Memory) => println!(rt; "request: out of memory")?,
+        }
+    }
+    Ok(())
+}
+
+fn parsed_request(heap: &mut Heap, words: &[&str]) -> Result<Request, CommandFault> {
+    match request(heap.alloc, words) {
+        Err(CommandFault::Memory) => {
+            heap.count_failure();
+            request(heap.alloc, words)
+        }
+        answer => answer,
+    }
+}

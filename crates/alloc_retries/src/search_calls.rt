@@ -1,0 +1,213 @@
+//! Listings. A search that runs out of memory is begun again after its last item.
+ghost use Rattle.lotos_check.specs.NameLists.{In};
+ghost use Rattle.lotos_terms.specs.TableView.{IsPrintedAs};
+ghost use Rattle.lotos_terms.specs.declared.label.Label.{Label as TermLabel};
+ghost use Rattle.lotos_search.specs.Order.{Label as Text};
+
+use crate::front_end::table_of;
+use crate::lines::{Line, put, put_blank};
+use crate::mark_calls::mark_of;
+use crate::pattern_calls::pattern_of;
+use crate::retry_heap::{Heap, Stop};
+use lotos_search::{Halt, Search};
+use lotos_terms::Label;
+use std::alloc::AllocError;
+
+/// More calls than any listing here takes.
+const MOST_CALLS: usize = 50;
+
+/// What is searched for.
+#[derive(Clone, Copy)]
+struct Question {
+    /// The functionality and the behaviour of a specification, and what follows them.
+    text: &'static str,
+    words: &'static [&'static str],
+    strong: bool,
+    depth: u8,
+    /// The line after which the listing starts; empty for none.
+    after: &'static str,
+    terms: usize,
+}
+
+const ENDS: &[&str] = &["<until>", "<deadlock>"];
+
+const DISABLING: Question = Question {
+    text: "specification S [a,b] : exit behaviour a; exit [> b; stop endspec",
+    words: ENDS,
+    strong: false,
+    depth: 2,
+    after: "",
+    terms: 100,
+};
+
+const BRANCHES: &str =
+    "specification S [a,b] : noexit behaviour a; stop [] b; stop [] b; a; stop endspec";
+
+const ROWS: &[Question] = &[
+    DISABLING,
+    Question {
+        after: "B",
+        ..DISABLING
+    },
+    Question {
+        text: "specification S [a,b] : noexit behaviour i; a; stop [] a; b; stop endspec",
+        words: &["A", "<deadlock>"],
+        ..DISABLING
+    },
+    Question {
+        text: "specification S [a] : exit behaviour P[a] where process P [x] : exit := x; exit >> P[x] endproc endspec",
+        words: &["A", "A", "A"],
+        depth: 5,
+        ..DISABLING
+    },
+    Question {
+        text: "specification S [a,b] : noexit behaviour hide a in a; b; stop [] b; stop endspec",
+        strong: true,
+        ..DISABLING
+    },
+    Question {
+        text: BRANCHES,
+        words: &["<any>"],
+        terms: 1,
+        ..DISABLING
+    },
+    Question {
+        text: "specification S [a,b] : noexit behaviour a; b; b; stop endspec",
+        words: &["<while>", "<any>"],
+        depth: 3,
+        ..DISABLING
+    },
+    Question {
+        text: "specification S [a] : noexit behaviour P[a,a] where process P [x,y] : noexit := x; stop |[x]| y; x; stop endproc endspec",
+        ..DISABLING
+    },
+    Question {
+        text: "specification S [a,b,c] : noexit behaviour (a; stop ||| b; stop) ||| c; stop endspec",
+        words: &["<until>", "exit"],
+        depth: 4,
+        ..DISABLING
+    },
+];
+
+pub fn rows(rt: &impl Print, heap: &mut Heap) -> Result<(), Stop> {
+    for question in ROWS {
+        let mut line = Line::new();
+        list(heap, question, &mut line)?;
+        println!(rt; "listing: {line}")?;
+    }
+    Ok(())
+}
+
+/// Writes the items of a listing, and how it ends.
+fn list(heap: &mut Heap, question: &Question, line: &mut Line) -> Result<(), Stop> {
+    let mut last = Line::new();
+    put(&mut last, question.after)?;
+    let mut search = begin(heap, question, last.as_str())?;
+    for _ in 0..MOST_CALLS {
+        match advance(&mut search, line, &mut last)? {
+            NextResult::Item => {}
+            NextResult::End => return Ok(()),
+            NextResult::Refusal => {
+                heap.count_failure();
+                fail(&mut search)?;
+                search = begin(heap, question, last.as_str())?;
+            }
+        }
+    }
+    Err(Stop::Row)
+}
+
+fn begin(heap: &mut Heap, question: &Question, after: &str) -> Result<Search, Stop> {
+    match begun(heap, question, after)? {
+        Ok(search) => Ok(search),
+        Err(_) => {
+            heap.count_failure();
+            Ok(begun(heap, question, after)??)
+        }
+    }
+}
+
+fn begun(
+    heap: &mut Heap,
+    question: &Question,
+    after: &str,
+) -> Result<Result<Search, AllocError>, Stop> {
+    if question.terms == 0 {
+        return Err(Stop::Row);
+    }
+    let pattern = pattern_of(heap, question.words, question.strong)?;
+    let mark = if after.is_empty() {
+        None
+    } else {
+        Some(mark_of(heap, after, question.strong)?)
+    };
+    let table = table_of(heap, question.text)?;
+    Ok(Search::begin(
+        heap.alloc,
+        table,
+        pattern,
+        question.depth,
+        mark,
+        question.terms,
+    ))
+}
+
+/// Fails unless a search that ran out of memory returns `Halt::Failed`, again and again.
+fn fail(search: &mut Search) -> Result<(), Stop> {
+    for _ in 0..2 {
+        if !matches!(search.next(), Err(Halt::Failed)) {
+            return Err(Stop::Row);
+        }
+    }
+    Ok(())
+}
+
+/// What a call of the search returns.
+enum NextResult {
+    Item,
+    End,
+    Refusal,
+}
+
+/// Writes what a call returns, and stores the sequence of an item as the last one.
+fn advance(search: &mut Search, line: &mut Line, last: &mut Line) -> Result<NextResult, Stop> {
+    match search.next() {
+        Ok(Some(found)) => {
+            last.clear();
+            spell(last, search, found.sequence.as_slice())?;
+            put(line, last.as_str())?;
+            put(line, " : ")?;
+            spell(line, search, found.word.as_slice())?;
+            put(line, "; ")?;
+            Ok(NextResult::Item)
+        }
+        Ok(None) => {
+            put(line, "end")?;
+            Ok(NextResult::End)
+        }
+        Err(Halt::OverTerms(labels)) => {
+            put(line, "over ")?;
+            spell(line, search, labels.as_slice())?;
+            Ok(NextResult::End)
+        }
+        Err(Halt::Memory) => Ok(NextResult::Refusal),
+        Err(Halt::Failed) => Err(Stop::Row),
+    }
+}
+
+/// Writes a sequence of labels of the search, separated by one blank each.
+fn spell(line: &mut Line, search: &Search, labels: &[Label]) -> Result<(), Stop>
+    requires known { (k : TermLabel) → In k labels.now → (text : Text) ×
+        IsPrintedAs search.now.question.names k text }
+{
+    if labels.is_empty() {
+        put(line, "<empty>")?;
+    }
+    let mut is_first = true;
+    for label in labels {
+        put_blank(line, is_first)?;
+        put(line, search.label_text(*label))?;
+        is_first = false;
+    }
+    Ok(())
+}

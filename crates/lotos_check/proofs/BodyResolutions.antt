@@ -1,0 +1,141 @@
+-- The resolution of many bodies, one by one.
+use Rattle.std.specs.Prelude.{◌≡◌, ℕ, suc, ◌+◌, ◌<◌, length, get_or, drop, List, [], ◌∷◌, ◌++◌, IfErr, IsErrAnd, Result, Ok, Err}
+use Rattle.std.specs.HashMap.{HashMap}
+use Rattle.std.proofs.Common.{refl, sym, subst, append_assoc, append-nil, ap, ◌∙◌, drop-cons, add-one, inl, inr}
+use Rattle.lotos_text.specs.AstView.{DefinitionView, def, DefinitionListView, more_defs, formals_of, body_of, inner_of}
+use Rattle.lotos_text.specs.AstOf.{definition_view, definitions_view}
+use Rattle.lotos_text.specs.declared.ast.Definition.{Definition, out-Definition}
+use Rattle.lotos_text.specs.declared.ast.Placed.{Placed}
+use Rattle.lotos_check.specs.NameLists.{Name, In, texts}
+use Rattle.lotos_check.specs.Scope.{Scope, ScopedDefinition, count, within, definitions_in_scope, definition_in_scope}
+use Rattle.lotos_check.specs.ProcessScopes.{HasNames, IsScopeStack, BindsAll}
+use Rattle.lotos_check.specs.Flat.{Pairwise, no_pair, one_pair}
+use Rattle.lotos_check.specs.Resolution.{IsResolved, IsNameFault, AddsBodies, IsNameFaultIn}
+use Rattle.lotos_check.specs.declared.resolved_body.ResolvedBody.{ResolvedBody}
+use Rattle.lotos_check.specs.declared.process_scope.Binding.{Binding}
+use Rattle.lotos_check.specs.declared.fault.CheckFault.{CheckFault}
+use Rattle.lotos_check.specs.declared.fault.CheckFault.TheVariants.{E99}
+use Rattle.std.specs.declared.alloc.AllocError.{AllocError}
+use Rattle.lotos_check.proofs.DefinitionParts.{formals_shown, inner_shown}
+
+pairs_append : {X Y : Type 0} {P : X → Y → Type 0} (xs us : List X) (ys vs : List Y) → Pairwise P xs ys → Pairwise P us vs →
+    Pairwise P (xs ++ us) (ys ++ vs)
+pairs_append [] us [] vs no_pair q = q
+pairs_append [] us (y ∷ ys) vs h q = elim h [ ]
+pairs_append (x ∷ xs) us [] vs h q = elim h [ ]
+pairs_append (x ∷ xs) us (y ∷ ys) vs (one_pair p r) q = one_pair p (pairs_append xs us ys vs r q)
+
+-- what is found of these and then of those is found of both
+pub adds_append : (these those : List ScopedDefinition) (old between new : List ResolvedBody) → AddsBodies these old between →
+    AddsBodies those between new →
+    AddsBodies (these ++ those) old new
+adds_append these those old between new h k = record {
+  more = h.more ++ k.more;
+  joined = rw (k.joined, h.joined) (append_assoc old h.more k.more);
+  found = pairs_append these those h.more k.more h.found k.found;
+}
+
+-- of no definitions nothing is found
+pub adds_none : (old : List ResolvedBody) → AddsBodies [] old old
+adds_none old = record { more = []; joined = sym (append-nil old); found = no_pair }
+
+-- definitions are listed as the first with its inner ones, and then the others
+pub listed_more : (scope : Scope) (first : ℕ) (d : DefinitionView) (ds : DefinitionListView) →
+    definitions_in_scope scope first (more_defs d ds) ≡ definition_in_scope scope (first + 1) d ++ definitions_in_scope scope (first + 1 + count (inner_of d)) ds
+listed_more scope first (def name formals declared body inner) ds = refl
+
+-- the number of definitions, by the first
+pub count_more : (d : DefinitionView) (ds : DefinitionListView) → count (more_defs d ds) ≡ 1 + count (inner_of d) + count ds
+count_more (def name formals declared body inner) ds = refl
+
+-- what is found of a definition, and then of its inner ones
+pub adds_first : (scope : Scope) (first : ℕ) (d : DefinitionView) (old between new : List ResolvedBody) (found : ResolvedBody) →
+    between ≡ old ++ found ∷ [] → IsResolved (within d first scope) (texts (formals_of d)) (body_of d) found →
+    AddsBodies (definitions_in_scope (within d first scope) first (inner_of d)) between new → AddsBodies (definition_in_scope scope first d) old new
+adds_first scope first d old between new found pushed body h = record {
+  more = found ∷ h.more;
+  joined = rw (h.joined, pushed) (append_assoc old (found ∷ []) h.more);
+  found = one_pair body h.found;
+}
+
+in_left : {X : Type 0} (x : X) (these those : List X) → In x these → In x (these ++ those)
+in_left x [] those h = absurd h
+in_left x (y ∷ these) those (inl e) = inl e
+in_left x (y ∷ these) those (inr h) = inr (in_left x these those h)
+
+in_right : {X : Type 0} (x : X) (these those : List X) → In x those → In x (these ++ those)
+in_right x [] those h = h
+in_right x (y ∷ these) those h = inr (in_right x these those h)
+
+-- a fault in one of these
+pub misnamed_left : (these those : List ScopedDefinition) (fault : CheckFault) → IsNameFaultIn these fault →
+    IsNameFaultIn (these ++ those) fault
+misnamed_left these those fault h = record {
+  scoped = h.scoped;
+  located = in_left h.scoped these those h.located;
+  misnamed = h.misnamed;
+}
+
+-- a fault in one of those
+pub misnamed_right : (these those : List ScopedDefinition) (fault : CheckFault) → IsNameFaultIn those fault →
+    IsNameFaultIn (these ++ those) fault
+misnamed_right these those fault h = record {
+  scoped = h.scoped;
+  located = in_right h.scoped these those h.located;
+  misnamed = h.misnamed;
+}
+
+-- a fault in the definition's own body
+pub misnamed_here : (scope : Scope) (first : ℕ) (d : DefinitionView) (fault : CheckFault) →
+    IsNameFault (within d first scope) (texts (formals_of d)) (body_of d) fault → IsNameFaultIn (definition_in_scope scope first d) fault
+misnamed_here scope first d fault h = record {
+  scoped = record { scope = within d first scope; definition = d };
+  located = inl refl;
+  misnamed = h;
+}
+
+-- a fault in one of its inner definitions
+pub misnamed_inside : (scope : Scope) (first : ℕ) (d : DefinitionView) (fault : CheckFault) →
+    IsNameFaultIn (definitions_in_scope (within d first scope) first (inner_of d)) fault → IsNameFaultIn (definition_in_scope scope first d) fault
+misnamed_inside scope first d fault h = record { scoped = h.scoped; located = inr h.located; misnamed = h.misnamed }
+
+-- a fault that a result carries on
+pub carried_on : {X E : Type 0} (result : Result X E) (P : E → Type 0) (fault : E) → IsErrAnd result (λ x. x ≡ fault) →
+    P fault →
+    IfErr result P
+carried_on (Ok x) P fault e h = absurd e
+carried_on (Err x) P fault e h = subst P (sym e) h
+
+-- memory was wanting
+pub no_memory : (scope : Scope) (first : ℕ) (d : DefinitionView) (error : AllocError) → IsNameFaultIn (definition_in_scope scope first d) (E99 error)
+no_memory scope first d error = misnamed_here scope first d (E99 error) tt
+
+-- the items from an index on are the item there and those after it
+pub rest_at : (items : List Definition) (index : ℕ) (item : Definition) → index < length items →
+    item ≡ get_or items index item →
+    drop index items ≡ item ∷ drop (index + 1) items
+rest_at items index item below is =
+    rw (drop-cons items index item below, add-one) (ap (λ x. x ∷ drop (suc index) items) (sym is))
+
+-- what a stack shows on which the table of the definition's own `where` was pushed
+pub shows_inside : {K S : Type 0} (now : K → Name) (of : Definition) (list : List Definition) (first : ℕ)
+    (own : HashMap K Binding S) (outer all : List (HashMap K Binding S)) →
+    list ≡ (out-Definition of).inner.items → BindsAll now (definitions_view list) first own → all ≡ outer ++ own ∷ [] →
+    (scope : Scope) → IsScopeStack now outer scope → IsScopeStack now all (within (definition_view of) first scope)
+shows_inside now of list first own outer all same tabulates pushed scope shows =
+    let inner : definitions_view list ≡ inner_of (definition_view of) = ap definitions_view same ∙ inner_shown of in
+    (outer, own, pushed, subst (λ ds. BindsAll now ds first own) inner tabulates, shows)
+
+module _ {K : Type 0} (now : K → Name) where
+  knows_none : (keys : List K) → keys ≡ [] → HasNames now keys []
+  knows_none keys e = rw e (λ n. (λ h. h, λ h. h))
+
+  -- the formal gates are in scope if they were added to an empty scope
+  pub knows_formals : (of : Definition) (list : List Placed) (before after : List K) →
+      list ≡ (out-Definition of).formals.items → before ≡ [] →
+      ((names : List Name) → HasNames now before names → HasNames now after (texts list ++ names)) →
+      HasNames now after (texts (formals_of (definition_view of)))
+  knows_formals of list before after same empty added =
+      let formals : list ≡ formals_of (definition_view of) = same ∙ formals_shown of in
+      let all = added [] (knows_none before empty) in
+      subst (λ gates. HasNames now after (texts gates)) formals (subst (λ names. HasNames now after names) (append-nil (texts list)) all)

@@ -1,0 +1,136 @@
+use Rattle.std.specs.Prelude.{◌≡◌, ◌+◌, ◌<◌, ◌≤◌, length, drop}
+use Rattle.std.proofs.Common.{refl, ap, ◌∙◌, subst, arith}
+use Rattle.std.proofs.lemmas.List.{drop_all}
+use Rattle.lotos_text.specs.AstView.{inner_of, formals_of}
+use Rattle.lotos_text.specs.AstOf.{definition_view, definitions_view}
+use Rattle.lotos_check.specs.Scope.{count, within, definitions_in_scope, definition_in_scope}
+use Rattle.lotos_check.specs.NameLists.{texts}
+use Rattle.lotos_check.specs.Resolution.{AddsBodies, IsNameFaultIn, IsResolved, IsNameFault}
+use Rattle.lotos_check.proofs.DefinitionParts.{body_shown, inner_shown}
+use Rattle.lotos_check.proofs.BodyResolutions.{adds_append, adds_none, adds_first, listed_more, count_more, misnamed_left, misnamed_right, misnamed_here, misnamed_inside, carried_on, no_memory, rest_at, shows_inside, knows_formals}
+use Rattle.lotos_check.proofs.body_resolution.+resolve_bodies.Goals as goal
+
+pub returns-in_err-own-clause-name_fault : goal.returns-in_err-own-clause-name_fault
+returns-in_err-own-clause-name_fault t c =
+    carried_on c.from_residual.result _ _ c.from_residual.ensures.1
+    (λ scope shows. no_memory scope c.args.first (definition_view c.args.definition.now) _)
+
+pub returns-in_err-push-clause-name_fault : goal.returns-in_err-push-clause-name_fault
+returns-in_err-push-clause-name_fault t c =
+    carried_on c.from_residual-in_err-push.result _ _ c.from_residual-in_err-push.ensures.1
+    (λ scope shows. no_memory scope c.args.first (definition_view c.args.definition.now) _)
+
+pub returns-in_err-add_gates-clause-name_fault : goal.returns-in_err-add_gates-clause-name_fault
+returns-in_err-add_gates-clause-name_fault t c =
+    carried_on c.from_residual-in_err-add_gates.result _ _ c.from_residual-in_err-add_gates.ensures.1
+    (λ scope shows. no_memory scope c.args.first (definition_view c.args.definition.now) _)
+
+pub returns-in_err-push-2-clause-name_fault : goal.returns-in_err-push-2-clause-name_fault
+returns-in_err-push-2-clause-name_fault t c =
+    carried_on c.from_residual-in_err-push-2.result _ _ c.from_residual-in_err-push-2.ensures.1
+    (λ scope shows. no_memory scope c.args.first (definition_view c.args.definition.now) _)
+
+pub returns-in_err-found-clause-name_fault : goal.returns-in_err-found-clause-name_fault
+returns-in_err-found-clause-name_fault t c =
+    carried_on c.from_residual-in_err-found.result _ _ c.from_residual-in_err-found.ensures.1 (λ scope shows.
+    let of = c.args.definition.now in
+    let d = definition_view of in
+    let w = within d c.args.first scope in
+    let all = shows_inside (λ k. k.now) of c.as_slice.result.now c.args.first c.in_ok-own.own c.args.scopes.now.items
+    c.push.new.self.items c.as_slice.ensures.value c.in_ok-own.ensures c.in_ok-push.ensures.items scope shows in
+    let knows = knows_formals (λ k. k.now) of c.as_slice-2.result.now c.new-gates_in_scope.result.keys c.add_gates.new.scope.keys
+    c.as_slice-2.ensures.value c.new-gates_in_scope.ensures.empty c.in_ok-add_gates.ensures.added in
+    let fault = c.in_err-found.field-0.0 in
+    let body = c.in_err-found.ensures.resolved w (texts (formals_of d)) (rw c.as_slice-3.ensures.value all) knows in
+    misnamed_here scope c.args.first d fault
+    (subst (λ b. IsNameFault w (texts (formals_of d)) b fault) (body_shown of) body))
+
+pub returns-in_err-resolve_bodies-clause-name_fault : goal.returns-in_err-resolve_bodies-clause-name_fault
+returns-in_err-resolve_bodies-clause-name_fault t c =
+    carried_on c.from_residual-in_err-resolve_bodies.result _ _ c.from_residual-in_err-resolve_bodies.ensures.1 (λ scope shows.
+    let of = c.args.definition.now in
+    let d = definition_view of in
+    let w = within d c.args.first scope in
+    let all = shows_inside (λ k. k.now) of c.as_slice.result.now c.args.first c.in_ok-own.own c.args.scopes.now.items
+    c.push.new.self.items c.as_slice.ensures.value c.in_ok-own.ensures c.in_ok-push.ensures.items scope shows in
+    let items = c.deref-inner-items.result.now in
+    let index = c.loop-inner.inner-index in
+    let below : index < length items = omega arith in
+    let left = rest_at items index c.inner-item.result below c.inner-item.is in
+    let one = definition_view c.inner-item.result in
+    let rest = definitions_view (drop (index + 1) items) in
+    let fault = c.in_err-resolve_bodies.field-0.0 in
+    let number = c.loop-inner.number in
+    let here = c.in_err-resolve_bodies.ensures.name_fault w (rw c.loop-inner.invariant.stack all) in
+    misnamed_inside scope c.args.first d fault (c.loop-inner.invariant.misnamed w all fault
+    (rw (left, listed_more w number one rest)
+    (misnamed_left (definition_in_scope w (number + 1) one) (definitions_in_scope w (number + 1 + count (inner_of one)) rest) fault here))))
+
+pub count_inner-requires : goal.count_inner-requires
+count_inner-requires t c =
+    let items = c.deref-inner-items.result.now in
+    let index = c.loop-inner.inner-index in
+    let below : index < length items = omega arith in
+    let left = rest_at items index c.inner-item.result below c.inner-item.is in
+    let one = definition_view c.inner-item.result in
+    let rest = definitions_view (drop (index + 1) items) in
+    let more = count_more one rest in
+    let number = rw left at c.loop-inner.invariant.number in
+    omega (arith, c.requires)
+
+pub loop-inner-init : goal.loop-inner-init
+loop-inner-init t c =
+    let of = c.args.definition.now in
+    let inner : definitions_view c.deref-inner-items.result.now ≡ inner_of (definition_view of) =
+    ap definitions_view c.deref-inner-items.ensures.value ∙ inner_shown of in
+    record {
+      number = ap (λ ds. c.args.first + count ds) inner;
+      stack = refl;
+      adds = λ scope shows new h. subst (λ ds. AddsBodies (definitions_in_scope scope c.args.first ds) c.push-2.new.self.items new) inner h;
+      misnamed = λ scope shows fault h. subst (λ ds. IsNameFaultIn (definitions_in_scope scope c.args.first ds) fault) inner h;
+    }
+
+pub loop-inner-preserved : goal.loop-inner-preserved
+loop-inner-preserved t c =
+    let items = c.deref-inner-items.result.now in
+    let index = c.loop-inner.inner-index in
+    let below : index < length items = omega arith in
+    let left = rest_at items index c.inner-item.result below c.inner-item.is in
+    let one = definition_view c.inner-item.result in
+    let rest = definitions_view (drop (index + 1) items) in
+    let more = count_more one rest in
+    let before = c.loop-inner.number in
+    let number = rw left at c.loop-inner.invariant.number in
+    let counted = c.count_inner.ensures in
+    let same : before + (1 + c.count_inner.result) ≡ before + 1 + count (inner_of one) = omega arith in
+    record {
+      number = omega arith;
+      stack = c.in_ok-resolve_bodies.ensures.stack ∙ c.loop-inner.invariant.stack;
+      adds = λ scope shows new h.
+          let later = subst (λ k. AddsBodies (definitions_in_scope scope k rest) c.resolve_bodies.new.into.items new) same h in
+          let here = c.in_ok-resolve_bodies.ensures.adds scope (rw c.loop-inner.invariant.stack shows) in
+          c.loop-inner.invariant.adds scope shows new (rw (left, listed_more scope before one rest)
+          (adds_append (definition_in_scope scope (before + 1) one) (definitions_in_scope scope (before + 1 + count (inner_of one)) rest)
+          c.loop-inner.into.items c.resolve_bodies.new.into.items new here later));
+      misnamed = λ scope shows fault h.
+          let later = subst (λ k. IsNameFaultIn (definitions_in_scope scope k rest) fault) same h in
+          c.loop-inner.invariant.misnamed scope shows fault (rw (left, listed_more scope before one rest)
+          (misnamed_right (definition_in_scope scope (before + 1) one) (definitions_in_scope scope (before + 1 + count (inner_of one)) rest) fault
+          later));
+    }
+
+pub returns-clause-adds : goal.returns-clause-adds
+returns-clause-adds t c = λ scope shows.
+    let of = c.args.definition.now in
+    let d = definition_view of in
+    let w = within d c.args.first scope in
+    let all = shows_inside (λ k. k.now) of c.as_slice.result.now c.args.first c.in_ok-own.own c.args.scopes.now.items
+    c.push.new.self.items c.as_slice.ensures.value c.in_ok-own.ensures c.in_ok-push.ensures.items scope shows in
+    let knows = knows_formals (λ k. k.now) of c.as_slice-2.result.now c.new-gates_in_scope.result.keys c.add_gates.new.scope.keys
+    c.as_slice-2.ensures.value c.new-gates_in_scope.ensures.empty c.in_ok-add_gates.ensures.added in
+    let past : length c.deref-inner-items.result.now ≤ c.loop-inner.inner-index = omega arith in
+    let none = drop_all c.loop-inner.inner-index c.deref-inner-items.result.now past in
+    let inside = c.loop-inner.invariant.adds w all c.loop-inner.into.items (rw none (adds_none c.loop-inner.into.items)) in
+    let body = c.in_ok-found.ensures.resolved w (texts (formals_of d)) (rw c.as_slice-3.ensures.value all) knows in
+    adds_first scope c.args.first d _ _ _ c.in_ok-found.found c.in_ok-push-2.ensures.items
+    (subst (λ b. IsResolved w (texts (formals_of d)) b c.in_ok-found.found) (body_shown of) body) inside

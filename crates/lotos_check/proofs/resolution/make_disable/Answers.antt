@@ -1,8 +1,0 @@
-use Rattle.std.proofs.Common.{refl}
-use Rattle.lotos_check.proofs.Forms.{found_disable}
-use Rattle.lotos_check.proofs.resolution.make_disable.Goals as goal
-
-pub returns : goal.returns
-returns c = λ scope gates left right h k.
-    found_disable scope gates left right c.args.first c.args.second _ h k
-    (rw (c.in_ok-new.ensures.ok, c.in_ok-new-2.ensures.ok) refl) c.exits_if_either.ensures c.or.ensures

@@ -1,7 +1,0 @@
-use Rattle.std.proofs.Common.{refl}
-use Rattle.lotos_check.proofs.Forms.{found_prefix}
-use Rattle.lotos_check.proofs.resolution.make_prefix.Goals as goal
-
-pub returns : goal.returns
-returns c = λ scope gates action body same given h.
-    found_prefix scope gates action body c.args.inner _ given h (rw (c.in_ok-new.ensures.ok, same) refl) refl refl

@@ -1,0 +1,53 @@
+//! The resolution of all bodies, in the order of the text.
+ghost use Rattle.std.specs.Prelude.{◌≡◌, ◌+◌, ◌<◌, ◌^◌, IfErr, OnOk};
+ghost use Rattle.lotos_text.specs.AstView.{inner_of};
+ghost use Rattle.lotos_text.specs.AstOf.{definition_view};
+ghost use Rattle.lotos_check.specs.Scope.{Scope, count, definition_in_scope};
+ghost use Rattle.lotos_check.specs.ProcessScopes.{IsScopeStack};
+ghost use Rattle.lotos_check.specs.Resolution.{AddsBodies, IsNameFaultIn};
+
+use crate::fault::CheckFault;
+use crate::gate_scope::add_gates;
+use crate::process_scope::{Binding, bind_definitions, count_inner};
+use crate::resolution::resolve;
+use crate::resolved_body::ResolvedBody;
+use indexmap::{IndexMap, IndexSet};
+use lotos_text::Definition;
+use std::alloc::Global;
+
+/// Appends the resolutions of a definition's body and of those of its inner definitions, which are numbered from
+/// `first` on. `scopes` are the processes visible around the definition; they are unchanged unless it fails.
+pub(crate) fn resolve_bodies<'a>(
+    alloc: Global,
+    scopes: &mut Vec<IndexMap<&'a str, Binding<'a>>>,
+    definition: &'a Definition,
+    first: usize,
+    into: &mut Vec<ResolvedBody>,
+) -> Result<(), CheckFault>
+    requires { first + count (inner_of (definition_view definition.now)) < 2 ^ 63 }
+    ensures stack { OnOk result (scopes.new.items ≡ scopes.old.items) }
+    ensures adds { OnOk result ((scope : Scope) → IsScopeStack (λ k. k.now) scopes.old.items scope →
+        AddsBodies (definition_in_scope scope first (definition_view definition.now)) into.old.items into.new.items) }
+    ensures name_fault { IfErr result (λ fault. (scope : Scope) →
+        IsScopeStack (λ k. k.now) scopes.old.items scope →
+        IsNameFaultIn (definition_in_scope scope first (definition_view definition.now)) fault) }
+{
+    let own = bind_definitions(alloc, definition.inner.as_slice(), first)?;
+    scopes.push(own)?;
+    let mut gates_in_scope = IndexSet::new(alloc);
+    add_gates(&mut gates_in_scope, definition.formals.as_slice())?;
+    let found = resolve(
+        alloc,
+        scopes.as_slice(),
+        &mut gates_in_scope,
+        &definition.body,
+    )?;
+    into.push(found)?;
+    let mut number = first;
+    for inner in &definition.inner {
+        resolve_bodies(alloc, scopes, inner, number + 1, into)?;
+        number += 1 + count_inner(inner);
+    }
+    scopes.pop();
+    Ok(())
+}

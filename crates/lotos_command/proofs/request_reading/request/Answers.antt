@@ -1,0 +1,43 @@
+use Rattle.std.proofs.Common.{ap, sym, subst, true, ◌∙◌, ◌≡◌, []}
+use Rattle.clap.specs.Words.{App, HasKind, fault_of, is_simple, is_simple_and_free, kind_of, subcommand_of, subcommand_rows_of, takes}
+use Rattle.lotos_command.specs.CommandRules.{lotosseq}
+use Rattle.lotos_command.specs.EntryRules.{FitsRequest}
+use Rattle.lotos_command.specs.Request.{request_from, texts_of}
+use Rattle.lotos_command.proofs.CommandFacts.{simple, simple_and_free}
+use Rattle.lotos_command.proofs.FaultKinds.{fault_known, memory_known}
+use Rattle.lotos_command.proofs.RequestFits.{request_fits}
+use Rattle.lotos_command.proofs.request_reading.request.Goals as goal
+
+pub read_request-requires : goal.read_request-requires
+read_request-requires c =
+    let app = c.in_ok-lotosseq_command.ensures in
+    let words = texts_of c.args.words.now in
+    let none : fault_of lotosseq words ≡ [] =
+    subst (λ (a : App). fault_of a words ≡ []) app (c.in-Ok.ensures.kinds (ap is_simple_and_free app ∙ simple_and_free)) in
+    let given : subcommand_rows_of c.in-Ok.found ≡ subcommand_of lotosseq words =
+    (c.in-Ok.ensures.matches (ap is_simple app ∙ simple)).1 ∙ ap (λ (a : App). subcommand_of a words) app in
+    subst FitsRequest (sym given) (request_fits words none)
+
+pub returns-in_ok-read_request-in-Ok-clause-is : goal.returns-in_ok-read_request-in-Ok-clause-is
+returns-in_ok-read_request-in-Ok-clause-is c =
+    let app = c.in_ok-lotosseq_command.ensures in
+    let words = texts_of c.args.words.now in
+    let none : fault_of lotosseq words ≡ [] =
+    subst (λ (a : App). fault_of a words ≡ []) app (c.in-Ok.ensures.kinds (ap is_simple_and_free app ∙ simple_and_free)) in
+    let given : subcommand_rows_of c.in-Ok.found ≡ subcommand_of lotosseq words =
+    (c.in-Ok.ensures.matches (ap is_simple app ∙ simple)).1 ∙ ap (λ (a : App). subcommand_of a words) app in
+    record { faultless = none; reads = ap request_from (sym given) ∙ c.in_ok-read_request-in-Ok.ensures.is }
+
+pub returns-in-Err-clause-fault : goal.returns-in-Err-clause-fault
+returns-in-Err-clause-fault c =
+    let app = c.in_ok-lotosseq_command.ensures in
+    let words = texts_of c.args.words.now in
+    let kinds = c.in-Err.ensures.kinds (ap is_simple_and_free app ∙ simple_and_free) in
+    fault_known words c.in-Err.error c.command_fault.result (subst (λ (a : App). HasKind (fault_of a words) c.in-Err.error) app kinds) c.command_fault.ensures
+
+pub returns-in-Err-clause-taken : goal.returns-in-Err-clause-taken
+returns-in-Err-clause-taken c = λ taken.
+    let app = c.in_ok-lotosseq_command.ensures in
+    let words = texts_of c.args.words.now in
+    let mine : takes lotosseq words ≡ true = taken in
+    memory_known (kind_of c.in-Err.error) c.command_fault.result (c.in-Err.ensures.passes (ap (λ (a : App). takes a words) app ∙ mine)) c.command_fault.ensures

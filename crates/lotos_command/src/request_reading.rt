@@ -1,0 +1,179 @@
+//! The request in the words of a command line, read by clap.
+ghost use Rattle.std.specs.Prelude.{◌≡◌, ◌≤◌, IfErr, IfOk, IfSome, IsSomeAnd, Some, map, [], codes, option_map, string_bytes, unwrap_or};
+ghost use Rattle.std.specs.Option.{option_map_or};
+ghost use Rattle.clap.specs.Words.{all_of, first_of, found_of, kind_of, one_of, rows_of, subcommand_rows_of};
+ghost use Rattle.lotos_command.specs.CommandFaults.{AreAccepted, IsFaultOfKind, IsFaultOf};
+ghost use Rattle.lotos_command.specs.EntryRules.{FitsEver, FitsRequest, FitsSearch, IsNumberIn, IsTruthText};
+ghost use Rattle.lotos_command.specs.Request.{HasBounds, HasSearchBounds, RequestOf, ever_from, ever_view, flag, number, request_from, request_view, search_from, search_view, texts_of};
+
+use crate::command::{CommandFault, EverRequest, Request, SearchRequest};
+use crate::command_line::lotosseq_command;
+use clap::error::ErrorKind;
+use clap::{ArgMatches, Error};
+use std::alloc::{AllocError, Global};
+
+/// The most terms that a prefix may reach unless `--terms` is given.
+const DEFAULT_TERMS: usize = 100_000;
+
+/// The most product states that may be stored unless `--states` is given.
+const DEFAULT_STATES: usize = 1_000_000;
+
+/// The request that the words of a command line make. The first word is the program's own name.
+///
+/// # Errors
+///
+/// [`CommandFault::Help`] if the words ask for help, [`CommandFault::Wrong`] if they fit no command, and
+/// [`CommandFault::Memory`] if an allocation fails, whatever the words are. Words that clap accepts fail with
+/// [`CommandFault::Memory`] alone.
+pub fn request(alloc: Global, words: &[&str]) -> Result<Request, CommandFault>
+    ensures is { IfOk result (λ r. RequestOf (texts_of words.now) (request_view r)) }
+    ensures bounds { IfOk result HasBounds }
+    ensures fault { IfErr result (IsFaultOf (texts_of words.now)) }
+    ensures taken { IfErr result (λ e. AreAccepted (texts_of words.now) → e ≡ CommandFault.Memory) }
+{
+    match lotosseq_command(alloc)?.try_get_matches_from(words) {
+        Ok(found) => Ok(read_request(alloc, &found)?),
+        Err(error) => Err(command_fault(alloc, &error)),
+    }
+}
+
+fn read_request(alloc: Global, found: &ArgMatches<'_>) -> Result<Request, AllocError>
+    requires { FitsRequest (subcommand_rows_of found.now) }
+    ensures is { IfOk result (λ r. request_from (subcommand_rows_of found.now) ≡ Some (request_view r)) }
+    ensures bounds { IfOk result HasBounds }
+{
+    let (name, given) = found.subcommand().unwrap();
+    if name == "search" {
+        Ok(Request::Search(read_search_request(alloc, given)?))
+    } else if name == "ever" {
+        Ok(Request::Ever(read_ever_request(alloc, given)?))
+    } else {
+        Ok(Request::Check)
+    }
+}
+
+fn read_search_request(alloc: Global, found: &ArgMatches<'_>) -> Result<SearchRequest, AllocError>
+    requires { FitsSearch (rows_of (found_of found.now)) }
+    ensures is { IfOk result (λ r. search_from (rows_of (found_of found.now)) ≡ Some (search_view r)) }
+    ensures bounds { IfOk result HasSearchBounds }
+{
+    Ok(SearchRequest {
+        depth: read_depth(found),
+        limit: read_limit(found),
+        terms: read_terms(found),
+        after: read_after(alloc, found)?,
+        explain: read_explain(found),
+        strong: read_strong(found),
+        known: read_known(found),
+        words: read_words(alloc, found)?,
+    })
+}
+
+fn read_ever_request(alloc: Global, found: &ArgMatches<'_>) -> Result<EverRequest, AllocError>
+    requires { FitsEver (rows_of (found_of found.now)) }
+    ensures is { IfOk result (λ r. ever_from (rows_of (found_of found.now)) ≡ ever_view r) }
+    ensures bounds { IfOk result (λ r. 1 ≤ r.states) }
+{
+    let explain = read_explain(found);
+    let strong = read_strong(found);
+    Ok(EverRequest {
+        states: read_states(found),
+        explain,
+        strong,
+        words: read_words(alloc, found)?,
+    })
+}
+
+fn read_depth(found: &ArgMatches<'_>) -> u8
+    requires { IsSomeAnd (one_of (codes "depth") (rows_of (found_of found.now))) (IsNumberIn 0 255) }
+    ensures { option_map number (one_of (codes "depth") (rows_of (found_of found.now))) ≡ Some result }
+{
+    found.get_one::<u8>("depth").unwrap()
+}
+
+fn read_limit(found: &ArgMatches<'_>) -> Option<u32>
+    requires { IfSome (one_of (codes "limit") (rows_of (found_of found.now))) (IsNumberIn 1 1000000000) }
+    ensures { result ≡ option_map number (one_of (codes "limit") (rows_of (found_of found.now))) }
+{
+    found.get_one::<u32>("limit")
+}
+
+fn read_terms(found: &ArgMatches<'_>) -> usize
+    requires { IfSome (one_of (codes "terms") (rows_of (found_of found.now))) (IsNumberIn 1 1000000) }
+    ensures { result ≡ option_map_or number (one_of (codes "terms") (rows_of (found_of found.now))) 100000 }
+{
+    found.get_one::<usize>("terms").unwrap_or(DEFAULT_TERMS)
+}
+
+fn read_states(found: &ArgMatches<'_>) -> usize
+    requires { IfSome (one_of (codes "states") (rows_of (found_of found.now))) (IsNumberIn 1 100000000) }
+    ensures { result ≡ option_map_or number (one_of (codes "states") (rows_of (found_of found.now))) 1000000 }
+{
+    found.get_one::<usize>("states").unwrap_or(DEFAULT_STATES)
+}
+
+fn read_after(alloc: Global, found: &ArgMatches<'_>) -> Result<Option<String>, AllocError>
+    ensures { IfOk result
+        (λ after. option_map string_bytes after ≡ first_of (codes "after") (rows_of (found_of found.now))) }
+{
+    match found.get_str("after") {
+        Some(text) => Ok(Some(String::from_str(alloc, text)?)),
+        None => Ok(None),
+    }
+}
+
+fn read_explain(found: &ArgMatches<'_>) -> bool
+    requires { IfSome (one_of (codes "explain") (rows_of (found_of found.now))) IsTruthText }
+    ensures { result ≡ flag (codes "explain") (rows_of (found_of found.now)) }
+{
+    found.get_flag("explain")
+}
+
+fn read_strong(found: &ArgMatches<'_>) -> bool
+    requires { IfSome (one_of (codes "strong") (rows_of (found_of found.now))) IsTruthText }
+    ensures { result ≡ flag (codes "strong") (rows_of (found_of found.now)) }
+{
+    found.get_flag("strong")
+}
+
+fn read_known(found: &ArgMatches<'_>) -> bool
+    requires { IfSome (one_of (codes "known") (rows_of (found_of found.now))) IsTruthText }
+    ensures { result ≡ flag (codes "known") (rows_of (found_of found.now)) }
+{
+    found.get_flag("known")
+}
+
+fn read_words(alloc: Global, found: &ArgMatches<'_>) -> Result<Vec<String>, AllocError>
+    ensures { IfOk result
+        (λ v. map string_bytes v.items
+        ≡ unwrap_or (all_of (codes "words") (rows_of (found_of found.now))) []) }
+{
+    match found.get_raw("words") {
+        Some(texts) => copy_texts(alloc, texts),
+        None => Ok(Vec::new(alloc)),
+    }
+}
+
+fn copy_texts(alloc: Global, texts: &[&str]) -> Result<Vec<String>, AllocError>
+    ensures { IfOk result (λ v. map string_bytes v.items ≡ texts_of texts.now) }
+{
+    let mut all = Vec::new(alloc);
+    for text in texts {
+        all.push(String::from_str(alloc, text)?)?;
+    }
+    Ok(all)
+}
+
+fn command_fault(alloc: Global, error: &Error) -> CommandFault
+    ensures { IsFaultOfKind (kind_of error.now) result }
+{
+    let kind = error.kind();
+    if kind == ErrorKind::OutOfMemory {
+        return CommandFault::Memory;
+    }
+    match format!(in alloc; "{error}") {
+        Ok(text) if kind == ErrorKind::DisplayHelp => CommandFault::Help(text),
+        Ok(text) => CommandFault::Wrong(text),
+        Err(_) => CommandFault::Memory,
+    }
+}

@@ -1,5 +1,0 @@
-use Rattle.lotos_pattern.proofs.Spellings.{one_pattern}
-use Rattle.lotos_pattern.proofs.laws.one_pattern.Goals as goal
-
-pub returns : goal.returns
-returns c = one_pattern

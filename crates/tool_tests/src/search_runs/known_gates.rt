@@ -1,0 +1,240 @@
+//! Searches that refuse words that name no gate of the specification, and the same searches without `--known`.
+
+use super::Row;
+use crate::memory_devices::{ArrayWriter, SliceReader, run_on};
+
+const TWO_STEPS: &[u8] = b"specification S [a,b] : exit behaviour a; b; exit endspec";
+
+const ROWS: &[Row] = &[
+    Row {
+        name: "each word names a gate, in any case, or is exit",
+        text: TWO_STEPS,
+        words: &[
+            "lotosseq", "search", "--depth", "3", "--known", "a", "B", "Exit",
+        ],
+        output: b"A B exit\n",
+        message: b"",
+        status: 0,
+    },
+    Row {
+        name: "a misspelt gate",
+        text: TWO_STEPS,
+        words: &[
+            "lotosseq", "search", "--depth", "3", "--known", "A", "C", "exit",
+        ],
+        output: b"",
+        message: b"lotosseq: E49 word 2 is no gate of the specification\n",
+        status: 2,
+    },
+    Row {
+        name: "a misspelt gate without the option",
+        text: TWO_STEPS,
+        words: &["lotosseq", "search", "--depth", "3", "A", "C", "exit"],
+        output: b"",
+        message: b"",
+        status: 1,
+    },
+    Row {
+        name: "until without its brackets",
+        text: TWO_STEPS,
+        words: &[
+            "lotosseq", "search", "--depth", "3", "--known", "until", "B",
+        ],
+        output: b"",
+        message: b"lotosseq: E49 word 1 is no gate of the specification\n",
+        status: 2,
+    },
+    Row {
+        name: "until without its brackets and without the option",
+        text: TWO_STEPS,
+        words: &["lotosseq", "search", "--depth", "3", "until", "B"],
+        output: b"",
+        message: b"",
+        status: 1,
+    },
+    Row {
+        name: "until with its brackets",
+        text: TWO_STEPS,
+        words: &[
+            "lotosseq", "search", "--depth", "3", "--known", "<until>", "B",
+        ],
+        output: b"A B\n",
+        message: b"",
+        status: 0,
+    },
+    Row {
+        name: "options between the words are not counted",
+        text: TWO_STEPS,
+        words: &[
+            "lotosseq", "search", "A", "--depth", "3", "C", "--known", "exit",
+        ],
+        output: b"",
+        message: b"lotosseq: E49 word 2 is no gate of the specification\n",
+        status: 2,
+    },
+    Row {
+        name: "the first of two words",
+        text: TWO_STEPS,
+        words: &[
+            "lotosseq", "search", "--depth", "3", "--known", "<until>", "Y", "A", "X",
+        ],
+        output: b"",
+        message: b"lotosseq: E49 word 2 is no gate of the specification\n",
+        status: 2,
+    },
+    Row {
+        name: "a gate that is hidden",
+        text: b"specification S [a] : noexit behaviour hide b in b; a; stop endspec",
+        words: &["lotosseq", "search", "--depth", "2", "--known", "b"],
+        output: b"",
+        message: b"lotosseq: E49 word 1 is no gate of the specification\n",
+        status: 2,
+    },
+    Row {
+        name: "a formal gate of a process",
+        text: b"specification S [a] : noexit behaviour P[a] where process P [x] : noexit := x; stop endproc endspec",
+        words: &["lotosseq", "search", "--depth", "1", "--known", "x"],
+        output: b"",
+        message: b"lotosseq: E49 word 1 is no gate of the specification\n",
+        status: 2,
+    },
+    Row {
+        name: "the actual gate of a process",
+        text: b"specification S [a] : noexit behaviour P[a] where process P [x] : noexit := x; stop endproc endspec",
+        words: &["lotosseq", "search", "--depth", "1", "--known", "a"],
+        output: b"A\n",
+        message: b"",
+        status: 0,
+    },
+    Row {
+        name: "a gate of the list that no step has",
+        text: b"specification S [a,b] : noexit behaviour a; stop endspec",
+        words: &["lotosseq", "search", "--depth", "1", "--known", "b"],
+        output: b"",
+        message: b"",
+        status: 1,
+    },
+    Row {
+        name: "termination is no gate, and always known",
+        text: b"specification S [a] : noexit behaviour a; stop endspec",
+        words: &["lotosseq", "search", "--depth", "2", "--known", "a", "EXIT"],
+        output: b"",
+        message: b"",
+        status: 1,
+    },
+    Row {
+        name: "internal steps are labels",
+        text: b"specification S [a] : noexit behaviour i; a; stop endspec",
+        words: &[
+            "lotosseq", "search", "--depth", "2", "--strong", "--known", "I", "a",
+        ],
+        output: b"i A\n",
+        message: b"",
+        status: 0,
+    },
+    Row {
+        name: "no word",
+        text: TWO_STEPS,
+        words: &["lotosseq", "search", "--depth", "0", "--known"],
+        output: b"<empty>\n",
+        message: b"",
+        status: 0,
+    },
+    Row {
+        name: "elements alone",
+        text: TWO_STEPS,
+        words: &[
+            "lotosseq", "search", "--depth", "1", "--known", "<any>", "<while>", "<any>",
+        ],
+        output: b"A\n",
+        message: b"",
+        status: 0,
+    },
+    Row {
+        name: "a gate that is not declared, and a word that is no gate",
+        text: b"specification S [a] : noexit behaviour b; stop endspec",
+        words: &["lotosseq", "search", "--depth", "1", "--known", "C"],
+        output: b"",
+        message: b"lotosseq: 1:40: E21 gate B is not declared\n",
+        status: 2,
+    },
+    Row {
+        name: "the empty text, and a word that is no gate",
+        text: b"",
+        words: &["lotosseq", "search", "--depth", "1", "--known", "C"],
+        output: b"",
+        message: b"lotosseq: 1:1: E06 text ends too early\n",
+        status: 2,
+    },
+    Row {
+        name: "a word that is no gate, after a line",
+        text: TWO_STEPS,
+        words: &[
+            "lotosseq", "search", "--depth", "3", "--after", "A", "--known", "C",
+        ],
+        output: b"",
+        message: b"lotosseq: E49 word 1 is no gate of the specification\n",
+        status: 2,
+    },
+    Row {
+        name: "known words, after a line with a label that is no gate",
+        text: TWO_STEPS,
+        words: &[
+            "lotosseq", "search", "--depth", "3", "--after", "C", "--known", "A", "B",
+        ],
+        output: b"A B\n",
+        message: b"",
+        status: 0,
+    },
+];
+
+#[test]
+fn words_that_name_no_gate(rt: HostRuntime) {
+    for row in ROWS {
+        let name = row.name;
+        let reader = SliceReader::new(row.text, 7);
+        let out = ArrayWriter::new(4);
+        let err = ArrayWriter::new(5);
+        let (status, _reader, out, err) = run_on(rt.alloc(), row.words, reader, out, err);
+        let flushes = if row.status == 2 { 0usize } else { 1 };
+        assert_eq!(rt; out.got(), row.output, "{name}");
+        assert_eq!(rt; err.got(), row.message, "{name}");
+        assert_eq!(rt; status, row.status, "{name}");
+        assert_eq!(rt; out.flushes, flushes, "{name}");
+    }
+}
+
+/// Command lines with words that name no gate, and a fault that is found before anything is read; its message.
+const REFUSED_UNREAD: &[(&[&str], &[u8])] = &[
+    (
+        &[
+            "lotosseq", "search", "--depth", "3", "--known", "C", "<while>",
+        ],
+        b"lotosseq: E48 word 2 needs a label or <any> after it\n",
+    ),
+    (
+        &["lotosseq", "search", "--depth", "3", "--known", "C", "i"],
+        b"lotosseq: E45 word 2 is i, which cannot be observed\n",
+    ),
+    (
+        &[
+            "lotosseq", "search", "--depth", "3", "--known", "--after", "A-B", "C",
+        ],
+        b"lotosseq: E46 mark is no line of a listing\n",
+    ),
+];
+
+#[test]
+fn faults_of_the_pattern_and_the_mark_come_first(rt: HostRuntime) {
+    for (words, message) in REFUSED_UNREAD {
+        let reader = SliceReader::new(TWO_STEPS, 1);
+        let out = ArrayWriter::new(1);
+        let err = ArrayWriter::new(1);
+        let (status, reader, out, err) = run_on(rt.alloc(), *words, reader, out, err);
+        assert_eq!(rt; err.got(), *message);
+        assert_eq!(rt; status, 2);
+        assert_eq!(rt; reader.reads, 0);
+        assert!(rt; out.got().is_empty());
+        assert_eq!(rt; out.flushes, 0);
+    }
+}
