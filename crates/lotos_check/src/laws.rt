@@ -50,7 +50,8 @@ pub fn calls_fit()
 /// The behaviour of an accepted specification uses only the formal gates of the specification and gates that it hides,
 /// and the body of each of its processes only those of the process and gates that it hides.
 pub fn bodies_use_formal_gates()
-    ensures specification { (whole : DefinitionView) (s : System) → IsAccepted whole s → UsesOnly s.formals s.start }
+    ensures specification { (whole : DefinitionView) (s : System) → IsAccepted whole s →
+        UsesOnly s.formals s.start }
     ensures processes { (whole : DefinitionView) (s : System) → IsAccepted whole s →
         (p : ℕ) (process : FlatProcess) → slice_get s.processes p ≡ Some process →
         UsesOnly process.formals process.body }

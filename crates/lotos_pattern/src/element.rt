@@ -84,7 +84,8 @@ impl Element {
 
     /// Whether the element demands a deadlock at the end.
     pub(crate) fn demands_deadlock(&self) -> bool
-        ensures { MatchBool result (ElementDemandsDeadlock (element_of self.now)) (ElementDemandsDeadlock (element_of self.now) → ⊥) }
+        ensures { MatchBool result (ElementDemandsDeadlock (element_of self.now))
+            (ElementDemandsDeadlock (element_of self.now) → ⊥) }
     {
         matches!(self, Element::Deadlock | Element::UntilDeadlock)
     }

@@ -12,5 +12,6 @@ pub fn pattern_is_unique()
 
 /// A place is determined by its NFA states.
 pub fn one_place()
-    ensures { (a b : Place) → IsPlaceValue a → IsPlaceValue b → ((k : ℕ) → HasState a k ↔ HasState b k) → a ≡ b }
+    ensures { (a b : Place) → IsPlaceValue a → IsPlaceValue b →
+        ((k : ℕ) → HasState a k ↔ HasState b k) → a ≡ b }
 {}
