@@ -51,7 +51,7 @@ fn knows_the_gates_that_were_added(rt: HostRuntime) -> Result<(), Fail> {
     Ok(())
 }
 
-/// A gate that is declared and hidden counts once: the list has three.
+/// A gate that is declared and hidden counts once, and so does one that is listed twice: three are left of the list.
 #[test]
 fn knows_each_gate_once(rt: HostRuntime) -> Result<(), Fail> {
     let found = answer(

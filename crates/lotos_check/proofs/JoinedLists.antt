@@ -1,4 +1,4 @@
--- Members of a list that two lists join to.
+-- The members of two lists joined.
 use Rattle.std.proofs.Common.{◌⊎◌, List, [], ◌∷◌, ◌++◌, inl, inr}
 use Rattle.lotos_check.specs.NameLists.{In}
 

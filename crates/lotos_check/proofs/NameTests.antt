@@ -1,4 +1,4 @@
--- Whether a name is among the keys of a map.
+-- Whether a name is among the keys of a set.
 use Rattle.std.proofs.Common.{◌≡◌, List, [], ◌∷◌, map, refl, sym, inl, inr, Bool, true, false}
 use Rattle.std.specs.Prelude.{not}
 use Rattle.std.specs.List.{list_any}

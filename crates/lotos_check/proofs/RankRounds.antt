@@ -1,4 +1,4 @@
--- Why the rounds end with ranks, or with processes that cannot be ranked.
+-- What one more rank changes: the ranks stay consistent, and one process fewer has none.
 use Rattle.std.proofs.Common.{◌≡◌, ℕ, ◌+◌, ◌<◌, ◌⊎◌, zero, suc, List, [], ◌∷◌, Option, Some, None, refl, ap, inl, inr, arith, length}
 use Rattle.std.specs.Prelude.{slice_get, slice_set}
 use Rattle.lotos_check.specs.RankingSteps.{ListsCall, AreConsistentRanks, count_unranked}

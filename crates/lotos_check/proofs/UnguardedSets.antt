@@ -1,4 +1,4 @@
--- Of a set of processes each of which calls into the set, none has a rank.
+-- No process of an unguarded set has a rank, and the processes without a rank are the largest such set.
 use Rattle.std.proofs.Common.{◌≡◌, ℕ, ◌+◌, ◌<◌, zero, suc, List, [], ◌∷◌, Option, Some, None, map, length, refl, arith}
 use Rattle.std.specs.Prelude.{slice_get}
 use Rattle.std.proofs.lemmas.List.{length-map}

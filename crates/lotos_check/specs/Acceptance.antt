@@ -23,7 +23,7 @@ pub record IsAccepted (whole : DefinitionView) (system : System) : Type 0 where
   pub flat : IsFlat whole system
   pub guarded : IsGuarded system
 
--- why a specification has a duplicate name
+-- a formal gate or a process is declared twice in one list, or memory ran out
 abbrev pub IsDuplicateFault : DefinitionView → CheckFault → Type 0
 IsDuplicateFault whole (E20 gate) = IsE20 whole gate
 IsDuplicateFault whole (E21 gate) = ⊥
@@ -35,7 +35,7 @@ IsDuplicateFault whole (E26 at) = ⊥
 IsDuplicateFault whole (E27 name set) = ⊥
 IsDuplicateFault whole (E99 e) = Unit {0}
 
--- why a specification breaks a static rule
+-- why a specification breaks a static rule, or memory ran out
 abbrev pub IsStaticFault : DefinitionView → CheckFault → Type 0
 IsStaticFault whole (E20 gate) = IsE20 whole gate
 IsStaticFault whole (E21 gate) = IsE21 whole gate
@@ -72,7 +72,7 @@ pub data AreProcessesOfBodies : List DefinitionView → List ResolvedBody → Li
   one_process : {d : DefinitionView} {ds : List DefinitionView} {r : ResolvedBody} {rs : List ResolvedBody} {process : Process} {processes : List Process} →
       IsProcessOfBody d r (process_of process) → AreProcessesOfBodies ds rs processes → AreProcessesOfBodies (d ∷ ds) (r ∷ rs) (process ∷ processes)
 
--- the first definition is the behaviour, each other one a process
+-- the behaviour is the code of the first definition's body, and the processes are the other definitions
 pub data IsFlattened : List DefinitionView → List ResolvedBody → Code → List Process → Type 0 where
   flattens : {d : DefinitionView} {ds : List DefinitionView} {r : ResolvedBody} {rs : List ResolvedBody} {start : Code} {processes : List Process} →
       flat_of start ≡ flat_of r.code → AreProcessesOfBodies ds rs processes → IsFlattened (d ∷ ds) (r ∷ rs) start processes

@@ -34,7 +34,7 @@ AreDistinctNames names = (before after : List Name) (n : Name) → names ≡ bef
 -- the body of the definition contains a call by name with these gates, and the name is bound to the process with this
 -- number
 pub record IsNamed (scoped : ScopedDefinition) (k : ℕ) (gates : List Name) : Type 0 where
-  -- the gates that may be used at the call
+  -- the gates in scope at the call
   pub there : List Name
   -- the name that is called, with its offset
   pub called : Placed

@@ -10,7 +10,7 @@ pub record HasDeclaredFunctionality (definition : DefinitionView) (found : Resol
   pub same : found.functionality ≡ declared_of definition
   pub exits : found.never_exits ≡ None
 
--- why a body does not fit its definition
+-- why a body breaks a rule of functionality, or memory ran out
 abbrev pub IsFunctionalityFault : DefinitionView → ResolvedBody → CheckFault → Type 0
 IsFunctionalityFault definition found (E20 gate) = ⊥
 IsFunctionalityFault definition found (E21 gate) = ⊥
@@ -23,7 +23,7 @@ IsFunctionalityFault definition found (E26 at) = found.never_exits ≡ Some at
 IsFunctionalityFault definition found (E27 name set) = ⊥
 IsFunctionalityFault definition found (E99 e) = Unit {0}
 
--- one of the bodies does not fit its definition
+-- one of the bodies breaks a rule of functionality, or memory ran out
 pub record IsFunctionalityFaultIn (definitions : List DefinitionView) (found : List ResolvedBody) (fault : CheckFault) : Type 0 where
   pub index : ℕ
   pub definition : DefinitionView

@@ -1,4 +1,4 @@
--- What the resolution of a body says, given the visible processes and the gates in scope.
+-- What the resolution of a body returns, given the visible processes and the gates in scope.
 use Rattle.std.specs.Prelude.{◌≡◌, ◌≢◌, ℕ, List, [], ◌∷◌, ◌++◌, length, Option, Some, None, MatchOption}
 use Rattle.lotos_text.specs.AstView.{BehaviourView, SyncView, gates, all, DefinitionView, call, enable, formals_of, body_of}
 use Rattle.lotos_text.specs.declared.ast.Action.{Action}
@@ -86,7 +86,7 @@ IsUndeclaredGate in_scope list (E26 at) = ⊥
 IsUndeclaredGate in_scope list (E27 name set) = ⊥
 IsUndeclaredGate in_scope list (E99 e) = Unit {0}
 
--- the gates as a set, or none if both sides synchronize on all
+-- the gates as a set; `None` if both sides synchronize on all gates
 abbrev pub IsSyncSet : Option (List Name) → SyncView → Type 0
 IsSyncSet None (gates list) = ⊥
 IsSyncSet None all = Unit {0}

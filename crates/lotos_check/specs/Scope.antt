@@ -23,8 +23,8 @@ pub record Where : Type 0 where
 abbrev pub Scope : Type 0
 Scope = List Where
 
--- of the definitions, numbered from there on and each followed at once by its inner ones, this one has the name and the
--- number
+-- of the definitions, which are numbered from the first number on, each followed at once by its inner ones, this one
+-- has the name and the second number
 pub data Declares : DefinitionListView → ℕ → Name → ℕ → DefinitionView → Type 0 where
   here : {d : DefinitionView} {ds : DefinitionListView} {k : ℕ} → Declares (more_defs d ds) k (name_of d).name k d
   later : {d e : DefinitionView} {ds : DefinitionListView} {k j : ℕ} {n : Name} →

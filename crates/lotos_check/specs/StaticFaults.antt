@@ -39,7 +39,7 @@ pub record IsE22 (whole : DefinitionView) (name : Placed) : Type 0 where
   pub occurs : Occurs whole scope in_scope (call name actuals)
   pub unknown : (k : ℕ) (d : DefinitionView) → Binds scope name.name k d → ⊥
 
--- a call has another number of gates than the definition
+-- a call has another number of gates than the definition that its name is bound to
 pub record IsE23 (whole : DefinitionView) (name : Placed) (formal actual : ℕ) : Type 0 where
   pub scope : Scope
   pub in_scope : List Name

@@ -44,8 +44,7 @@ impl Checked {
         &self.start
     }
 
-    /// The rank of the process with this number: every unguarded call in its body goes to a process of smaller rank, as
-    /// the system is guarded and these are its ranks.
+    /// The rank of the process with this number. Every unguarded call in its body goes to a process of smaller rank.
     pub fn rank(&self, process: usize) -> usize
         requires { process < length (system_of self.now).processes }
         ensures place { slice_get (ranks_of self.now) process ≡ Some result }

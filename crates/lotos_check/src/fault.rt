@@ -8,8 +8,8 @@ use std::alloc::{AllocError, AllocFailed, Global};
 use std::fmt;
 use thiserror::Error;
 
-/// Why a specification breaks a static rule. Each fault carries the name where it occurs, or the offset: bytes from the
-/// start of the text.
+/// Why a specification breaks a static rule. Each fault but E99 carries the name where it occurs, or the offset: bytes
+/// from the start of the text.
 #[derive(Debug, Drop, Error)]
 pub enum CheckFault {
     /// One list of formal gates declares the gate twice; this is the second time.
@@ -37,7 +37,7 @@ pub enum CheckFault {
         name: Placed,
         declared: Functionality,
     },
-    /// The left operand of the `>>` at the offset never terminates.
+    /// The left operand of the `>>` at the offset has functionality noexit: it never terminates successfully.
     #[error("E26 left side of >> never exits")]
     E26(usize),
     /// Recursion is not guarded. `set` is the largest set of processes each of which has an unguarded call into it, by

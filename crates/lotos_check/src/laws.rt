@@ -66,7 +66,8 @@ pub fn distinct_formals()
         AreDistinctNames process.formals }
 {}
 
-/// The ranks of a flat system decrease at every unguarded call, and both of its processes have one.
+/// Given ranks of a flat system's processes, both processes of an unguarded call have one, and that of the called one
+/// is smaller.
 pub fn ranks_fall()
     ensures { (whole : DefinitionView) (s : System) (ranks : List ℕ) → IsFlat whole s →
         AreRanks s.processes ranks → (p q : ℕ) → Calls s.processes p q → (r t : ℕ)

@@ -50,7 +50,7 @@ pub(crate) fn bind_definitions<'a>(
     Ok(bindings)
 }
 
-/// The binding of a name in the innermost `where` that declares it; the stack has that last.
+/// The binding of a name in the innermost `where` that declares it; the stack has the innermost one last.
 pub(crate) fn find_binding<'a>(
     scopes: &[IndexMap<&'a str, Binding<'a>>],
     name: &str,

@@ -43,7 +43,8 @@ pub enum Code {
         left: Box<Code>,
         right: Box<Code>,
     },
-    /// Process instantiation, with the actual gates in their order.
+    /// Process instantiation: the process, by its index in [`crate::Checked::processes`], and the actual gates in their
+    /// order.
     Call {
         process: usize,
         gates: Vec<Name>,

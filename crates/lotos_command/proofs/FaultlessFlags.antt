@@ -1,4 +1,4 @@
--- A word that is a flag or a value leaves ready rows, if it has no fault.
+-- A word that is a flag or a value keeps the entries ready, if it has no fault.
 use Rattle.std.proofs.Common.{◌≡◌, ℕ, Bool, cond, true, false, zero, suc, refl, List, [], ◌∷◌, length, Option, Some, None, drop, is_some}
 use Rattle.std.specs.Prelude.{encode_utf8, slice_get}
 use Rattle.std.specs.Option.{option_map_or}

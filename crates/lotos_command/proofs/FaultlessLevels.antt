@@ -1,4 +1,4 @@
--- One level of a parse without a fault leaves ready rows.
+-- After one level of a parse without a fault the entries are ready.
 use Rattle.std.proofs.Common.{◌≡◌, ◌&&◌, ◌||◌, ℕ, Bool, cond, true, false, not, refl, sym, subst, arith, List, [], ◌∷◌, Option, Some, None, codes, is_some, fold}
 use Rattle.std.specs.Prelude.{IfSome}
 use Rattle.std.specs.Option.{option_map_or}

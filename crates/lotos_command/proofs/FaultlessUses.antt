@@ -1,4 +1,4 @@
--- A use of an argument leaves ready rows, if it has no fault.
+-- A use of an argument keeps the entries ready, if it has no fault.
 use Rattle.std.proofs.Common.{◌≡◌, ◌≤◌, ℕ, Bool, false, refl, arith, List, [], ◌∷◌, length, Option, Some, None, find, lt-ltb}
 use Rattle.std.specs.Option.{option_map_or}
 use Rattle.clap.specs.Facts.{unwrap_or_range}

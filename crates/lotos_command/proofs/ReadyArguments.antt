@@ -1,4 +1,4 @@
--- clap's rows whose values passed their parsers, and the changes of rows that keep them so.
+-- Ready entries: their values passed the parsers of their arguments. And the changes that keep clap's entries ready.
 use Rattle.std.proofs.Common.{◌≡◌, ◌∙◌, ◌≤◌, Bool, cond, true, false, refl, sym, ap, subst, arith, List, [], ◌∷◌, ◌++◌, length, Some, None, find, length-append}
 use Rattle.std.specs.Prelude.{⊤}
 use Rattle.std.specs.Str.{bytes_eq}

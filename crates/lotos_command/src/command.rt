@@ -38,7 +38,8 @@ pub struct SearchRequest {
 /// pattern.
 #[derive(Debug, Drop)]
 pub struct EverRequest {
-    /// The most product states, each a term and a place in the pattern, that may be stored; at least 1.
+    /// The most product states that may be stored, at least 1. Each is the normal form of a term and a place in the
+    /// pattern.
     pub states: usize,
     /// Whether the line has the run of the match after its sequence.
     pub explain: bool,

@@ -1,8 +1,8 @@
 //! Devices: where bytes come from, and where they go.
 //!
 //! A device remembers whether one of its calls has failed. Contracts speak of the bytes that a device has left or has
-//! got, if these are known. They are for devices over memory; for a file or a terminal the claim is as good as the
-//! system's.
+//! got, if these are known. They are known for devices in memory. Files, terminals and the standard streams report
+//! none, so there the contracts speak only of the numbers of bytes and of failures.
 ghost use Rattle.std.specs.Prelude.{◌≡◌, ℕ, Bool, false, List, Option};
 ghost use Rattle.std.specs.Io.KnownBytes.{Keeps};
 ghost use Rattle.lotos_device.specs.DeviceContracts.{CountsGiven, Reads, Accepts, SetsFailed};

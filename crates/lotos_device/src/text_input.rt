@@ -13,8 +13,11 @@ const CHUNK_SIZE: usize = 4096;
 /// Why a text could not be read.
 #[derive(Clone, Copy, Debug, PartialEq, Eq)]
 pub enum ReadFault {
+    /// A read of the source failed.
     Device,
+    /// The source has more bytes left than a text may have.
     TooLong,
+    /// Out of memory.
     Memory,
 }
 

@@ -24,7 +24,7 @@ pub data Element : Type 0 where
   -- any number of labels; the end must be a deadlock
   until_deadlock : Element
 
--- the sequences of labels that an element takes
+-- the sequence is a segment of the element
 abbrev pub Segment : Element → List Label → Type 0
 Segment (one l) s = s ≡ l ∷ []
 Segment any s = (l : Label) × (s ≡ l ∷ [])

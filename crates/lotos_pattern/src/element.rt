@@ -102,7 +102,7 @@ pub(crate) fn demands_deadlock(elements: &[Element]) -> bool
     }
 }
 
-/// The least number of elements that are done where a sequence may end: all after them may have an empty segment.
+/// The least accepting NFA state: each element after the first so many may have an empty segment.
 pub(crate) fn min_accepting_state(elements: &[Element]) -> usize
     ensures { (k : ℕ) → IsJoin Segment (drop k (elements_of elements.now)) [] ↔ (result ≤ k) }
 {

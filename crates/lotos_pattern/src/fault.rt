@@ -15,10 +15,10 @@ pub enum PatternFault {
     /// The word follows an element that demands a deadlock.
     #[error("E43 word {0} follows an end element")]
     E43(usize),
-    /// The pattern has more than 256 elements; this word begins the 257th.
+    /// The word follows 256 elements, the most that a pattern may have.
     #[error("E44 pattern is over 256 elements")]
     E44(usize),
-    /// The word is `i`, which is not observed unless internal steps are.
+    /// The word is `i`, and internal steps are not observed.
     #[error("E45 word {0} is i, which cannot be observed")]
     E45(usize),
     /// This word, `<while>`, is not followed by a label or `<any>`.

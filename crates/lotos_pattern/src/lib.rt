@@ -1,8 +1,8 @@
 //! Patterns of sequences of labels.
 //!
-//! A [`Pattern`] is read from words. Its [`Place`]s tell, label by label, whether a sequence can still be extended to
-//! one that the pattern matches, and its [`End`]s whether it is one itself. The definitions that the contracts cite are
-//! in `specs/`, the laws over them in [`laws`].
+//! A [`Pattern`] is read from words. A sequence has a [`Place`] in it as long as it can still be extended to one that
+//! the pattern matches, and an [`End`] says whether the pattern matches the sequence itself. The definitions that the
+//! contracts cite are in `specs/`, the laws over them in [`laws`].
 #![tactic(auto)]
 
 mod element;

@@ -17,7 +17,8 @@ use crate::place::{End, Place};
 use std::alloc::Global;
 use std::marker::Model;
 
-/// A pattern matches the sequences of labels that are made of one segment for each of its elements in turn.
+/// A pattern matches the sequences of labels that are made of one segment for each of its elements in turn. Unless it
+/// observes internal steps, none of the labels is `i`.
 #[derive(Debug, Drop)]
 pub struct Pattern {
     elements: Vec<Element>,
@@ -40,9 +41,11 @@ impl Pattern {
     /// The pattern that the words spell, in any mix of cases (this project's profile). If internal steps are observed
     /// (`strong`), the internal action is a label like others.
     ///
-    /// Words are read from the left, and the first fault is returned. Where an element begins, the faults are tried in
-    /// this order: E43, if the pattern so far demands a deadlock; E44, if this is the 257th element; those of the word
-    /// itself.
+    /// # Errors
+    ///
+    /// Words are read from the left, and the first fault is returned. Where an element has to begin, the faults are
+    /// tried in this order: E43, if the pattern so far demands a deadlock; E44, if it has 256 elements; those of the
+    /// word itself. E99 if an allocation fails.
     pub fn read(alloc: Global, words: &[&str], strong: bool) -> Result<Pattern, PatternFault>
         ensures pattern { IfOk result (PatternOf strong (texts_of words.now)) }
         ensures cause { IfErr result (IsCause strong (texts_of words.now)) }

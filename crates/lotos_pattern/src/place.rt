@@ -8,8 +8,8 @@ const WORDS: usize = 5;
 /// The number of states in a word.
 const BITS: usize = 64;
 
-/// What of a pattern a sequence has matched so far: a set of NFA states. A place is only valid for the pattern that
-/// gave it.
+/// How much of a pattern a sequence has matched so far: a set of NFA states. A place is only valid for the pattern that
+/// returned it.
 #[derive(Clone, Copy, Debug, PartialEq, Eq, Hash)]
 pub struct Place {
     /// For each state a bit, from the lowest of the first word on. State `k` means that `k` elements are done.

@@ -1,4 +1,4 @@
--- Definitions: tokens start with one definition and one list of them, and these are the parser's phrases.
+-- Definitions: tokens start with at most one definition and one list of them, and these are the parser's phrases.
 use Rattle.std.proofs.Common.{◌≡◌, ℕ, ◌+◌, max, List, [], ◌∷◌, ◌++◌, Some, None, refl, sym, ◌∙◌, ap, append_assoc, arith, subst}
 use Rattle.lotos_text.specs.AstView as t
 use Rattle.lotos_text.specs.AstView.{BehaviourView, DefinitionView, DefinitionListView}

@@ -1,4 +1,4 @@
--- Spellings of a looser level: one of the next tighter level, or an operation; and the ranks of the levels.
+-- Spellings of a looser level: one of the next tighter level, or an operation; and the precedences of the levels.
 use Rattle.std.proofs.Common.{◌≡◌, ℕ, ◌+◌, ◌<◌, ◌≤◌, max, Bool, true, false, List, [], ◌∷◌, ◌++◌, refl, ap, arith, subst}
 use Rattle.lotos_text.specs.AstView as t
 use Rattle.lotos_text.specs.AstView.{BehaviourView}

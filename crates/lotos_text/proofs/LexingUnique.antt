@@ -1,4 +1,4 @@
--- A text lexes in one way or fails at one offset, and never both.
+-- A text lexes in at most one way, or fails at one offset at most, and never both.
 use Rattle.std.proofs.Common.{◌≡◌, ℕ, ◌+◌, List, [], ◌∷◌, length, drop, refl, sym, ap, ◌∙◌, subst, arith}
 use Rattle.std.proofs.Math.Seq.{drop-append_seam}
 use Rattle.lotos_text.specs.Lexing.{LexesTo, nothing, blank, comment, word, sign_token, Lexes, LexingFailsAt, at_byte, at_comment, sign_text, token, classify}

@@ -58,7 +58,7 @@ operator_view o.Disable = disables
 operator_view (o.Synchronize sync) = synchronizes (sync_view sync)
 operator_view o.Choose = chooses
 
--- the view of what a definition is of
+-- the view of the kind of a definition
 abbrev pub definition_kind_view : CodeKind → DefinitionKind
 definition_kind_view d.Specification = a_specification
 definition_kind_view d.Process = a_process

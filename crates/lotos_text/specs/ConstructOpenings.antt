@@ -37,7 +37,7 @@ opens_construct (of_sign sign) = sign_opens sign
 abbrev pub count_openings : List Token → ℕ
 count_openings = count_by (λ t. opens_construct t.kind)
 
--- a keyword of full LOTOS that basic LOTOS does not use
+-- a keyword of full LOTOS that this project's profile does not use
 abbrev pub is_full_lotos_word : Word → Bool
 is_full_lotos_word w.AcceptWord = true
 is_full_lotos_word w.ChoiceWord = true

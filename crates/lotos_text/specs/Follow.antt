@@ -7,8 +7,8 @@ use Rattle.lotos_text.specs.declared.token.TokenKind.TheVariants.{Identifier, Re
 use Rattle.lotos_text.specs.declared.token.Sign.{Sign}
 use Rattle.lotos_text.specs.declared.token.Sign.TheVariants as s
 
--- how tightly a sign binds that continues what is before it: operators by their levels, and tightest what makes a name
--- a call with gates or a prefix; 0 for signs that continue nothing
+-- how tightly a sign binds that continues the expression before it: operators by their levels, and tightest `[` and
+-- `;`, which make a name a call with gates or a prefix; 0 for signs that continue nothing
 abbrev pub sign_precedence : Sign → ℕ
 sign_precedence s.Enable = 1
 sign_precedence s.Disable = 2
@@ -20,18 +20,18 @@ sign_precedence s.LeftBracket = 5
 sign_precedence s.Semicolon = 5
 sign_precedence _ = 0
 
--- the rank of a token of the kind
+-- the precedence of a token of the kind
 abbrev pub kind_precedence : TokenKind → ℕ
 kind_precedence Identifier = 0
 kind_precedence (Reserved _) = 0
 kind_precedence (of_sign sign) = sign_precedence sign
 
--- the rank of the first token; 0 at the end
+-- the precedence of the first token; 0 at the end
 abbrev pub precedence : List Token → ℕ
 precedence [] = 0
 precedence (t ∷ ts) = kind_precedence t.kind
 
--- the rank of a level's operators
+-- the precedence of a level's operators; at the tightest level, which has none, that of `[` and `;`
 abbrev pub level_precedence : Level → ℕ
 level_precedence enabling = 1
 level_precedence disabling = 2
@@ -39,7 +39,8 @@ level_precedence parallel = 3
 level_precedence choosing = 4
 level_precedence prefixing = 5
 
--- a spelling is complete before tokens of a rank below this; an open one only before tokens that continue nothing
+-- a spelling of the level is complete before tokens of a precedence below this; an open one only before tokens that
+-- continue nothing
 abbrev pub bound : Level → Bool → ℕ
 bound level true = 1
 bound level false = level_precedence level

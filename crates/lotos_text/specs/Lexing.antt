@@ -1,4 +1,5 @@
--- Lexing: a text as blanks, comments, words and signs, each judged where it starts.
+-- Lexing: a text as blanks, comments, words and signs. Which one begins at an offset depends only on the bytes from
+-- there on.
 use Rattle.std.specs.Prelude.{◌≡◌, ℕ, ◌+◌, ◌≤◌, Bool, false, ◌&&◌, ◌||◌, ◌==◌, nat_le, IsTrue, List, [], ◌∷◌, ◌++◌, length, map, codes, slice_range, if◌then◌else◌}
 use Rattle.std.specs.List.{AllByRecursion}
 use Rattle.std.specs.Char.{is_ascii_alphabetic, is_ascii_alphanumeric, to_ascii_lowercase}

@@ -45,7 +45,7 @@ pub record IsE05 (text : List ℕ) (at : ℕ) : Type 0 where
   pub opening : opens_construct token.kind ≡ true
   pub many : max_nesting < count_openings (before ++ token ∷ [])
 
--- all tokens together spell no specification, and the offset is the text's length
+-- the text is not too long, all its tokens together spell no specification, and the offset is its length
 pub record IsE06 (text : List ℕ) (at : ℕ) : Type 0 where
   pub tokens : List Token
   pub short : length text ≤ max_text_length
@@ -61,7 +61,7 @@ pub record IsE07 (text : List ℕ) (at : ℕ) : Type 0 where
   pub never : IsSpecificationPrefix text (before ++ token ∷ []) → ⊥
   pub full : is_full_lotos token.kind ≡ true
 
--- why a text does not lex
+-- what a fault of `tokens` says of the text; E99 says only that it is not too long
 abbrev pub IsLexingFault : List ℕ → TextFault → Type 0
 IsLexingFault text (E01 at) = IsE01 text at
 IsLexingFault text (E02 at) = IsE02 text at
@@ -72,7 +72,7 @@ IsLexingFault text (E06 at) = ⊥
 IsLexingFault text (E07 at) = ⊥
 IsLexingFault text (E99 e) = length text ≤ max_text_length
 
--- why a text spells no specification
+-- what a fault of `parse` says of the text; E99 says only that it is not too long
 abbrev pub IsFaultOfText : List ℕ → TextFault → Type 0
 IsFaultOfText text (E01 at) = IsE01 text at
 IsFaultOfText text (E02 at) = IsE02 text at

@@ -21,14 +21,14 @@ pub enum Action {
 }
 
 /// What a definition declares of its termination. `noexit` promises that the behaviour never terminates successfully.
-/// `exit` promises nothing: `P := x; P` is declared `exit` and never ends.
+/// `exit` promises nothing: `P := x; P` may be declared `exit` and never ends.
 #[derive(Clone, Copy, Debug, PartialEq, Eq)]
 pub enum Functionality {
     Exit,
     NoExit,
 }
 
-/// The gates on which both sides of a parallel expression synchronize, beside termination, on which they always do.
+/// The gates on which both sides of a parallel expression synchronize, besides termination, on which they always do.
 #[derive(Debug, Drop)]
 pub enum SyncSet {
     /// The gates in the list of `|[..]|`, in its order; none for `|||` and `|[]|`.

@@ -315,6 +315,7 @@ enum OperandStart {
     /// A prefix of a gate, or a call.
     Name,
     Parenthesis,
+    /// No operand starts with the token.
     Nothing,
 }
 

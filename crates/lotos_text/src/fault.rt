@@ -5,10 +5,10 @@ ghost use Rattle.lotos_text.specs.declared.fault.TextFault.TheVariants.{E99};
 use std::alloc::{AllocError, AllocFailed};
 use thiserror::Error;
 
-/// Why a text is refused. The number in a fault is an offset: bytes from the start of the text.
+/// Why a text is rejected. The number in a fault is an offset: bytes from the start of the text.
 #[derive(Debug, Drop, Error)]
 pub enum TextFault {
-    /// The byte at the offset begins no token.
+    /// No blank, comment or token begins with the byte at the offset.
     #[error("E01 byte begins no token")]
     E01(usize),
     /// The comment that opens at the offset is not closed.
@@ -26,7 +26,7 @@ pub enum TextFault {
     /// The text ends too early: its tokens only begin a specification. The offset is its length.
     #[error("E06 text ends too early")]
     E06(usize),
-    /// As E04, and the token is a keyword of full LOTOS that basic LOTOS does not use.
+    /// As E04, for a keyword of full LOTOS that this project's profile does not use.
     #[error("E07 word of full LOTOS")]
     E07(usize),
     /// Out of memory.

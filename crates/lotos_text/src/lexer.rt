@@ -20,9 +20,9 @@ pub const TEXT_LIMIT: usize = 1_048_576;
 ///
 /// # Errors
 ///
-/// E03 for a text of more than [`TEXT_LIMIT`] bytes, whatever its bytes are. Otherwise E01 at the first byte that
-/// begins no token, or E02 at the opening of a comment that is not closed, whichever comes first. E99 if an allocation
-/// fails.
+/// E03 for a text of more than [`TEXT_LIMIT`] bytes, whatever its bytes are. Otherwise E01 at the first byte at which a
+/// blank, a comment or a token has to begin and none does, or E02 at the opening of a comment that is not closed,
+/// whichever comes first. E99 if an allocation fails.
 pub fn tokens(alloc: Global, text: &[u8]) -> Result<Vec<Token>, TextFault>
     ensures short { IfOk result (λ found. length text.now ≤ max_text_length) }
     ensures lexes { IfOk result (λ found. Lexes text.now found.items) }
@@ -61,7 +61,7 @@ enum Lexeme {
     Token(usize, TokenKind),
     /// The opening of a comment that is not closed.
     Unclosed,
-    /// A byte that begins no token.
+    /// A byte with which no blank, comment or token begins.
     Unknown,
 }
 
@@ -148,7 +148,7 @@ const KEYWORDS: [(&[u8], Word); 19] = [
     (b"type", Word::TypeWord),
 ];
 
-/// Which keyword a word is, in any mix of cases, or an identifier.
+/// The kind of a word: a keyword, in any mix of cases, or an identifier.
 fn classify_word(found: &[u8]) -> TokenKind
     ensures { result ≡ classify found.now }
 {

@@ -14,7 +14,8 @@ use crate::parse_primitives::{ParseError, eat, expect, parse_names, split_first_
 use crate::token::{Sign, Token, TokenKind};
 use std::alloc::Global;
 
-/// A level of behaviour expressions: that of some operators, or `Prefixing`, that of the operands of all operators.
+/// A level of behaviour expressions, from the loosest to the tightest: that of some binary operators, or `Prefixing`,
+/// which has none.
 #[derive(Clone, Copy)]
 pub(crate) enum Level {
     Enabling,
@@ -24,7 +25,7 @@ pub(crate) enum Level {
     Prefixing,
 }
 
-/// The next tighter level: that of the left operands of this level's operators.
+/// The next tighter level, which is that of the left operands of this level's operators; `None` for `Prefixing`.
 pub(crate) fn next_tighter(level: Level) -> Option<Level>
     ensures { MatchOption result (level_view level ≡ prefixing)
         (λ m. BindsTighter (level_view level) (level_view m)) }
@@ -64,7 +65,7 @@ fn infix_of(kind: TokenKind) -> Option<Infix>
     }
 }
 
-/// If the tokens start with an operator of the level: its sign, its token, and the tokens after that.
+/// If the tokens start with an operator of the level: its sign, its first token, and the tokens after that one.
 pub(crate) fn operator_at(tokens: &[Token], level: Level) -> Option<(Infix, Token, &[Token])>
     ensures some { IfSome result (λ p. (tokens.now ≡ p.1 ∷ p.2.now)
         × (starts.infix_of p.1.kind ≡ Some p.0) × (starts.infix_level p.0 ≡ level_view level)) }

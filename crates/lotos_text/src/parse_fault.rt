@@ -25,7 +25,7 @@ pub(crate) fn fault_of_error(error: ParseError<'_>, length: usize) -> TextFault
     }
 }
 
-/// Whether a token is a keyword of full LOTOS that basic LOTOS does not use.
+/// Whether a token of the kind is a keyword of full LOTOS that the profile does not use.
 fn is_full_lotos(kind: TokenKind) -> bool
     ensures { result ≡ is_full_lotos kind }
 {

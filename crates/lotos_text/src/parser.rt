@@ -31,9 +31,10 @@ pub const NESTING_LIMIT: usize = 200;
 ///
 /// # Errors
 ///
-/// Those of [`crate::tokens`]. Otherwise, at the first token at which the tokens so far begin no specification: E07 if
-/// that token is a keyword of full LOTOS, E05 if it opens a construct inside [`NESTING_LIMIT`] open ones, else E04. E06
-/// at the text's length if its tokens only begin a specification. E99 if an allocation fails.
+/// Those of [`crate::tokens`]. Otherwise whichever of these comes first: E05 at a token that opens a construct inside
+/// [`NESTING_LIMIT`] open ones; at a token up to and including which the tokens begin no specification, E07 if it is a
+/// keyword of full LOTOS that the profile does not use, else E04; E06 at the text's length if its tokens only begin a
+/// specification. E99 if an allocation fails.
 pub fn parse(alloc: Global, text: &[u8]) -> Result<Specification, TextFault>
     ensures spelled { IfOk result (λ found. Spelled text.now (definition_view found.whole)) }
     ensures only { IfOk result (λ found. (other : DefinitionView) → Spelled text.now other →

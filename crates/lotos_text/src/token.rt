@@ -2,7 +2,7 @@
 
 /// A keyword. `behaviour` and `behavior` are the same one.
 ///
-/// Those from `AcceptWord` on are keywords of full LOTOS that basic LOTOS does not use.
+/// Those from `AcceptWord` on are keywords of full LOTOS that this project's profile does not use.
 #[derive(Clone, Copy, Debug, PartialEq, Eq)]
 pub enum Word {
     SpecificationWord,
@@ -65,6 +65,7 @@ pub enum Sign {
 pub enum TokenKind {
     /// A word that is no keyword: the name of a gate, a process or the specification.
     Identifier,
+    /// A keyword.
     Reserved(Word),
     Sign(Sign),
 }

@@ -29,7 +29,7 @@ fn nested(
     format!(in alloc; "{FRONT}{before}{middle}{behind} endspec")
 }
 
-/// Each construct nested 200 deep is accepted, and nested 201 deep is refused at the token that opens the last one.
+/// Each construct nested 200 deep is accepted, and nested 201 deep is an error at the token that opens the last one.
 #[test]
 fn limits_each_construct(rt: HostRuntime) -> Result<(), Fail> {
     let rows = [
@@ -105,7 +105,7 @@ fn limits_what_stands_inside(rt: HostRuntime) -> Result<(), Fail> {
     Ok(())
 }
 
-/// Inside 200 open constructs a token that opens another is refused, whatever follows it.
+/// Inside 200 open constructs a token that opens another is an error, whatever follows it.
 #[test]
 fn limits_openings_before_a_misfit(rt: HostRuntime) -> Result<(), Fail> {
     let process = "stop where process P:noexit:=";

@@ -7,7 +7,7 @@ use std::alloc::{AllocError, Global};
 /// A text up to its behaviour expression, which begins at offset 35.
 pub const FRONT: &str = "specification S : noexit behaviour ";
 
-/// The number of the fault and its offset; 0 if it has none.
+/// The number of the fault and its offset, 0 if it has none; two zeros if there is no fault.
 pub fn fault_of(answer: Result<Specification, TextFault>) -> (u8, usize) {
     match answer {
         Ok(_) => (0, 0),
@@ -43,7 +43,7 @@ pub fn write_definition(
     Ok(())
 }
 
-/// Writes a behaviour expression with every parenthesis, and with the offsets of its names.
+/// Writes a behaviour expression with every parenthesis, and with the offsets of its names and of each `>>`.
 pub fn write_behaviour(
     alloc: Global,
     out: &mut String,

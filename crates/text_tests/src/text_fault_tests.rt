@@ -1,4 +1,4 @@
-//! Texts that are refused, with the offsets of their faults.
+//! Texts that are rejected, with the numbers and the offsets of their faults.
 use super::table_texts::{FRONT, fault_of};
 use lotos_text::{TEXT_LIMIT, parse};
 use std::test::Fail;
@@ -154,7 +154,7 @@ fn refuses_behaviour_expressions(rt: HostRuntime) -> Result<(), Fail> {
     Ok(())
 }
 
-/// What follows `where`, which begins at offset 46.
+/// What follows the keyword `where`. It begins at offset 46.
 #[test]
 fn refuses_definitions(rt: HostRuntime) -> Result<(), Fail> {
     let rows = [
@@ -262,7 +262,7 @@ fn refuses_words_of_full_lotos(rt: HostRuntime) -> Result<(), Fail> {
     Ok(())
 }
 
-/// Complete texts: of comments, of words and of signs.
+/// Complete texts: comments alone, and specifications.
 #[test]
 fn refuses_whole_texts(rt: HostRuntime) {
     let rows = [

@@ -143,7 +143,7 @@ enum Part {
     UntilDeadlock,
 }
 
-/// Internal steps hidden, and observed.
+/// Internal steps not observed, and observed.
 const BOTH: &[bool] = &[false, true];
 
 /// Internal steps observed.
