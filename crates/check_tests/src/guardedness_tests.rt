@@ -109,22 +109,24 @@ fn unguarded_of(found: &Ranking) -> &[usize] {
     }
 }
 
+/// Where the call occurs, and whether it is unguarded.
+const CALLS: &[(&str, Place, bool)] = &[
+    ("bare", Place::Bare, true),
+    ("under a prefix", Place::AfterPrefix, false),
+    ("left of `>>`", Place::LeftOfEnable, true),
+    ("right of `>>`", Place::RightOfEnable, false),
+    ("under a hide form", Place::Hidden, true),
+    ("left of `||`", Place::LeftOfPar, true),
+    ("right of `||`", Place::RightOfPar, true),
+    ("left of `[>`", Place::LeftOfDisable, true),
+    ("right of `[>`", Place::RightOfDisable, true),
+];
+
 #[test]
 fn tells_guarded_calls(rt: HostRuntime) -> Result<(), Fail> {
-    let rows = [
-        ("bare", Place::Bare, true),
-        ("under a prefix", Place::AfterPrefix, false),
-        ("left of `>>`", Place::LeftOfEnable, true),
-        ("right of `>>`", Place::RightOfEnable, false),
-        ("under a hide form", Place::Hidden, true),
-        ("left of `||`", Place::LeftOfPar, true),
-        ("right of `||`", Place::RightOfPar, true),
-        ("left of `[>`", Place::LeftOfDisable, true),
-        ("right of `[>`", Place::RightOfDisable, true),
-    ];
-    for (words, place, unguarded) in rows {
-        let found = ranked(rt.alloc(), 8, &[(7, place, 7)])?;
-        let expected: &[usize] = if unguarded { &[7] } else { &[] };
+    for (words, place, unguarded) in CALLS {
+        let found = ranked(rt.alloc(), 8, &[(7, *place, 7)])?;
+        let expected: &[usize] = if *unguarded { &[7] } else { &[] };
         assert_eq!(rt; unguarded_of(&found), expected, "a call {}", words);
     }
     Ok(())
@@ -148,68 +150,74 @@ fn assert_ranking(
     }
 }
 
+/// What is tested, the number of processes, the calls, and the ranks, or the set of processes with unguarded calls into
+/// it.
+const RANKINGS: &[(&str, usize, &[(usize, Place, usize)], &[usize], &[usize])] = &[
+    ("no process", 0, &[], &[], &[]),
+    (
+        "a chain against the order",
+        3,
+        &[(0, Place::Bare, 1), (1, Place::Bare, 2)],
+        &[2, 1, 0],
+        &[],
+    ),
+    (
+        "a self-call under a prefix",
+        1,
+        &[(0, Place::AfterPrefix, 0)],
+        &[0],
+        &[],
+    ),
+    (
+        "a self-call right of `>>`",
+        1,
+        &[(0, Place::RightOfEnable, 0)],
+        &[0],
+        &[],
+    ),
+    (
+        "a self-call left of `>>`",
+        1,
+        &[(0, Place::LeftOfEnable, 0)],
+        &[],
+        &[0],
+    ),
+    (
+        "a cycle and a process that none calls",
+        3,
+        &[(0, Place::Bare, 2), (2, Place::Bare, 0)],
+        &[],
+        &[0, 2],
+    ),
+    (
+        "two cycles, and a process that calls into one",
+        5,
+        &[
+            (0, Place::Bare, 2),
+            (1, Place::Bare, 1),
+            (2, Place::Bare, 3),
+            (3, Place::Bare, 2),
+            (3, Place::Bare, 4),
+        ],
+        &[],
+        &[0, 1, 2, 3],
+    ),
+    (
+        "a cycle that a prefix breaks",
+        3,
+        &[
+            (0, Place::Bare, 1),
+            (1, Place::AfterPrefix, 0),
+            (1, Place::Bare, 2),
+        ],
+        &[2, 1, 0],
+        &[],
+    ),
+];
+
 #[test]
 fn ranks_or_refuses(rt: HostRuntime) -> Result<(), Fail> {
-    let bare = Place::Bare;
-    let rows: [(&str, usize, &[(usize, Place, usize)], &[usize], &[usize]); 8] = [
-        ("no process", 0, &[], &[], &[]),
-        (
-            "a chain against the order",
-            3,
-            &[(0, bare, 1), (1, bare, 2)],
-            &[2, 1, 0],
-            &[],
-        ),
-        (
-            "a self-call under a prefix",
-            1,
-            &[(0, Place::AfterPrefix, 0)],
-            &[0],
-            &[],
-        ),
-        (
-            "a self-call right of `>>`",
-            1,
-            &[(0, Place::RightOfEnable, 0)],
-            &[0],
-            &[],
-        ),
-        (
-            "a self-call left of `>>`",
-            1,
-            &[(0, Place::LeftOfEnable, 0)],
-            &[],
-            &[0],
-        ),
-        (
-            "a cycle and a process that none calls",
-            3,
-            &[(0, bare, 2), (2, bare, 0)],
-            &[],
-            &[0, 2],
-        ),
-        (
-            "two cycles, and a process that calls into one",
-            5,
-            &[
-                (0, bare, 2),
-                (1, bare, 1),
-                (2, bare, 3),
-                (3, bare, 2),
-                (3, bare, 4),
-            ],
-            &[],
-            &[0, 1, 2, 3],
-        ),
-        (
-            "a cycle that a prefix breaks",
-            3,
-            &[(0, bare, 1), (1, Place::AfterPrefix, 0), (1, bare, 2)],
-            &[2, 1, 0],
-            &[],
-        ),
-    ];
-    for (words, count, calls, ranks, unguarded) in &rows {
+    for (words, count, calls, ranks, unguarded) in RANKINGS {
         let found = ranked(rt.alloc(), *count, calls)?;
         assert_ranking(&rt, words, &found, ranks, unguarded);
     }
@@ -263,43 +271,58 @@ fn order_of(alloc: Global, count: usize, found: &Ranking) -> Result<Vec<usize>, 
     Ok(order)
 }
 
+/// What is tested, the number of processes, the calls, and the processes that can be ranked, in order.
+const ORDERS: &[(&str, usize, &[(usize, Place, usize)], &[usize])] = &[
+    ("no process", 0, &[], &[]),
+    (
+        "a chain against the order",
+        3,
+        &[(0, Place::Bare, 1), (1, Place::Bare, 2)],
+        &[2, 1, 0],
+    ),
+    (
+        "a process that calls another twice",
+        2,
+        &[(0, Place::Bare, 1), (0, Place::Bare, 1)],
+        &[1, 0],
+    ),
+    (
+        "a process called by two, and one that calls both",
+        4,
+        &[
+            (3, Place::Bare, 0),
+            (3, Place::Bare, 2),
+            (0, Place::Bare, 1),
+            (2, Place::Bare, 1),
+        ],
+        &[1, 0, 2, 3],
+    ),
+    (
+        "a cycle, a process that calls into it, and one called from it",
+        4,
+        &[
+            (0, Place::Bare, 1),
+            (1, Place::Bare, 2),
+            (2, Place::Bare, 1),
+            (2, Place::Bare, 3),
+        ],
+        &[3],
+    ),
+    (
+        "a call of a process that calls itself, and one of another",
+        3,
+        &[
+            (0, Place::Bare, 1),
+            (0, Place::Bare, 2),
+            (1, Place::Bare, 1),
+        ],
+        &[2],
+    ),
+];
+
 #[test]
 fn orders_callers_behind_their_calls(rt: HostRuntime) -> Result<(), Fail> {
-    let bare = Place::Bare;
-    let rows: [(&str, usize, &[(usize, Place, usize)], &[usize]); 6] = [
-        ("no process", 0, &[], &[]),
-        (
-            "a chain against the order",
-            3,
-            &[(0, bare, 1), (1, bare, 2)],
-            &[2, 1, 0],
-        ),
-        (
-            "a process that calls another twice",
-            2,
-            &[(0, bare, 1), (0, bare, 1)],
-            &[1, 0],
-        ),
-        (
-            "a process called by two, and one that calls both",
-            4,
-            &[(3, bare, 0), (3, bare, 2), (0, bare, 1), (2, bare, 1)],
-            &[1, 0, 2, 3],
-        ),
-        (
-            "a cycle, a process that calls into it, and one called from it",
-            4,
-            &[(0, bare, 1), (1, bare, 2), (2, bare, 1), (2, bare, 3)],
-            &[3],
-        ),
-        (
-            "a call of a process that calls itself, and one of another",
-            3,
-            &[(0, bare, 1), (0, bare, 2), (1, bare, 1)],
-            &[2],
-        ),
-    ];
-    for (words, count, calls, expected) in &rows {
+    for (words, count, calls, expected) in ORDERS {
         let found = ranked(rt.alloc(), *count, calls)?;
         let order = order_of(rt.alloc(), *count, &found)?;
         assert_eq!(rt; order.as_slice(), *expected, "the order of {}", words);

@@ -11,19 +11,21 @@ fn name_of(alloc: Global, word: &str) -> Result<Name, TextFault> {
     Ok(tree.whole.name.name.copy(alloc)?)
 }
 
+/// Two names, and how the first compares with the second.
+const PAIRS: &[(&str, &str, Ordering)] = &[
+    ("a", "a", Ordering::Equal),
+    ("Gate_1", "gATE_1", Ordering::Equal),
+    ("a", "a1", Ordering::Less),
+    ("a1", "a", Ordering::Greater),
+    ("ab", "b", Ordering::Less),
+    ("b", "ab", Ordering::Greater),
+    ("a1", "az", Ordering::Less),
+    ("az", "a_", Ordering::Less),
+];
+
 #[test]
 fn orders_names_as_their_texts(rt: HostRuntime) -> Result<(), Fail> {
-    let rows: [(&str, &str, Ordering); 8] = [
-        ("a", "a", Ordering::Equal),
-        ("Gate_1", "gATE_1", Ordering::Equal),
-        ("a", "a1", Ordering::Less),
-        ("a1", "a", Ordering::Greater),
-        ("ab", "b", Ordering::Less),
-        ("b", "ab", Ordering::Greater),
-        ("a1", "az", Ordering::Less),
-        ("az", "a_", Ordering::Less),
-    ];
-    for (left, right, expected) in &rows {
+    for (left, right, expected) in PAIRS {
         let row = *left;
         let left = name_of(rt.alloc(), left)?;
         let right = name_of(rt.alloc(), right)?;

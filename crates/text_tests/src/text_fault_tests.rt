@@ -3,150 +3,152 @@ use super::table_texts::{FRONT, fault_of};
 use lotos_text::{TEXT_LIMIT, parse};
 use std::test::Fail;
 
+/// What is wrong, the text after the header, and the number and the offset of the fault.
+const BEHAVIOURS: &[(&str, &str, u8, usize)] = &[
+    ("two operands", "stop stop endspec", 4, 40),
+    ("no operand", "endspec", 4, 35),
+    ("an action with no semicolon", "i stop endspec", 4, 37),
+    ("a call before an operand", "a stop endspec", 4, 37),
+    ("two semicolons", "a; ; stop endspec", 4, 38),
+    ("an action before nothing", "a; endspec", 4, 38),
+    ("an operand before a semicolon", "stop; stop endspec", 4, 39),
+    ("`exit` before a semicolon", "exit; stop endspec", 4, 39),
+    ("`exit` before a gate list", "exit [a] endspec", 4, 40),
+    ("parentheses before a gate list", "(P) [a] endspec", 4, 39),
+    ("parentheses before a semicolon", "(a); stop endspec", 4, 38),
+    ("`stop` before a gate list", "stop [a] endspec", 4, 40),
+    ("a choice of nothing", "stop [] endspec", 4, 43),
+    (
+        "a choice that begins with its mark",
+        "[] stop endspec",
+        4,
+        35,
+    ),
+    ("two marks of choice", "stop [] [] stop endspec", 4, 43),
+    ("an enabling of nothing", "exit >> endspec", 4, 43),
+    (
+        "a disabling that begins with its mark",
+        "[> stop endspec",
+        4,
+        35,
+    ),
+    ("two parallel marks", "stop || ||| stop endspec", 4, 43),
+    ("parentheses that stay open", "(stop endspec", 4, 41),
+    ("parentheses about nothing", "() endspec", 4, 36),
+    ("parentheses that nothing opened", "stop) endspec", 4, 39),
+    ("the mark of choice as a gate list", "P[] endspec", 4, 39),
+    ("a gate list without names", "P[ ] endspec", 4, 38),
+    ("a gate list of a mark", "P[;] endspec", 4, 37),
+    ("a gate list that stays open", "P[a endspec", 4, 39),
+    ("two gate lists", "P[a][b] endspec", 4, 39),
+    ("a call before a semicolon", "P[a]; stop endspec", 4, 39),
+    ("an internal action with gates", "i[a]; stop endspec", 4, 36),
+    ("an internal action alone", "i endspec", 4, 37),
+    ("`hide` before nothing", "hide endspec", 4, 40),
+    ("`hide` without gates", "hide in stop endspec", 4, 40),
+    (
+        "`hide` of a list in brackets",
+        "hide [a] in stop endspec",
+        4,
+        40,
+    ),
+    ("`hide` without `in`", "hide a stop endspec", 4, 42),
+    (
+        "`hide` with a comma too many",
+        "hide a, in stop endspec",
+        4,
+        43,
+    ),
+    ("`hide` of nothing", "hide a in endspec", 4, 45),
+    (
+        "a hide form in parentheses before a gate list",
+        "(hide a in P) [b] endspec",
+        4,
+        49,
+    ),
+    (
+        "a hide form before a semicolon",
+        "hide a in stop; stop endspec",
+        4,
+        49,
+    ),
+    ("`|[` without `]`", "stop |[a| stop endspec", 4, 43),
+    ("`|[` with `]` and no `|`", "stop |[a] stop endspec", 4, 45),
+    ("`|[` with two `]`", "stop |[]] stop endspec", 4, 43),
+    ("`|[` before a comma", "stop |[,]| stop endspec", 4, 42),
+    (
+        "`|[` of the mark of choice",
+        "stop |[[]]| stop endspec",
+        4,
+        42,
+    ),
+    ("a bar alone", "stop | stop endspec", 4, 40),
+    ("`where` before nothing", "stop where endspec", 4, 46),
+    ("`where` before no behaviour", "where endspec", 4, 35),
+    ("a word of full LOTOS", "choice endspec", 7, 35),
+    (
+        "a word of full LOTOS behind an operand",
+        "stop let endspec",
+        7,
+        40,
+    ),
+    (
+        "a word of full LOTOS in a gate list",
+        "P[type] endspec",
+        7,
+        37,
+    ),
+    (
+        "a word of full LOTOS behind `where`",
+        "stop where library endspec",
+        7,
+        46,
+    ),
+    (
+        "a word of full LOTOS behind the end",
+        "stop endspec par",
+        7,
+        48,
+    ),
+    ("a token behind the end", "stop endspec endspec", 4, 48),
+    (
+        "a strange byte behind a token that is not expected",
+        "stop stop $ endspec",
+        1,
+        45,
+    ),
+    ("a strange byte behind the end", "stop endspec #", 1, 48),
+    ("an open comment behind the end", "stop endspec (* *", 2, 48),
+    (
+        "an open comment behind a token that is not expected",
+        "stop stop (*",
+        2,
+        45,
+    ),
+    ("a text that ends before the operand", "", 6, 35),
+    ("a text that ends behind a name", "a", 6, 36),
+    ("a text that ends behind a semicolon", "a;", 6, 37),
+    ("a text that ends behind an operand", "stop", 6, 39),
+    ("a text that ends behind a choice", "stop []", 6, 42),
+    ("a text that ends in parentheses", "(stop ", 6, 41),
+    ("a text that ends in a gate list", "P[a,", 6, 39),
+    ("a text that ends behind `hide`", "hide", 6, 39),
+    ("a text that ends behind a hidden gate", "hide a", 6, 41),
+    ("a text that ends behind `in`", "hide a in", 6, 44),
+    ("a text that ends behind `|[`", "stop |[", 6, 42),
+    ("a text that ends behind `|[` and a gate", "stop |[a", 6, 43),
+    ("a text that ends behind `|[` and `]`", "stop |[]", 6, 43),
+    ("a text that ends behind `where`", "stop where", 6, 45),
+    ("a text that ends behind a comment", "stop (* *)", 6, 45),
+];
+
 #[test]
 fn refuses_behaviour_expressions(rt: HostRuntime) -> Result<(), Fail> {
-    let rows = [
-        ("two operands", "stop stop endspec", 4, 40),
-        ("no operand", "endspec", 4, 35),
-        ("an action with no semicolon", "i stop endspec", 4, 37),
-        ("a call before an operand", "a stop endspec", 4, 37),
-        ("two semicolons", "a; ; stop endspec", 4, 38),
-        ("an action before nothing", "a; endspec", 4, 38),
-        ("an operand before a semicolon", "stop; stop endspec", 4, 39),
-        ("`exit` before a semicolon", "exit; stop endspec", 4, 39),
-        ("`exit` before a gate list", "exit [a] endspec", 4, 40),
-        ("parentheses before a gate list", "(P) [a] endspec", 4, 39),
-        ("parentheses before a semicolon", "(a); stop endspec", 4, 38),
-        ("`stop` before a gate list", "stop [a] endspec", 4, 40),
-        ("a choice of nothing", "stop [] endspec", 4, 43),
-        (
-            "a choice that begins with its mark",
-            "[] stop endspec",
-            4,
-            35,
-        ),
-        ("two marks of choice", "stop [] [] stop endspec", 4, 43),
-        ("an enabling of nothing", "exit >> endspec", 4, 43),
-        (
-            "a disabling that begins with its mark",
-            "[> stop endspec",
-            4,
-            35,
-        ),
-        ("two parallel marks", "stop || ||| stop endspec", 4, 43),
-        ("parentheses that stay open", "(stop endspec", 4, 41),
-        ("parentheses about nothing", "() endspec", 4, 36),
-        ("parentheses that nothing opened", "stop) endspec", 4, 39),
-        ("the mark of choice as a gate list", "P[] endspec", 4, 39),
-        ("a gate list without names", "P[ ] endspec", 4, 38),
-        ("a gate list of a mark", "P[;] endspec", 4, 37),
-        ("a gate list that stays open", "P[a endspec", 4, 39),
-        ("two gate lists", "P[a][b] endspec", 4, 39),
-        ("a call before a semicolon", "P[a]; stop endspec", 4, 39),
-        ("an internal action with gates", "i[a]; stop endspec", 4, 36),
-        ("an internal action alone", "i endspec", 4, 37),
-        ("`hide` before nothing", "hide endspec", 4, 40),
-        ("`hide` without gates", "hide in stop endspec", 4, 40),
-        (
-            "`hide` of a list in brackets",
-            "hide [a] in stop endspec",
-            4,
-            40,
-        ),
-        ("`hide` without `in`", "hide a stop endspec", 4, 42),
-        (
-            "`hide` with a comma too many",
-            "hide a, in stop endspec",
-            4,
-            43,
-        ),
-        ("`hide` of nothing", "hide a in endspec", 4, 45),
-        (
-            "a hide form in parentheses before a gate list",
-            "(hide a in P) [b] endspec",
-            4,
-            49,
-        ),
-        (
-            "a hide form before a semicolon",
-            "hide a in stop; stop endspec",
-            4,
-            49,
-        ),
-        ("`|[` without `]`", "stop |[a| stop endspec", 4, 43),
-        ("`|[` with `]` and no `|`", "stop |[a] stop endspec", 4, 45),
-        ("`|[` with two `]`", "stop |[]] stop endspec", 4, 43),
-        ("`|[` before a comma", "stop |[,]| stop endspec", 4, 42),
-        (
-            "`|[` of the mark of choice",
-            "stop |[[]]| stop endspec",
-            4,
-            42,
-        ),
-        ("a bar alone", "stop | stop endspec", 4, 40),
-        ("`where` before nothing", "stop where endspec", 4, 46),
-        ("`where` before no behaviour", "where endspec", 4, 35),
-        ("a word of full LOTOS", "choice endspec", 7, 35),
-        (
-            "a word of full LOTOS behind an operand",
-            "stop let endspec",
-            7,
-            40,
-        ),
-        (
-            "a word of full LOTOS in a gate list",
-            "P[type] endspec",
-            7,
-            37,
-        ),
-        (
-            "a word of full LOTOS behind `where`",
-            "stop where library endspec",
-            7,
-            46,
-        ),
-        (
-            "a word of full LOTOS behind the end",
-            "stop endspec par",
-            7,
-            48,
-        ),
-        ("a token behind the end", "stop endspec endspec", 4, 48),
-        (
-            "a strange byte behind a token that is not expected",
-            "stop stop $ endspec",
-            1,
-            45,
-        ),
-        ("a strange byte behind the end", "stop endspec #", 1, 48),
-        ("an open comment behind the end", "stop endspec (* *", 2, 48),
-        (
-            "an open comment behind a token that is not expected",
-            "stop stop (*",
-            2,
-            45,
-        ),
-        ("a text that ends before the operand", "", 6, 35),
-        ("a text that ends behind a name", "a", 6, 36),
-        ("a text that ends behind a semicolon", "a;", 6, 37),
-        ("a text that ends behind an operand", "stop", 6, 39),
-        ("a text that ends behind a choice", "stop []", 6, 42),
-        ("a text that ends in parentheses", "(stop ", 6, 41),
-        ("a text that ends in a gate list", "P[a,", 6, 39),
-        ("a text that ends behind `hide`", "hide", 6, 39),
-        ("a text that ends behind a hidden gate", "hide a", 6, 41),
-        ("a text that ends behind `in`", "hide a in", 6, 44),
-        ("a text that ends behind `|[`", "stop |[", 6, 42),
-        ("a text that ends behind `|[` and a gate", "stop |[a", 6, 43),
-        ("a text that ends behind `|[` and `]`", "stop |[]", 6, 43),
-        ("a text that ends behind `where`", "stop where", 6, 45),
-        ("a text that ends behind a comment", "stop (* *)", 6, 45),
-    ];
-    for (words, expression, number, at) in rows {
+    for (words, expression, number, at) in BEHAVIOURS {
         let text = format!(in rt.alloc(); "{FRONT}{expression}")?;
         assert_eq!(rt;
             fault_of(parse(rt.alloc(), text.as_bytes())),
-            (number, at),
+            (*number, *at),
             "{}",
             words
         );
@@ -154,93 +156,95 @@ fn refuses_behaviour_expressions(rt: HostRuntime) -> Result<(), Fail> {
     Ok(())
 }
 
+/// What is wrong, the text after `where`, and the number and the offset of the fault.
+const DEFINITIONS: &[(&str, &str, u8, usize)] = &[
+    ("the end", "endspec", 4, 46),
+    ("a name", "P : noexit := stop endproc endspec", 4, 46),
+    (
+        "a specification",
+        "specification P : noexit := stop endproc",
+        4,
+        46,
+    ),
+    ("no name", "process : noexit := stop endproc endspec", 4, 54),
+    (
+        "no colon",
+        "process P noexit := stop endproc endspec",
+        4,
+        56,
+    ),
+    (
+        "`:=` for the colon",
+        "process P := stop endproc endspec",
+        4,
+        56,
+    ),
+    (
+        "a colon for `:=`",
+        "process P : noexit : stop endproc endspec",
+        4,
+        65,
+    ),
+    (
+        "`behaviour` for `:=`",
+        "process P : noexit behaviour stop endproc",
+        4,
+        65,
+    ),
+    ("no body", "process P : noexit := endproc endspec", 4, 68),
+    (
+        "`endspec` for `endproc`",
+        "process P : noexit := stop endspec",
+        4,
+        73,
+    ),
+    (
+        "a name behind a process",
+        "process P : noexit := stop endproc x endspec",
+        4,
+        81,
+    ),
+    (
+        "a second `where`",
+        "process P : noexit := stop endproc where",
+        4,
+        81,
+    ),
+    (
+        "a second `endproc`",
+        "process P : noexit := stop endproc endproc",
+        4,
+        81,
+    ),
+    (
+        "a word of full LOTOS behind a process",
+        "process P : noexit := stop endproc type",
+        7,
+        81,
+    ),
+    ("a text that ends behind `process`", "process", 6, 53),
+    (
+        "a text that ends in the body",
+        "process P : noexit := a;",
+        6,
+        70,
+    ),
+    (
+        "a text that ends behind a process",
+        "process P : noexit := stop endproc",
+        6,
+        80,
+    ),
+];
+
 /// What follows the keyword `where`. It begins at offset 46.
 #[test]
 fn refuses_definitions(rt: HostRuntime) -> Result<(), Fail> {
-    let rows = [
-        ("the end", "endspec", 4, 46),
-        ("a name", "P : noexit := stop endproc endspec", 4, 46),
-        (
-            "a specification",
-            "specification P : noexit := stop endproc",
-            4,
-            46,
-        ),
-        ("no name", "process : noexit := stop endproc endspec", 4, 54),
-        (
-            "no colon",
-            "process P noexit := stop endproc endspec",
-            4,
-            56,
-        ),
-        (
-            "`:=` for the colon",
-            "process P := stop endproc endspec",
-            4,
-            56,
-        ),
-        (
-            "a colon for `:=`",
-            "process P : noexit : stop endproc endspec",
-            4,
-            65,
-        ),
-        (
-            "`behaviour` for `:=`",
-            "process P : noexit behaviour stop endproc",
-            4,
-            65,
-        ),
-        ("no body", "process P : noexit := endproc endspec", 4, 68),
-        (
-            "`endspec` for `endproc`",
-            "process P : noexit := stop endspec",
-            4,
-            73,
-        ),
-        (
-            "a name behind a process",
-            "process P : noexit := stop endproc x endspec",
-            4,
-            81,
-        ),
-        (
-            "a second `where`",
-            "process P : noexit := stop endproc where",
-            4,
-            81,
-        ),
-        (
-            "a second `endproc`",
-            "process P : noexit := stop endproc endproc",
-            4,
-            81,
-        ),
-        (
-            "a word of full LOTOS behind a process",
-            "process P : noexit := stop endproc type",
-            7,
-            81,
-        ),
-        ("a text that ends behind `process`", "process", 6, 53),
-        (
-            "a text that ends in the body",
-            "process P : noexit := a;",
-            6,
-            70,
-        ),
-        (
-            "a text that ends behind a process",
-            "process P : noexit := stop endproc",
-            6,
-            80,
-        ),
-    ];
-    for (words, definitions, number, at) in rows {
+    for (words, definitions, number, at) in DEFINITIONS {
         let text = format!(in rt.alloc(); "{FRONT}stop where {definitions}")?;
         assert_eq!(rt;
             fault_of(parse(rt.alloc(), text.as_bytes())),
-            (number, at),
+            (*number, *at),
             "{}",
             words
         );
@@ -262,150 +266,154 @@ fn refuses_words_of_full_lotos(rt: HostRuntime) -> Result<(), Fail> {
     Ok(())
 }
 
+/// What is wrong, a text, and the number and the offset of the fault.
+const TEXTS: &[(&str, &str, u8, usize)] = &[
+    ("an opening that looks closed", "(*)", 2, 0),
+    ("a comment alone", "(**)", 6, 4),
+    ("a comment with a parenthesis alone", "(*)*)", 6, 5),
+    (
+        "a comment that stays open",
+        "specification S (* open",
+        2,
+        16,
+    ),
+    (
+        "`P[]`",
+        "specification S [a] : noexit behaviour P[] endspec",
+        4,
+        43,
+    ),
+    (
+        "an end behind a semicolon",
+        "specification S [a] : noexit behaviour a;",
+        6,
+        41,
+    ),
+    (
+        "a choice of full LOTOS",
+        "specification S [a] : noexit behaviour choice endspec",
+        7,
+        39,
+    ),
+];
+
 /// Complete texts: comments alone, and specifications.
 #[test]
 fn refuses_whole_texts(rt: HostRuntime) {
-    let rows = [
-        ("an opening that looks closed", "(*)", 2, 0),
-        ("a comment alone", "(**)", 6, 4),
-        ("a comment with a parenthesis alone", "(*)*)", 6, 5),
-        (
-            "a comment that stays open",
-            "specification S (* open",
-            2,
-            16,
-        ),
-        (
-            "`P[]`",
-            "specification S [a] : noexit behaviour P[] endspec",
-            4,
-            43,
-        ),
-        (
-            "an end behind a semicolon",
-            "specification S [a] : noexit behaviour a;",
-            6,
-            41,
-        ),
-        (
-            "a choice of full LOTOS",
-            "specification S [a] : noexit behaviour choice endspec",
-            7,
-            39,
-        ),
-    ];
-    for (words, text, number, at) in rows {
+    for (words, text, number, at) in TEXTS {
         assert_eq!(rt;
             fault_of(parse(rt.alloc(), text.as_bytes())),
-            (number, at),
+            (*number, *at),
             "{}",
             words
         );
     }
 }
 
+/// What is wrong, a text, and the number and the offset of the fault.
+const HEADERS: &[(&str, &str, u8, usize)] = &[
+    ("the empty text", "", 6, 0),
+    ("blanks alone", " \n ", 6, 3),
+    (
+        "no word `specification`",
+        "S : exit behaviour exit endspec",
+        4,
+        0,
+    ),
+    (
+        "no name",
+        "specification : exit behaviour exit endspec",
+        4,
+        14,
+    ),
+    (
+        "a reserved word as the name",
+        "specification stop : exit behaviour exit endspec",
+        4,
+        14,
+    ),
+    (
+        "the mark of choice as a gate list",
+        "specification S [] : noexit behaviour stop endspec",
+        4,
+        16,
+    ),
+    (
+        "a gate list without names",
+        "specification S [ ] : noexit behaviour stop endspec",
+        4,
+        18,
+    ),
+    (
+        "a comma before the bracket",
+        "specification S [a,] : noexit behaviour stop endspec",
+        4,
+        19,
+    ),
+    (
+        "two gates without a comma",
+        "specification S [a b] : noexit behaviour stop endspec",
+        4,
+        19,
+    ),
+    (
+        "the internal action as a gate",
+        "specification S [a,i] : noexit behaviour stop endspec",
+        4,
+        19,
+    ),
+    (
+        "two gate lists",
+        "specification S [a][b] : noexit behaviour stop endspec",
+        4,
+        19,
+    ),
+    (
+        "no colon",
+        "specification S noexit behaviour stop endspec",
+        4,
+        16,
+    ),
+    (
+        "`:=` as the colon",
+        "specification S := noexit behaviour stop endspec",
+        4,
+        16,
+    ),
+    (
+        "no functionality",
+        "specification S : behaviour stop endspec",
+        4,
+        18,
+    ),
+    (
+        "a name as the functionality",
+        "specification S : never behaviour stop endspec",
+        4,
+        18,
+    ),
+    (
+        "no word `behaviour`",
+        "specification S : noexit stop endspec",
+        4,
+        25,
+    ),
+    ("an end in the gate list", "specification S [a", 6, 18),
+    ("an end behind a comma", "specification S [a, ", 6, 20),
+    (
+        "an end behind the semicolon",
+        "specification S [a] : noexit behaviour a;",
+        6,
+        41,
+    ),
+];
+
 #[test]
 fn refuses_headers(rt: HostRuntime) {
-    let rows = [
-        ("the empty text", "", 6, 0),
-        ("blanks alone", " \n ", 6, 3),
-        (
-            "no word `specification`",
-            "S : exit behaviour exit endspec",
-            4,
-            0,
-        ),
-        (
-            "no name",
-            "specification : exit behaviour exit endspec",
-            4,
-            14,
-        ),
-        (
-            "a reserved word as the name",
-            "specification stop : exit behaviour exit endspec",
-            4,
-            14,
-        ),
-        (
-            "the mark of choice as a gate list",
-            "specification S [] : noexit behaviour stop endspec",
-            4,
-            16,
-        ),
-        (
-            "a gate list without names",
-            "specification S [ ] : noexit behaviour stop endspec",
-            4,
-            18,
-        ),
-        (
-            "a comma before the bracket",
-            "specification S [a,] : noexit behaviour stop endspec",
-            4,
-            19,
-        ),
-        (
-            "two gates without a comma",
-            "specification S [a b] : noexit behaviour stop endspec",
-            4,
-            19,
-        ),
-        (
-            "the internal action as a gate",
-            "specification S [a,i] : noexit behaviour stop endspec",
-            4,
-            19,
-        ),
-        (
-            "two gate lists",
-            "specification S [a][b] : noexit behaviour stop endspec",
-            4,
-            19,
-        ),
-        (
-            "no colon",
-            "specification S noexit behaviour stop endspec",
-            4,
-            16,
-        ),
-        (
-            "`:=` as the colon",
-            "specification S := noexit behaviour stop endspec",
-            4,
-            16,
-        ),
-        (
-            "no functionality",
-            "specification S : behaviour stop endspec",
-            4,
-            18,
-        ),
-        (
-            "a name as the functionality",
-            "specification S : never behaviour stop endspec",
-            4,
-            18,
-        ),
-        (
-            "no word `behaviour`",
-            "specification S : noexit stop endspec",
-            4,
-            25,
-        ),
-        ("an end in the gate list", "specification S [a", 6, 18),
-        ("an end behind a comma", "specification S [a, ", 6, 20),
-        (
-            "an end behind the semicolon",
-            "specification S [a] : noexit behaviour a;",
-            6,
-            41,
-        ),
-    ];
-    for (words, text, number, at) in rows {
+    for (words, text, number, at) in HEADERS {
         assert_eq!(rt;
             fault_of(parse(rt.alloc(), text.as_bytes())),
-            (number, at),
+            (*number, *at),
             "{}",
             words
         );
