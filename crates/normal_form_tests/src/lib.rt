@@ -8,6 +8,8 @@ mod protocols;
 #[cfg(test)]
 mod recurrence_tests;
 #[cfg(test)]
+mod step_tests;
+#[cfg(test)]
 mod term_list;
 #[cfg(test)]
 mod term_list_error;
