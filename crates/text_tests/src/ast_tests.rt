@@ -1,12 +1,19 @@
 //! Texts that spell a specification, and what they spell.
 use super::table_texts::{FRONT, write_behaviour, write_definition};
-use lotos_text::{Functionality, parse};
+use lotos_text::{Definition, Functionality, TextFault, parse};
+use std::alloc::Global;
 use std::test::Fail;
+
+/// The specification that a text spells.
+fn definition(alloc: Global, text: &[u8]) -> Result<Definition, TextFault> {
+    let tree = parse(alloc, text)?;
+    Ok(tree.whole)
+}
 
 #[test]
 fn reads_every_field(rt: HostRuntime) -> Result<(), Fail> {
     let text = b"specification S [a,b] : exit behaviour a; b; exit endspec";
-    let whole = parse(rt.alloc(), text)?.whole;
+    let whole = definition(rt.alloc(), text)?;
 
     assert_eq!(rt;
         (whole.name.name.text(), whole.name.at),
@@ -48,11 +55,10 @@ fn reads_every_field(rt: HostRuntime) -> Result<(), Fail> {
 
 #[test]
 fn reads_a_header_without_gates(rt: HostRuntime) -> Result<(), Fail> {
-    let whole = parse(
+    let whole = definition(
         rt.alloc(),
         b"SPECIFICATION x_1 : noexit BEHAVIOR stop EndSpec",
-    )?
-    .whole;
+    )?;
 
     assert_eq!(rt;
         (whole.name.name.text(), whole.name.at),
@@ -233,7 +239,7 @@ const BEHAVIOURS: &[(&str, &str, &str)] = &[
 fn reads_behaviour_expressions(rt: HostRuntime) -> Result<(), Fail> {
     for (words, expression, expected) in BEHAVIOURS {
         let text = format!(in rt.alloc(); "{FRONT}{expression} endspec")?;
-        let whole = parse(rt.alloc(), text.as_bytes())?.whole;
+        let whole = definition(rt.alloc(), text.as_bytes())?;
         let mut body = String::new(rt.alloc());
         write_behaviour(rt.alloc(), &mut body, &whole.body)?;
         assert_eq!(rt; body.as_str(), *expected, "{}", words);
@@ -273,7 +279,7 @@ const DEFINITIONS: &[(&str, &str, &str)] = &[
 #[test]
 fn reads_definitions(rt: HostRuntime) -> Result<(), Fail> {
     for (words, text, expected) in DEFINITIONS {
-        let whole = parse(rt.alloc(), text.as_bytes())?.whole;
+        let whole = definition(rt.alloc(), text.as_bytes())?;
         let mut found = String::new(rt.alloc());
         write_definition(rt.alloc(), &mut found, &whole)?;
         assert_eq!(rt; found.as_str(), *expected, "{}", words);
