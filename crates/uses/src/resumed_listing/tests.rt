@@ -1,4 +1,6 @@
 //! Items after a line, and second items.
+ghost use Rattle.std.specs.Prelude.{◌≤◌};
+
 use super::{ItemFault, item_after, second_item};
 use lotos_check::check;
 use lotos_pattern::Pattern;
@@ -51,14 +53,38 @@ fn sequence(found: &Option<Found>) -> Option<&[Label]> {
     }
 }
 
+/// The item that `item_after` returns, without its search.
+fn found_after(
+    alloc: Global,
+    table: Table,
+    pattern: Pattern,
+    line: &str,
+) -> Result<Option<Found>, ItemFault> {
+    let (_search, found) = item_after(alloc, table, pattern, DEPTH, line, TERMS)?;
+    Ok(found)
+}
+
+/// The item that `second_item` returns, without its search.
+fn found_second(
+    alloc: Global,
+    table: Table,
+    pattern: Pattern,
+    terms: usize,
+) -> Result<Option<Found>, Halt>
+    requires { 1 ≤ terms }
+{
+    let (_search, found) = second_item(alloc, table, pattern, DEPTH, terms)?;
+    Ok(found)
+}
+
 #[test]
 fn finds_the_item_behind_a_line(rt: HostRuntime) -> Result<(), Fail> {
     let alloc = rt.alloc();
     for (line, wanted) in LINES {
         let table = table_of(alloc, TEXT)?;
         let pattern = Pattern::read(alloc, &["<while>", "<any>"], false)?;
-        match item_after(alloc, table, pattern, DEPTH, line, TERMS) {
-            Ok((_, found)) => assert_eq!(rt; sequence(&found), *wanted, "behind {}", line),
+        match found_after(alloc, table, pattern, line) {
+            Ok(found) => assert_eq!(rt; sequence(&found), *wanted, "behind {}", line),
             Err(_) => return Err("no answer")?,
         }
     }
@@ -70,31 +96,33 @@ fn refuses_a_line_that_no_listing_has(rt: HostRuntime) -> Result<(), Fail> {
     let alloc = rt.alloc();
     let table = table_of(alloc, TEXT)?;
     let pattern = Pattern::read(alloc, &["<any>"], false)?;
-    let answer = item_after(alloc, table, pattern, DEPTH, "A  B", TERMS);
+    let answer = found_after(alloc, table, pattern, "A  B");
     assert!(rt; matches!(answer, Err(ItemFault::Line)), "two blanks");
     Ok(())
 }
 
+/// The words of a pattern, and the sequence of the second item of its listing, if there is one.
+const SECOND: &[(&[&str], Option<&[Label]>)] = &[
+    (&["<while>", "<any>"], Some(&[A])),
+    (&["<any>"], Some(&[B])),
+    // `A exit` and `B A`.
+    (&["<any>", "<any>"], Some(&[B, A])),
+    // `A exit` and `B A exit`.
+    (&["<until>", "exit"], Some(&[B, A, Label::Exit])),
+    // `B` alone.
+    (&["b"], None),
+    // None at all.
+    (&["c"], None),
+];
+
 #[test]
 fn finds_the_second_item(rt: HostRuntime) -> Result<(), Fail> {
     let alloc = rt.alloc();
-    let rows: &[(&[&str], Option<&[Label]>)] = &[
-        (&["<while>", "<any>"], Some(&[A])),
-        (&["<any>"], Some(&[B])),
-        // `A exit` and `B A`.
-        (&["<any>", "<any>"], Some(&[B, A])),
-        // `A exit` and `B A exit`.
-        (&["<until>", "exit"], Some(&[B, A, Label::Exit])),
-        // `B` alone.
-        (&["b"], None),
-        // None at all.
-        (&["c"], None),
-    ];
-    for (words, wanted) in rows {
+    for (words, wanted) in SECOND {
         let table = table_of(alloc, TEXT)?;
         let pattern = Pattern::read(alloc, words, false)?;
-        match second_item(alloc, table, pattern, DEPTH, TERMS) {
-            Ok((_, found)) => assert_eq!(rt; sequence(&found), *wanted, "{:?}", words),
+        match found_second(alloc, table, pattern, TERMS) {
+            Ok(found) => assert_eq!(rt; sequence(&found), *wanted, "{:?}", words),
             Err(_) => return Err("no answer")?,
         }
     }
@@ -107,7 +135,7 @@ fn stops_where_a_prefix_is_over(rt: HostRuntime) -> Result<(), Fail> {
     let text = "specification S [a] : noexit behaviour a; stop [] a; a; stop endspec";
     let table = table_of(alloc, text)?;
     let pattern = Pattern::read(alloc, &["<while>", "<any>"], false)?;
-    match second_item(alloc, table, pattern, DEPTH, 1) {
+    match found_second(alloc, table, pattern, 1) {
         Err(Halt::OverTerms(prefix)) => assert_eq!(rt;
             prefix.as_slice(),
             [A].as_slice(),
