@@ -1,4 +1,4 @@
-//! Shortest matches in small specifications.
+//! First matches in small specifications.
 
 use lotos_check::check;
 use lotos_ever::{Halt, find_shortest_match};
@@ -33,7 +33,7 @@ struct Row<'a> {
 #[derive(Clone, Copy)]
 enum Answer<'a> {
     NoMatch,
-    /// The run of a shortest match, and what is observed of it.
+    /// The run of the first match, and what is observed of it.
     Found(&'a [Label], &'a [Label]),
     TooManyStates,
 }
@@ -147,6 +147,101 @@ const ROWS: &[Row] = &[
         strong: false,
         states: MANY,
         answer: Answer::Found(&[I, A, B], &[A, B]),
+    },
+    // Of matches with as many steps the first by the labels. One label leads to several terms, in either order, and the
+    // runs differ at the next step or later.
+    Row {
+        behaviour: "noexit behaviour a; a; stop [] a; b; stop",
+        words: &["<any>", "<any>"],
+        strong: false,
+        states: MANY,
+        answer: Answer::Found(&[A, A], &[A, A]),
+    },
+    Row {
+        behaviour: "noexit behaviour a; b; stop [] a; a; stop",
+        words: &["<any>", "<any>"],
+        strong: false,
+        states: MANY,
+        answer: Answer::Found(&[A, A], &[A, A]),
+    },
+    Row {
+        behaviour: "noexit behaviour a; b; a; b; stop [] a; b; b; a; stop",
+        words: &["<any>", "<any>", "<any>", "<any>"],
+        strong: false,
+        states: MANY,
+        answer: Answer::Found(&[A, B, A, B], &[A, B, A, B]),
+    },
+    Row {
+        behaviour: "noexit behaviour a; b; b; a; stop [] a; b; a; b; stop",
+        words: &["<any>", "<any>", "<any>", "<any>"],
+        strong: false,
+        states: MANY,
+        answer: Answer::Found(&[A, B, A, B], &[A, B, A, B]),
+    },
+    Row {
+        behaviour: "noexit behaviour b; a; b; a; stop [] b; a; b; b; stop [] b; a; a; b; stop",
+        words: &["<any>", "<any>", "<any>", "<any>"],
+        strong: false,
+        states: MANY,
+        answer: Answer::Found(&[B, A, A, B], &[B, A, A, B]),
+    },
+    Row {
+        behaviour: "noexit behaviour b; a; a; b; stop [] b; a; b; b; stop [] b; a; b; a; stop",
+        words: &["<any>", "<any>", "<any>", "<any>"],
+        strong: false,
+        states: MANY,
+        answer: Answer::Found(&[B, A, A, B], &[B, A, A, B]),
+    },
+    // The same after internal steps, and by different internal steps.
+    Row {
+        behaviour: "noexit behaviour i; a; stop [] i; b; stop",
+        words: &["<any>"],
+        strong: false,
+        states: MANY,
+        answer: Answer::Found(&[I, A], &[A]),
+    },
+    Row {
+        behaviour: "noexit behaviour i; b; stop [] i; a; stop",
+        words: &["<any>"],
+        strong: false,
+        states: MANY,
+        answer: Answer::Found(&[I, A], &[A]),
+    },
+    Row {
+        behaviour: "noexit behaviour i; b; i; a; stop [] i; i; b; a; stop",
+        words: &["b", "a"],
+        strong: false,
+        states: MANY,
+        answer: Answer::Found(&[I, B, I, A], &[B, A]),
+    },
+    Row {
+        behaviour: "noexit behaviour i; i; b; a; stop [] i; b; i; a; stop",
+        words: &["b", "a"],
+        strong: false,
+        states: MANY,
+        answer: Answer::Found(&[I, B, I, A], &[B, A]),
+    },
+    // The internal action is the last label, and termination the last but one.
+    Row {
+        behaviour: "noexit behaviour i; a; stop [] a; i; stop",
+        words: &["a", "<deadlock>"],
+        strong: false,
+        states: MANY,
+        answer: Answer::Found(&[A, I], &[A]),
+    },
+    Row {
+        behaviour: "exit behaviour exit [] b; stop",
+        words: &["<any>"],
+        strong: false,
+        states: MANY,
+        answer: Answer::Found(&[B], &[B]),
+    },
+    Row {
+        behaviour: "exit behaviour i; stop [] exit",
+        words: &["<any>"],
+        strong: true,
+        states: MANY,
+        answer: Answer::Found(&[EXIT], &[EXIT]),
     },
     // Too few states, and just enough.
     Row {
