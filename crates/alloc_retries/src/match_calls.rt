@@ -1,4 +1,4 @@
-//! Shortest matches.
+//! First matches.
 ghost use Rattle.std.specs.Prelude.{◌≡◌, IfOk, Some};
 ghost use Rattle.lotos_check.specs.NameLists.{In};
 ghost use Rattle.lotos_terms.specs.TableView.{IsLabel};
@@ -93,7 +93,7 @@ fn write_answer(heap: &mut Heap, question: &Question, line: &mut Line) -> Result
     }
 }
 
-/// A shortest match, retried after an allocation failure.
+/// The first of the shortest matches, retried after an allocation failure.
 fn find_match(
     heap: &mut Heap,
     table: &mut Table,
@@ -113,7 +113,7 @@ fn find_match(
     }
 }
 
-/// A shortest match. Its labels are labels of the table.
+/// The first of the shortest matches. Its labels are labels of the table.
 fn find_match_once(
     alloc: Global,
     table: &mut Table,

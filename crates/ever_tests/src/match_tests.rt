@@ -1,7 +1,7 @@
-//! Shortest matches in small specifications.
+//! First matches in small specifications.
 
 use lotos_check::check;
-use lotos_ever::{Halt, find_shortest_match};
+use lotos_ever::{Found, Halt, find_shortest_match};
 use lotos_pattern::Pattern;
 use lotos_terms::{Label, Table};
 use lotos_text::parse;
@@ -33,7 +33,7 @@ struct Row<'a> {
 #[derive(Clone, Copy)]
 enum Answer<'a> {
     NoMatch,
-    /// The run of a shortest match, and what is observed of it.
+    /// The run of the first match, and what is observed of it.
     Found(&'a [Label], &'a [Label]),
     TooManyStates,
 }
@@ -148,6 +148,101 @@ const ROWS: &[Row] = &[
         states: MANY,
         answer: Answer::Found(&[I, A, B], &[A, B]),
     },
+    // Of matches with as many steps the first by the labels. One label leads to several terms, in either order, and the
+    // runs differ at the next step or later.
+    Row {
+        behaviour: "noexit behaviour a; a; stop [] a; b; stop",
+        words: &["<any>", "<any>"],
+        strong: false,
+        states: MANY,
+        answer: Answer::Found(&[A, A], &[A, A]),
+    },
+    Row {
+        behaviour: "noexit behaviour a; b; stop [] a; a; stop",
+        words: &["<any>", "<any>"],
+        strong: false,
+        states: MANY,
+        answer: Answer::Found(&[A, A], &[A, A]),
+    },
+    Row {
+        behaviour: "noexit behaviour a; b; a; b; stop [] a; b; b; a; stop",
+        words: &["<any>", "<any>", "<any>", "<any>"],
+        strong: false,
+        states: MANY,
+        answer: Answer::Found(&[A, B, A, B], &[A, B, A, B]),
+    },
+    Row {
+        behaviour: "noexit behaviour a; b; b; a; stop [] a; b; a; b; stop",
+        words: &["<any>", "<any>", "<any>", "<any>"],
+        strong: false,
+        states: MANY,
+        answer: Answer::Found(&[A, B, A, B], &[A, B, A, B]),
+    },
+    Row {
+        behaviour: "noexit behaviour b; a; b; a; stop [] b; a; b; b; stop [] b; a; a; b; stop",
+        words: &["<any>", "<any>", "<any>", "<any>"],
+        strong: false,
+        states: MANY,
+        answer: Answer::Found(&[B, A, A, B], &[B, A, A, B]),
+    },
+    Row {
+        behaviour: "noexit behaviour b; a; a; b; stop [] b; a; b; b; stop [] b; a; b; a; stop",
+        words: &["<any>", "<any>", "<any>", "<any>"],
+        strong: false,
+        states: MANY,
+        answer: Answer::Found(&[B, A, A, B], &[B, A, A, B]),
+    },
+    // The same after internal steps, and by different internal steps.
+    Row {
+        behaviour: "noexit behaviour i; a; stop [] i; b; stop",
+        words: &["<any>"],
+        strong: false,
+        states: MANY,
+        answer: Answer::Found(&[I, A], &[A]),
+    },
+    Row {
+        behaviour: "noexit behaviour i; b; stop [] i; a; stop",
+        words: &["<any>"],
+        strong: false,
+        states: MANY,
+        answer: Answer::Found(&[I, A], &[A]),
+    },
+    Row {
+        behaviour: "noexit behaviour i; b; i; a; stop [] i; i; b; a; stop",
+        words: &["b", "a"],
+        strong: false,
+        states: MANY,
+        answer: Answer::Found(&[I, B, I, A], &[B, A]),
+    },
+    Row {
+        behaviour: "noexit behaviour i; i; b; a; stop [] i; b; i; a; stop",
+        words: &["b", "a"],
+        strong: false,
+        states: MANY,
+        answer: Answer::Found(&[I, B, I, A], &[B, A]),
+    },
+    // The internal action is the last label, and termination the last but one.
+    Row {
+        behaviour: "noexit behaviour i; a; stop [] a; i; stop",
+        words: &["a", "<deadlock>"],
+        strong: false,
+        states: MANY,
+        answer: Answer::Found(&[A, I], &[A]),
+    },
+    Row {
+        behaviour: "exit behaviour exit [] b; stop",
+        words: &["<any>"],
+        strong: false,
+        states: MANY,
+        answer: Answer::Found(&[B], &[B]),
+    },
+    Row {
+        behaviour: "exit behaviour i; stop [] exit",
+        words: &["<any>"],
+        strong: true,
+        states: MANY,
+        answer: Answer::Found(&[EXIT], &[EXIT]),
+    },
     // Too few states, and just enough.
     Row {
         behaviour: "noexit behaviour a; stop",
@@ -225,11 +320,22 @@ fn table_of(alloc: Global, behaviour: &str) -> Result<Table, Fail> {
     Ok(table)
 }
 
+/// What the search for a match returns.
+fn search(
+    alloc: Global,
+    table: &mut Table,
+    pattern: &Pattern,
+    states: usize,
+) -> Result<Option<Found>, Halt> {
+    let found = find_shortest_match(alloc, table, pattern, states)?;
+    Ok(found)
+}
+
 /// Whether the answer is the expected one.
 fn has_answer(alloc: Global, row: Row) -> Result<bool, Fail> {
     let mut table = table_of(alloc, row.behaviour)?;
     let pattern = Pattern::read(alloc, row.words, row.strong)?;
-    match find_shortest_match(alloc, &mut table, &pattern, row.states) {
+    match search(alloc, &mut table, &pattern, row.states) {
         Ok(None) => Ok(matches!(row.answer, Answer::NoMatch)),
         Ok(Some(found)) => match row.answer {
             Answer::Found(run, sequence) => {

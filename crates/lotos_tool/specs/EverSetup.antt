@@ -10,7 +10,7 @@ use Rattle.lotos_pattern.specs.declared.fault.PatternFault.{PatternFault}
 use Rattle.lotos_pattern.specs.declared.fault.PatternFault.TheVariants as pattern
 use Rattle.lotos_search.specs.Order.{Label}
 use Rattle.lotos_search.specs.Question.{ArePrinted}
-use Rattle.lotos_ever.specs.MatchQuestions.{IsMatchQuestionOf, IsMatchOf, ReachesMoreThanFor, MatchQuestion, IsShortestMatchOf}
+use Rattle.lotos_ever.specs.MatchQuestions.{IsMatchQuestionOf, IsMatchOf, ReachesMoreThanFor, MatchQuestion, IsFirstMatchOf}
 use Rattle.lotos_ever.specs.declared.found.Found.{Found}
 use Rattle.lotos_ever.specs.declared.found.Halt.{Halt}
 use Rattle.lotos_ever.specs.declared.found.Halt.TheVariants as halt
@@ -28,12 +28,12 @@ pub record IsEverQuestionFor (system : System) (p : Pattern) (q : MatchQuestion)
   pub question : IsMatchQuestionOf system q
   pub pattern : q.pattern ≡ p
 
--- the line of a shortest match, or `None` if the question has no match
+-- the line of the first match, or `None` if the question has no match
 abbrev pub IsLineOf : EverRequest → MatchQuestion → Option (Vec ℕ Global) → Type 0
 IsLineOf request q None = (word : List Label) → IsMatchOf q word → ⊥
-IsLineOf request q (Some line) = (word : List Label) × IsShortestMatchOf q word × (line.items ≡ line_of request.explain (item_of q word))
+IsLineOf request q (Some line) = (word : List Label) × IsFirstMatchOf q word × (line.items ≡ line_of request.explain (item_of q word))
 
--- the line of a shortest match of the pattern in the system, or `None` if there is no match
+-- the line of the first match of the pattern in the system, or `None` if there is no match
 abbrev pub HasLine : EverRequest → System → Pattern → Option (Vec ℕ Global) → Type 0
 HasLine request system p line = (q : MatchQuestion) × IsEverQuestionFor system p q × IsLineOf request q line
 

@@ -1,4 +1,4 @@
-//! The command `ever`, from the text to the line of a shortest match.
+//! The command `ever`, from the text to the line of the first of the shortest matches.
 ghost use Rattle.std.specs.Prelude.{◌≡◌, ◌+◌, ◌≤◌, IfErr, IfOk, false};
 ghost use Rattle.lotos_text.specs.Limits.{max_text_length};
 ghost use Rattle.lotos_check.specs.CheckedView.{system_of};
@@ -62,8 +62,8 @@ pub fn ever<R: Source, W: Sink>(
     }
 }
 
-/// Searches an accepted specification for a match, writes the line of a shortest one if there is one, and flushes the
-/// output. Nothing is flushed if the search stops.
+/// Searches an accepted specification for a match, writes the line of the first of the shortest ones if there is one,
+/// and flushes the output. Nothing is flushed if the search stops.
 fn write_match<W: Sink>(
     alloc: Global,
     request: &EverRequest,
@@ -84,7 +84,7 @@ fn write_match<W: Sink>(
     }
 }
 
-/// The line of a shortest match, or `None` if there is no match of any length.
+/// The line of the first of the shortest matches, or `None` if there is no match of any length.
 fn find_match_line(
     alloc: Global,
     request: &EverRequest,

@@ -2,9 +2,9 @@
 //! lines of the output and the exit status.
 //!
 //! [`request`] reads the words, [`list`] reads a text and writes the listing, [`check_text`] reads a text and writes
-//! its processes, [`ever`] reads a text and writes a shortest match, and [`run`] does what the words ask for and
-//! returns the exit status. Readers and writers are a [`Source`] and a [`Sink`]; [`FromRead`] and [`FromWrite`] make
-//! them from std's.
+//! its processes, [`ever`] reads a text and writes the first of the shortest matches, and [`run`] does what the words
+//! ask for and returns the exit status. Readers and writers are a [`Source`] and a [`Sink`]; [`FromRead`] and
+//! [`FromWrite`] make them from std's.
 #![tactic(auto)]
 
 mod check_command;

@@ -30,7 +30,7 @@ pub enum Why {
 /// How a search for a match of any length ended.
 #[derive(Debug, Drop)]
 pub enum EverEnded {
-    /// There is a match, and the line of a shortest one was written and flushed.
+    /// There is a match, and the line of the first of the shortest ones was written and flushed.
     Matched,
     /// There is no match of any length. Nothing was written.
     NoMatch,

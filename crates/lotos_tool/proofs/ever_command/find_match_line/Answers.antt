@@ -36,7 +36,7 @@ returns-in-Some-clause-line c =
       pattern = refl;
     } in
     let shown = shown_now c.in_ok-table.table c.find_shortest_match.new.table p c.in-Some.found c.in_ok-found.ensures.grows found in
-    (q, asked, (found.word, found.shortest, c.in_ok-format_match-in-Some.ensures (item_of q found.word) shown))
+    (q, asked, (found.word, found.first, c.in_ok-format_match-in-Some.ensures (item_of q found.word) shown))
 
 pub returns-clause-line : goal.returns-clause-line
 returns-clause-line c =
