@@ -123,7 +123,7 @@ const CALLS: &[(&str, Place, bool)] = &[
 ];
 
 #[test]
-fn tells_guarded_calls(rt: HostRuntime) -> Result<(), Fail> {
+fn distinguishes_guarded_calls(rt: HostRuntime) -> Result<(), Fail> {
     for (words, place, unguarded) in CALLS {
         let found = ranked(rt.alloc(), 8, &[(7, *place, 7)])?;
         let expected: &[usize] = if *unguarded { &[7] } else { &[] };
@@ -321,7 +321,7 @@ const ORDERS: &[(&str, usize, &[(usize, Place, usize)], &[usize])] = &[
 ];
 
 #[test]
-fn orders_callers_behind_their_calls(rt: HostRuntime) -> Result<(), Fail> {
+fn orders_callers_after_their_calls(rt: HostRuntime) -> Result<(), Fail> {
     for (words, count, calls, expected) in ORDERS {
         let found = ranked(rt.alloc(), *count, calls)?;
         let order = order_of(rt.alloc(), *count, &found)?;

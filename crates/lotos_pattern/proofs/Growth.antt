@@ -96,7 +96,7 @@ module _ (strong : Bool) where
         let own : CanBeFollowed (elements_of kept) = subst (λ elements. CanBeFollowed (elements_of elements)) same room in
         let short = spelled.short in
         let unfilled = own.room in
-        record { pattern = pattern_of strong (elements_of kept); next_index = stands; goes_on = own.goes_on; room = omega arith }
+        record { pattern = pattern_of strong (elements_of kept); is_after = stands; goes_on = own.goes_on; room = omega arith }
 
     pub grown_here : (behind : ℕ) (e : CodeElement) (more : List CodeElement) → CanBeFollowed (elements_of lent) → ParsesAt strong (texts_of words) place (element_of e) behind → more ≡ kept ++ e ∷ [] →
         PatternOf strong (take behind (texts_of words)) (pattern_of strong (elements_of more))

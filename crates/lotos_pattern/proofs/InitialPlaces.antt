@@ -58,7 +58,7 @@ module _ (strong : Bool) where
   marked : (e : Element) (front behind rest : List Text) (word tail : Text) → Spelling strong e front → word ∷ rest ≡ front ++ behind → EqualsIgnoringCase word (60 ∷ tail) → mark e ≡ 60 ∷ tail
   marked e front behind rest word tail spelling cut is =
       let f = first strong e front spelling in
-      let same = first_word front behind rest f.next_index f.word word f.begins cut in
+      let same = first_word front behind rest f.rest f.word word f.begins cut in
       one_mark word (mark e) (60 ∷ tail) (subst (λ w. Marks w (mark e)) same f.marks) (angle is)
 
   -- the second words that there are end no element
@@ -85,14 +85,14 @@ module _ (strong : Bool) where
     more : List Element
     whole : q ≡ p ++ element ∷ more
     front : List Text
-    next_index : List Text
+    rest : List Text
     spelling : Spelling strong element front
-    cut : drop place words ≡ front ++ next_index
+    cut : drop place words ≡ front ++ rest
 
   next_of : (words : List Text) (place : ℕ) (p q more : List Element) → place < length words → q ≡ p ++ more → IsJoin (Spelling strong) more (drop place words) → Next words place p q
   next_of words place p q [] there whole none = let long = length-drop place words in let empty = ap length none in absurd (omega arith)
   next_of words place p q (e ∷ more) there whole (front, behind, spelling, others, cut) =
-      record { element = e; more = more; whole = whole; front = front; next_index = behind; spelling = spelling; cut = cut }
+      record { element = e; more = more; whole = whole; front = front; rest = behind; spelling = spelling; cut = cut }
 
   -- whatever pattern the words spell, it begins with the one that those before the index spell, and an element of it begins there
   next : (words : List Text) (place : ℕ) (p q : Pattern) → IsAfterPattern strong words (place + 1) p → PatternOf strong words q → Next words place p.elements q.elements
@@ -108,8 +108,8 @@ module _ (strong : Bool) where
 
     begins_nowhere : NoBeginning word → BeginsElement strong words (place + 1) → (q : Pattern) → PatternOf strong words q → ⊥
     begins_nowhere none begins q spelled =
-        let n = next words place begins.pattern q begins.next_index spelled in
-        not_begun n.element n.front n.next_index (drop (place + 1) words) word n.spelling (sym (drop_at words place word stands) ∙ n.cut) none
+        let n = next words place begins.pattern q begins.is_after spelled in
+        not_begun n.element n.front n.rest (drop (place + 1) words) word n.spelling (sym (drop_at words place word stands) ∙ n.cut) none
 
     pub fault_nothing : BeginsNoElement strong word → IsFaultAt strong words place (E41 (place + 1))
     fault_nothing none begins = (
@@ -120,14 +120,14 @@ module _ (strong : Bool) where
     -- after `<until>` nothing that ends an element
     ends_nowhere : IsUntil word → NoneEnds (codes "<deadlock>") (drop (place + 1) words) → BeginsElement strong words (place + 1) → (q : Pattern) → PatternOf strong words q → ⊥
     ends_nowhere is none begins q spelled =
-        let n = next words place begins.pattern q begins.next_index spelled in
-        not_ended n.element n.front n.next_index (drop (place + 1) words) word n.spelling (sym (drop_at words place word stands) ∙ n.cut) is none
+        let n = next words place begins.pattern q begins.is_after spelled in
+        not_ended n.element n.front n.rest (drop (place + 1) words) word n.spelling (sym (drop_at words place word stands) ∙ n.cut) is none
 
     -- after `<while>` nothing that ends an element
     repeats_nowhere : IsWhile word → NoneEnds (codes "<any>") (drop (place + 1) words) → BeginsElement strong words (place + 1) → (q : Pattern) → PatternOf strong words q → ⊥
     repeats_nowhere is none begins q spelled =
-        let n = next words place begins.pattern q begins.next_index spelled in
-        not_repeated n.element n.front n.next_index (drop (place + 1) words) word n.spelling (sym (drop_at words place word stands) ∙ n.cut) is none
+        let n = next words place begins.pattern q begins.is_after spelled in
+        not_repeated n.element n.front n.rest (drop (place + 1) words) word n.spelling (sym (drop_at words place word stands) ∙ n.cut) is none
 
     nothing_behind : (last : Text) → length words ≡ place + 1 → NoneEnds last (drop (place + 1) words)
     nothing_behind last ends second tail e = let long = length-drop (place + 1) words in let some = ap length e in absurd (omega arith)

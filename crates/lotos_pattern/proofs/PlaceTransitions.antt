@@ -162,7 +162,7 @@ reached_next e from k end None within needed none = record {
   passes = λ empty. absurd (needed empty);
   skips_none = λ j far has. absurd (none j (omega arith) has);
 }
-reached_next e from k end (Some n) within needed first = let behind = first.next_index in record {
+reached_next e from k end (Some n) within needed first = let behind = first.at_least in record {
   onward = omega arith;
   reached = λ h. inr first.has;
   passes = λ empty. absurd (needed empty);

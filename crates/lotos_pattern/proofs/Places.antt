@@ -86,7 +86,7 @@ module _ (place : Place) (n : ℕ) where
         | inr past ↦ absurd (let off = bit_at_above word 64 (n % 64 + z) small past in omega arith)
       ] in
       let same : (n + z) / 64 ≡ n / 64 = omega arith in record {
-        next_index = omega arith;
+        at_least = omega arith;
         has = shifted (n + z) (omega arith) same ∙ ap (λ i. bit_at rest i) (omega arith) ∙ lowest.1;
         none_before = λ j from before has.
             let off = shifted j from (omega arith) ∙ lowest.2 (j - n) (omega arith) in

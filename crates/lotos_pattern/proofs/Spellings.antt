@@ -30,18 +30,18 @@ module _ (strong : Bool) where
   -- the first of the words that spell an element
   pub record First (e : Element) (words : List Text) : Type 0 where
     pub word : Text
-    pub next_index : List Text
-    pub begins : words ≡ word ∷ next_index
+    pub rest : List Text
+    pub begins : words ≡ word ∷ rest
     pub marks : Marks word (mark e)
 
   pub first : (e : Element) (words : List Text) → Spelling strong e words → First e words
-  first (one l) words (w, i, n) = record { word = w; next_index = []; begins = i; marks = label n.spelled }
-  first any words (w, i, k) = record { word = w; next_index = []; begins = i; marks = angle k }
-  first (until l) words (w, t, i, k, o) = record { word = w; next_index = t ∷ []; begins = i; marks = angle k }
-  first (while l) words (w, t, i, k, o) = record { word = w; next_index = t ∷ []; begins = i; marks = angle k }
-  first while_any words (w, t, i, k, o) = record { word = w; next_index = t ∷ []; begins = i; marks = angle k }
-  first deadlock words (w, i, k) = record { word = w; next_index = []; begins = i; marks = angle k }
-  first until_deadlock words (w, t, i, k, o) = record { word = w; next_index = t ∷ []; begins = i; marks = angle k }
+  first (one l) words (w, i, n) = record { word = w; rest = []; begins = i; marks = label n.spelled }
+  first any words (w, i, k) = record { word = w; rest = []; begins = i; marks = angle k }
+  first (until l) words (w, t, i, k, o) = record { word = w; rest = t ∷ []; begins = i; marks = angle k }
+  first (while l) words (w, t, i, k, o) = record { word = w; rest = t ∷ []; begins = i; marks = angle k }
+  first while_any words (w, t, i, k, o) = record { word = w; rest = t ∷ []; begins = i; marks = angle k }
+  first deadlock words (w, i, k) = record { word = w; rest = []; begins = i; marks = angle k }
+  first until_deadlock words (w, t, i, k, o) = record { word = w; rest = t ∷ []; begins = i; marks = angle k }
 
   -- two lists of words that go on alike and begin with these words
   record Alike (w v : Text) (r s : List Text) : Type 0 where
@@ -58,13 +58,13 @@ module _ (strong : Bool) where
   same_mark e f a b x y h k both =
       let g = first e a h in
       let j = first f b k in
-      let same = (alike a b x y g.next_index j.next_index g.word j.word g.begins j.begins both).word in
+      let same = (alike a b x y g.rest j.rest g.word j.word g.begins j.begins both).word in
       one_mark j.word (mark e) (mark f) (subst (λ w. Marks w (mark e)) same g.marks) j.marks
 
   -- the same element begins both, and the same words follow it
   record Once (e f : Element) (x y : List Text) : Type 0 where
     element : e ≡ f
-    next_index : x ≡ y
+    rest : x ≡ y
 
   -- after words that mark the same, the second words are the same
   second : (a b x y : List Text) (w v t u : Text) → a ≡ w ∷ t ∷ [] → b ≡ v ∷ u ∷ [] → a ++ x ≡ b ++ y → Alike t u x y
@@ -72,19 +72,19 @@ module _ (strong : Bool) where
 
   once : (e f : Element) (a b x y : List Text) → Spelling strong e a → Spelling strong f b → a ++ x ≡ b ++ y → Once e f x y
   once (one l) (one m) a b x y (w, i, n) (v, j, k) e =
-      let h = alike a b x y [] [] w v i j e in record { element = ap one (same_label strong w v l m h.word n k); next_index = h.rest }
-  once any any a b x y (w, i, n) (v, j, k) e = record { element = refl; next_index = (alike a b x y [] [] w v i j e).rest }
+      let h = alike a b x y [] [] w v i j e in record { element = ap one (same_label strong w v l m h.word n k); rest = h.rest }
+  once any any a b x y (w, i, n) (v, j, k) e = record { element = refl; rest = (alike a b x y [] [] w v i j e).rest }
   once (until l) (until m) a b x y (w, t, i, n, o) (v, u, j, k, q) e =
-      let h = second a b x y w v t u i j e in record { element = ap until (same_label strong t u l m h.word o q); next_index = h.rest }
+      let h = second a b x y w v t u i j e in record { element = ap until (same_label strong t u l m h.word o q); rest = h.rest }
   once (until l) until_deadlock a b x y (w, t, i, n, o) (v, u, j, k, q) e = absurd (label_no_angle strong t u _ l (second a b x y w v t u i j e).word o q)
   once until_deadlock (until m) a b x y (w, t, i, n, o) (v, u, j, k, q) e = absurd (label_no_angle strong u t _ m (sym (second a b x y w v t u i j e).word) q o)
-  once until_deadlock until_deadlock a b x y (w, t, i, n, o) (v, u, j, k, q) e = record { element = refl; next_index = (second a b x y w v t u i j e).rest }
+  once until_deadlock until_deadlock a b x y (w, t, i, n, o) (v, u, j, k, q) e = record { element = refl; rest = (second a b x y w v t u i j e).rest }
   once (while l) (while m) a b x y (w, t, i, n, o) (v, u, j, k, q) e =
-      let h = second a b x y w v t u i j e in record { element = ap while (same_label strong t u l m h.word o q); next_index = h.rest }
+      let h = second a b x y w v t u i j e in record { element = ap while (same_label strong t u l m h.word o q); rest = h.rest }
   once (while l) while_any a b x y (w, t, i, n, o) (v, u, j, k, q) e = absurd (label_no_angle strong t u _ l (second a b x y w v t u i j e).word o q)
   once while_any (while m) a b x y (w, t, i, n, o) (v, u, j, k, q) e = absurd (label_no_angle strong u t _ m (sym (second a b x y w v t u i j e).word) q o)
-  once while_any while_any a b x y (w, t, i, n, o) (v, u, j, k, q) e = record { element = refl; next_index = (second a b x y w v t u i j e).rest }
-  once deadlock deadlock a b x y (w, i, n) (v, j, k) e = record { element = refl; next_index = (alike a b x y [] [] w v i j e).rest }
+  once while_any while_any a b x y (w, t, i, n, o) (v, u, j, k, q) e = record { element = refl; rest = (second a b x y w v t u i j e).rest }
+  once deadlock deadlock a b x y (w, i, n) (v, j, k) e = record { element = refl; rest = (alike a b x y [] [] w v i j e).rest }
   once e f a b x y h k both =
       let differ : get_or (mark e) 1 0 ≡ get_or (mark f) 1 0 = ap (λ text. get_or text 1 0) (same_mark e f a b x y h k both) in absurd (omega arith)
 
@@ -113,7 +113,7 @@ module _ (strong : Bool) where
   goes_on (e ∷ p) (f ∷ q) own rest words cut (front, behind, spelling, others, joined) (first, second, spelling_too, others_too, joined_too) =
       let both : front ++ (behind ++ rest) ≡ first ++ second = sym (append_assoc front behind rest) ∙ ap (λ l. l ++ rest) (sym joined) ∙ sym cut ∙ joined_too in
       let h = once e f front first (behind ++ rest) second spelling spelling_too both in
-      let further = goes_on p q behind rest second (sym h.next_index) others others_too in
+      let further = goes_on p q behind rest second (sym h.rest) others others_too in
       record {
         more = further.more;
         whole = let first_same = h.element in let rest_same = further.whole in cc;

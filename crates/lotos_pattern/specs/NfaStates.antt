@@ -19,7 +19,7 @@ HasState place k = bit_at (slice_index place.words (k / 64)) (k % 64) ≡ 1
 
 -- the first state of the place from `from` on
 pub record IsFirstState (place : Place) (from k : ℕ) : Type 0 where
-  pub next_index : from ≤ k
+  pub at_least : from ≤ k
   pub has : HasState place k
   pub none_before : (j : ℕ) → from ≤ j → j < k → HasState place j → ⊥
 

@@ -37,7 +37,7 @@ module _ (strong : Bool) where
   -- an element begins at the word with this number: the words before it spell a pattern that another element may follow
   pub record BeginsElement (words : List Text) (n : ℕ) : Type 0 where
     pub pattern : Pattern
-    pub next_index : IsAfterPattern words n pattern
+    pub is_after : IsAfterPattern words n pattern
     pub goes_on : DemandsDeadlock pattern → ⊥
     pub room : length pattern.elements < 256
 

@@ -37,20 +37,20 @@ const SIGNS: &[(&[u8], Sign)] = &[
 ];
 
 #[test]
-fn cuts_each_mark(rt: HostRuntime) -> Result<(), Fail> {
+fn lexes_each_sign(rt: HostRuntime) -> Result<(), Fail> {
     for (text, want) in SIGNS {
         let found = kinds(rt.alloc(), text)?;
         assert_eq!(rt;
             found.as_slice(),
             [sign(*want)].as_slice(),
-            "the mark {want:?} alone"
+            "the sign {want:?} alone"
         );
     }
     Ok(())
 }
 
 #[test]
-fn takes_the_longest_mark(rt: HostRuntime) -> Result<(), Fail> {
+fn takes_the_longest_sign(rt: HostRuntime) -> Result<(), Fail> {
     let bar = sign(Sign::Bar);
     let left = sign(Sign::LeftBracket);
     let right = sign(Sign::RightBracket);
@@ -163,7 +163,7 @@ const OFFSETS: &[(&str, &[u8], &[(usize, usize)])] = &[
     ("a form feed", b"a\x0cb", &[(0, 1), (2, 3)]),
     ("a carriage return", b"a\rb", &[(0, 1), (2, 3)]),
     (
-        "marks and words",
+        "signs and words",
         b"a1; stop|||b",
         &[(0, 2), (2, 3), (4, 8), (8, 11), (11, 12)],
     ),
@@ -198,8 +198,8 @@ fn separates_by_comments(rt: HostRuntime) -> Result<(), Fail> {
             b"st(**)op",
             &[NAME, NAME],
         ),
-        ("a comment inside a mark", b"[(**)]", &[left, right]),
-        ("words and marks in a comment", b"(*stop;[]*)a", &[NAME]),
+        ("a comment inside a sign", b"[(**)]", &[left, right]),
+        ("words and signs in a comment", b"(*stop;[]*)a", &[NAME]),
         (
             "a comment in parentheses",
             b"((*a*))",
@@ -239,7 +239,7 @@ const OFFSETS_AFTER_COMMENTS: &[(&str, &[u8], &[(usize, usize)])] = &[
 ];
 
 #[test]
-fn places_tokens_behind_comments(rt: HostRuntime) -> Result<(), Fail> {
+fn places_tokens_after_comments(rt: HostRuntime) -> Result<(), Fail> {
     for (row, text, want) in OFFSETS_AFTER_COMMENTS {
         let found = tokens(rt.alloc(), text)?;
         let mut places = Vec::new(rt.alloc());
@@ -290,7 +290,7 @@ const NO_TOKENS: &[(&str, &[u8], usize)] = &[
     ("a second closing", b"(**)*)", 4),
     ("an outer closing", b"(*(*a*)b*)", 8),
     ("a byte behind a comment", b"(* x *) ?", 8),
-    ("the end of a mark behind a comment", b":(**)=", 5),
+    ("the end of a sign behind a comment", b":(**)=", 5),
     ("the greatest byte behind a comment", b"(*\xff*)\xff", 5),
     ("the least byte behind a comment", b"(*\x00*)\x00", 5),
     ("an arrow's head alone", b"a > b", 2),

@@ -87,7 +87,7 @@ const INSIDE: &[(&str, &str, u8, usize)] = &[
     ("a parenthesis", "(stop)", 5, 439),
     ("the semicolon of an internal action", "i ; stop", 5, 441),
     ("an internal action and no semicolon", "i stop", 4, 441),
-    ("a mark of choice that fits nowhere", "[] stop", 4, 439),
+    ("a sign of choice that fits nowhere", "[] stop", 4, 439),
     ("a semicolon that fits nowhere", "; stop", 4, 439),
     ("a semicolon behind an operand", "stop ; stop", 4, 444),
     ("`process` that fits nowhere", "process", 4, 439),
@@ -96,7 +96,7 @@ const INSIDE: &[(&str, &str, u8, usize)] = &[
 
 /// What may be inside 200 prefixes `a;`. Its first token is at offset 439.
 #[test]
-fn limits_what_stands_inside(rt: HostRuntime) -> Result<(), Fail> {
+fn limits_what_is_nested(rt: HostRuntime) -> Result<(), Fail> {
     for (words, inside, number, at) in INSIDE {
         let text = nested(rt.alloc(), "a;", inside, "", 200)?;
         assert_eq!(rt;
@@ -117,7 +117,7 @@ const MISFITS: &[(&str, &str, &str, usize)] = &[
     ("`hide`", "a;", "hide ;", 439),
     ("a parenthesis", "a;", "( ;", 439),
     ("the semicolon of a prefix", "a;", "a ; ]", 441),
-    ("a mark of choice", "exit>>", "stop [] ;", 1244),
+    ("a sign of choice", "exit>>", "stop [] ;", 1244),
     ("interleaving", "exit>>", "stop ||| ;", 1244),
     ("full synchronization", "exit>>", "stop || ;", 1244),
     ("synchronization", "exit>>", "stop |[ ;", 1244),

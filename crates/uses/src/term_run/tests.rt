@@ -1,8 +1,9 @@
 //! Runs of a few specifications.
 use super::first_run;
 use lotos_check::check;
-use lotos_terms::{Label, Table};
+use lotos_terms::{Label, Table, Term};
 use lotos_text::parse;
+use std::alloc::{AllocError, Global};
 use std::test::Fail;
 
 /// The labels of the gates, in the order of their names.
@@ -37,19 +38,31 @@ const RUNS: &[(&str, usize, &[Label])] = &[
     ),
 ];
 
+/// The table of a specification.
+fn table_of(alloc: Global, behaviour: &str) -> Result<Table, Fail> {
+    let text = format!(in alloc; "specification S [a,b] : {behaviour} endspec")?;
+    let tree = parse(alloc, text.as_bytes())?;
+    let system = check(alloc, tree)?;
+    let table = Table::new(alloc, system)?;
+    Ok(table)
+}
+
+/// The labels of a run.
+fn labels_of(alloc: Global, run: &[(Label, Term)]) -> Result<Vec<Label>, AllocError> {
+    let mut labels = Vec::new(alloc);
+    for (label, _) in run {
+        labels.push(*label)?;
+    }
+    Ok(labels)
+}
+
 #[test]
 fn follows_runs(rt: HostRuntime) -> Result<(), Fail> {
     let alloc = rt.alloc();
     for (behaviour, depth, wanted) in RUNS {
-        let text = format!(in alloc; "specification S [a,b] : {behaviour} endspec")?;
-        let tree = parse(alloc, text.as_bytes())?;
-        let system = check(alloc, tree)?;
-        let mut table = Table::new(alloc, system)?;
+        let mut table = table_of(alloc, behaviour)?;
         let run = first_run(alloc, &mut table, *depth)?;
-        let mut labels = Vec::new(alloc);
-        for (label, _) in &run {
-            labels.push(*label)?;
-        }
+        let labels = labels_of(alloc, run.as_slice())?;
         assert_eq!(rt;
             labels.as_slice(),
             *wanted,
