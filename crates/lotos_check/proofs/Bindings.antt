@@ -100,7 +100,7 @@ not_empty [] x e = cc
 not_empty (y ∷ xs) x e = cc
 
 module _ {K S : Type 0} (now : K → Name) (n : Name) (outer : List (HashMap K Binding S)) (last : HashMap K Binding S) where
-  -- a name that the last table has means what that table says
+  -- a name that the last scope has refers to what that scope says
   pub found_here : (m : Binding) (ts : List (HashMap K Binding S)) → ts ≡ outer ++ last ∷ [] →
       get_by (λ k. bytes_eq n (now k)) last ≡ Some m →
       (scope : Scope) → IsScopeStack now ts scope → Binds scope n m.process (definition_view m.definition.now)
@@ -122,7 +122,7 @@ module _ {K S : Type 0} (now : K → Name) (n : Name) (outer : List (HashMap K B
   outside None w ws here_not h = unseen w ws here_not h
   outside (Some m) w ws here_not h = outward here_not h
 
-  -- a name that the last table does not have means what the other tables say
+  -- a name that the last scope does not have refers to what the other scopes say
   pub found_outside : (r : Option Binding) (ts : List (HashMap K Binding S)) → ts ≡ outer ++ last ∷ [] →
       get_by (λ k. bytes_eq n (now k)) last ≡ None →
       ((scope : Scope) → IsScopeStack now outer scope → MatchOption r ((k : ℕ) (d : DefinitionView) → Binds scope n k d → ⊥)

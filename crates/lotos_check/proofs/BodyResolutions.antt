@@ -106,7 +106,7 @@ pub carried_on : {X E : Type 0} (result : Result X E) (P : E → Type 0) (fault 
 carried_on (Ok x) P fault e h = absurd e
 carried_on (Err x) P fault e h = subst P (sym e) h
 
--- memory was wanting
+-- out of memory
 pub no_memory : (scope : Scope) (first : ℕ) (d : DefinitionView) (error : AllocError) → IsNameFaultIn (definition_in_scope scope first d) (E99 error)
 no_memory scope first d error = misnamed_here scope first d (E99 error) tt
 
@@ -117,7 +117,7 @@ pub rest_at : (items : List Definition) (index : ℕ) (item : Definition) → in
 rest_at items index item below is =
     rw (drop-cons items index item below, add-one) (ap (λ x. x ∷ drop (suc index) items) (sym is))
 
--- what a stack shows on which the table of the definition's own `where` was pushed
+-- what a stack has on which the scope of the definition's own `where` was pushed
 pub shows_inside : {K S : Type 0} (now : K → Name) (of : Definition) (list : List Definition) (first : ℕ)
     (own : HashMap K Binding S) (outer all : List (HashMap K Binding S)) →
     list ≡ (out-Definition of).inner.items → BindsAll now (definitions_view list) first own → all ≡ outer ++ own ∷ [] →

@@ -105,7 +105,7 @@ unnumbered edges n e = record {
   falls = λ p q r lists has. absurd (unnumbered_none n p r has);
 }
 
--- at the beginning no process has a number
+-- at the beginning no process has a rank
 pub none_numbered : (edges : List (List ℕ)) (processes : List FlatProcess) (n : ℕ) → n ≡ length processes →
     Pairwise AreCalls edges processes → AreConsistentRanks edges (replicate n None) 0
 none_numbered edges processes n e all = let sized = edges_length edges processes all in unnumbered edges n (omega arith)

@@ -19,7 +19,7 @@ record IsCut (list : List Placed) (before : List Name) (n : Name) : Type 0 where
   shown : texts front ≡ before
   named : placed.name ≡ n
 
--- where the texts are cut, the placed names are
+-- where the list of texts is split, that of the placed names is
 cut_at : (list : List Placed) (before after : List Name) (n : Name) → texts list ≡ before ++ n ∷ after → IsCut list before n
 cut_at [] [] after n e = cc
 cut_at [] (b ∷ before) after n e = cc

@@ -83,7 +83,7 @@ calls_below whole formals start processes flat p q calls =
     let seen = length-map processes process_of in
     omega arith
 
--- a flat system whose processes have numbers that fall is guarded
+-- a flat system whose processes have ranks that fall is guarded
 pub guarded_by : (whole : DefinitionView) (system : System) (ranks : List ℕ) → IsFlat whole system → AreRanks system.processes ranks → IsGuarded system
 guarded_by whole system ranks flat given = record {
   rank = λ p. get_or ranks p 0;

@@ -37,7 +37,7 @@ passed_none now keys all none = record {
   left = λ d a. a;
 }
 
--- x is passed next, with the name n; `added` tells whether it was put after the keys
+-- x is passed next, with the name n; `added` says whether it was put after the keys
 module _ {K : Type 0} (now : K → Name) (old new : List K) (key : K) (all rest left : List Definition) (x : Definition) (n : Name)
     (passed : Passed now old all rest) (next : rest ≡ x ∷ left) (text : n ≡ (out-Definition x).name.name)
     (added : Bool) (says : added ≡ not (list_any (λ k. bytes_eq n (now k)) old)) where

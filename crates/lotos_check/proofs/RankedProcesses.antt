@@ -12,7 +12,7 @@ nothing_in : (v : Option ℕ) → is_some v ≡ false → v ≡ None
 nothing_in None e = refl
 nothing_in (Some s) e = cc
 
--- where a number is read, the process has it
+-- where a rank is read, the process has it
 pub numbered_at : (ranks : List (Option ℕ)) (k : ℕ) → k < length ranks → is_some (get_or ranks k None) ≡ true →
     (s : ℕ) × (slice_get ranks k ≡ Some (Some s))
 numbered_at ranks k h e =
@@ -26,7 +26,7 @@ unnumbered_at ranks k h e =
     let found = slice_get-get_or ranks k None h in
     rw (nothing_in (get_or ranks k None) e) at found
 
--- a process where a number is read does not wait
+-- a process where a rank is read does not wait
 pub number_there : (ranks : List (Option ℕ)) (k : ℕ) → k < length ranks → is_some (get_or ranks k None) ≡ true →
     slice_get ranks k ≡ Some None → ⊥
 number_there ranks k h e waits = let found = numbered_at ranks k h e in let there = found.1 in cc

@@ -50,7 +50,7 @@ paired_twice view [] (y ∷ ys) p q = elim p [ ]
 paired_twice view (x ∷ xs) [] p q = elim p [ ]
 paired_twice view (x ∷ xs) (y ∷ ys) (one_pair a p) (one_pair b q) = one_pair (a, b) (paired_twice view xs ys p q)
 
--- the results of the walk, by the definitions with their scopes
+-- the results of the pass, by the definitions with their scopes
 pub walked : (whole : DefinitionView) (found : List ResolvedBody) → AddsBodies (all_definitions whole) [] found → Pairwise IsResolvedBody (all_definitions whole) found
 walked whole found adds = subst (λ t. Pairwise IsResolvedBody (all_definitions whole) t) (sym adds.joined) adds.found
 

@@ -18,7 +18,7 @@ falls_from processes set rank unguarded falls (suc n) p below stands =
     let lower = falls p call.0 call.1 in
     falls_from processes set rank unguarded falls n call.0 (omega arith) call.2
 
--- where a set that is not empty calls into itself, no numbering falls at every unguarded call
+-- where a set that is not empty calls into itself, no ranks fall at every unguarded call
 pub unguarded_has_no_ranking : (processes : List FlatProcess) (set : List ℕ) (rank : ℕ → ℕ) (p : ℕ) → IsUnguardedSet processes set →
     In p set → IsRanking processes rank → ⊥
 unguarded_has_no_ranking processes set rank p unguarded stands falls =
@@ -39,7 +39,7 @@ module _ (edges : List (List ℕ)) (processes : List FlatProcess) (ranks : List 
   waits_at other unguarded p stands None has = has
   waits_at other unguarded p stands (Some r) has = absurd (descent other unguarded (suc r) p r (omega arith) has stands)
 
-  -- a process of such a set has no number
+  -- a process of such a set has no rank
   unguarded_waits : (other : List ℕ) → IsUnguardedSet processes other → (p : ℕ) → In p other → slice_get ranks p ≡ Some None
   unguarded_waits other unguarded p stands =
       let call = unguarded p stands in
@@ -58,7 +58,7 @@ module _ (edges : List (List ℕ)) (processes : List FlatProcess) (ranks : List 
     rises = waiting.rises;
   }
 
-  -- the processes without a number are the largest such set
+  -- the processes without a rank are the largest such set
   pub is_unguarded : (set : List ℕ) → AreUnranked set ranks → (set ≡ [] → ⊥) → IsUnguarded processes set
   is_unguarded [] waiting some = absurd (some refl)
   is_unguarded (first ∷ others) waiting some = record {
@@ -75,7 +75,7 @@ module _ (edges : List (List ℕ)) (processes : List FlatProcess) (ranks : List 
       let read : slice_get (map Some numbers) p ≡ Some (Some r) = rw (slice_get-map Some numbers p, has) refl in
       rw whole at read
 
-  -- where each process has a number, the numbers fall at every unguarded call
+  -- where each process has a rank, the ranks fall at every unguarded call
   pub are_ranks : (numbers : List ℕ) → map Some numbers ≡ ranks → AreRanks processes numbers
   are_ranks numbers whole = record {
     all =

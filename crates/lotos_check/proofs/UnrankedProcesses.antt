@@ -40,7 +40,7 @@ rises_places n (None ∷ ranks) =
     (rises_places (n + 1) ranks)
 rises_places n (Some r ∷ ranks) = rises_places (n + 1) ranks
 
--- the places without a number are the processes without one, ascending
+-- the indices without a rank are the processes without one, ascending
 pub are_waiting : (set : List ℕ) (ranks : List (Option ℕ)) → set ≡ places 0 ranks → AreUnranked set ranks
 are_waiting set ranks e = record {
   rises = rw e (rises_places 0 ranks);

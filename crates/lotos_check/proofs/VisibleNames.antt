@@ -44,7 +44,7 @@ not_second p (b ∷ bs) after e = cc
 pub seen_none : (all : List Placed) → Seen [] all all
 seen_none all = record { before = []; joined = refl; keys_are = refl; distinct = λ p s. not_second p s.before s.after s.located }
 
--- p is passed next: its text n is looked for among the keys, and `added` tells whether it was put after them
+-- p is passed next: its text n is looked for among the keys, and `added` says whether it was put after them
 module _ {K : Type 0} (now : K → Name) (old new : List K) (key : K) (all rest left : List Placed) (p : Placed) (n : Name)
     (seen : Seen (map now old) all rest) (next : rest ≡ p ∷ left) (text : n ≡ p.name)
     (added : Bool) (says : added ≡ not (list_any (λ k. bytes_eq n (now k)) old)) where

@@ -5,7 +5,7 @@ use Rattle.std.specs.Io.KnownBytes.{Appends, Keeps}
 use Rattle.std.proofs.KnownBytes.{Appends-trans, Appends-kept}
 use Rattle.lotos_device.specs.ByteOutput.{AppendsPart}
 
--- after the bytes before the place, a write took some of the rest
+-- after the bytes before the offset, a write took some of the rest
 pub got_more : (old mid new : Option (List ℕ)) (bytes rest : List ℕ) (at count : ℕ)
     → Appends old mid (take at bytes) → Appends mid new (take count rest) → rest ≡ drop at bytes
     → Appends old new (take (at + count) bytes)
@@ -14,7 +14,7 @@ got_more old mid new bytes rest at count before now e =
     (Appends-trans old mid new (take at bytes) (take count (drop at bytes)) before
     (subst (λ xs. Appends mid new (take count xs)) e now))
 
--- after the bytes before the place, a write failed
+-- after the bytes before the offset, a write failed
 pub got_part : (old mid new : Option (List ℕ)) (bytes : List ℕ) (at : ℕ)
     → at < length bytes → Appends old mid (take at bytes) → Keeps mid new → AppendsPart old new bytes
 got_part old mid new bytes at left before now = record {

@@ -192,7 +192,7 @@ module _ (strong : Bool) where
     full_nothing (E48 n) h = absurd h
     full_nothing (E99 e) h = absurd h
 
--- no element begins or ends with the internal action, where it is not shown
+-- no element begins or ends with the internal action, where it is not observed
 internal_no_label : (word : Text) → IsInternal word → IsLabel false word → ⊥
 internal_no_label word is (l, n) = names_no_internal word l n is
 

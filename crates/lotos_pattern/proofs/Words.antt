@@ -67,11 +67,11 @@ module _ (strong : Bool) where
     observable = other_observable strong (map to_ascii_uppercase word) (upper_not_internal word);
   }
 
--- what is not shown is not named by the internal action's word
+-- what is not observed is not named by the internal action's word
 pub names_no_internal : (word : Text) (l : Label) → Names false word l → EqualsIgnoringCase word internal → ⊥
 names_no_internal word l n is = n.observable (one_named word l internal n.named (inside is))
 
--- the internal action's word is a word of the language, and names it where internal steps are shown
+-- the internal action's word is a word of the language, and names it where internal steps are observed
 letter_of : (b : ℕ) → to_ascii_lowercase b ≡ 105 → IsTrue (is_ascii_alphabetic b)
 letter_of b e = grind (arith, nat_tests)
 

@@ -41,7 +41,7 @@ starts_not k [] (m ∷ ms) st h = absurd cc
 starts_not k (n ∷ ns) [] st h = absurd (let e = st.1 in cc)
 starts_not k (n ∷ ns) (m ∷ ms) st h = λ i. h (same_is i (head_same st.1))
 
--- its first token ranks alike
+-- its first token has the same precedence
 pub starts_rank : (rest more : List Token) → StartsAlike rest more → precedence more ≡ precedence rest
 starts_rank [] more st = ap precedence st
 starts_rank (n ∷ ns) more st = ap precedence st.1

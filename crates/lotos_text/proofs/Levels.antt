@@ -11,7 +11,7 @@ use Rattle.lotos_text.specs.declared.ast.Placed.{Placed}
 use Rattle.lotos_text.proofs.FirstToken.{head_same, tail_same, apart}
 use Rattle.lotos_text.proofs.NameLists.{unique_sync_list}
 
--- a tighter level ranks higher
+-- a tighter level has a higher precedence
 pub below_rank : {l m : Level} → BindsTighter l m → level_precedence l < level_precedence m
 below_rank tighter_than_enabling = omega arith
 below_rank tighter_than_disabling = omega arith
@@ -23,7 +23,7 @@ pub bound_below : {l m : Level} (o : Bool) → BindsTighter l m → bound l o �
 bound_below true b = omega arith
 bound_below false b = let h = below_rank b in omega (arith, h)
 
--- the bound on the ranks before which a spelling of a level is complete is at most the level's rank
+-- the bound on the precedences before which a spelling of a level is complete is at most the level's precedence
 pub bound_most : (l : Level) (o : Bool) → bound l o ≤ level_precedence l
 bound_most enabling true = omega arith
 bound_most disabling true = omega arith
@@ -46,12 +46,12 @@ pub rank_open : (l m : Level) (o p : Bool) (ts : List Token) → p ≡ true → 
 rank_open l m o true ts e h = rank_none m o ts (omega (arith, h))
 rank_open l m o false ts e h = cc
 
--- a token ranks as its kind
+-- a token has the precedence of its kind
 pub rank_is : {n : Token} {k : TokenKind} (ts : List Token) → IsOfKind n k → precedence (n ∷ ts) ≡ kind_precedence k
 rank_is ts i = ap kind_precedence i.same
 
 module _ (text : List ℕ) where
-  -- an operator ranks as its level does
+  -- an operator has the precedence of its level
   pub operator_rank : {l : Level} {op : List Token} {how : Operator} (r : List Token) → IsOperator text l op how →
       precedence (op ++ r) ≡ level_precedence l
   operator_rank r (enable_sign i) = rank_is r i

@@ -109,7 +109,7 @@ one_front {text} f g = elim (cases_Bool (starts_with nat_eq text comment_opening
   | inr h ↦ let o = begins_false comment_opening text h in front_is o f ∙ sym (front_is o g)
 ]
 
--- the lexeme at the start, from what `front` tests
+-- the lexeme at the start, from what `next_lexeme` tests
 pub blank_front : (text : List ℕ) → is_blank (slice_index text 0) ≡ true → IsNextLexeme text Blank
 blank_front [] h = absurd (cc)
 blank_front (b ∷ bs) h = a_blank b bs refl h
@@ -140,5 +140,5 @@ pub unknown_front : (text : List ℕ) → 0 < length text → is_blank (slice_in
 unknown_front [] h i k e = absurd (omega arith)
 unknown_front (b ∷ bs) h i k e = no_piece b bs refl (record { no_blank = i; no_letter = k; no_sign = no_mark_found (b ∷ bs) e })
 
--- what `front` cites
+-- what `next_lexeme` cites
 pub ruleset found_fronts = (blank_front, word_front, comment_front, open_front, mark_front, unknown_front)

@@ -38,7 +38,7 @@ module _ (text : List ℕ) where
   gates_inside no_gates h = tt
   gates_inside (gates {right = right} {ts = ts} i d j) h = names_inside d (stand_front ts (right ∷ []) h.1)
 
-  -- an operator joins trees that lie inside the text to one that does
+  -- an operator joins behaviour expressions whose offsets are inside the text to one whose offsets are
   join_inside : {l : Level} {op : List Token} {how : Operator} (left right : BehaviourView) → IsOperator text l op how → AreTokensIn text op →
       IsBehaviourInside (length text) left → IsBehaviourInside (length text) right → IsBehaviourInside (length text) (apply how left right)
   join_inside l r (enable_sign {o = o} i) h x y = (x, token_inside o h.0, y)

@@ -20,12 +20,12 @@ pub below_calls : (o : Bool) (ts : List Token) → precedence ts < bound prefixi
 below_calls true ts h = omega (arith, h)
 below_calls false ts h = h
 
--- what ranks below a bracket does not begin with one
+-- what has a lower precedence than a bracket does not begin with one
 pub not_bracket : (ts : List Token) → precedence ts < 5 → DoesNotStartWith (Sign s.LeftBracket) ts
 not_bracket [] h = tt
 not_bracket (n ∷ ts) h = λ i. let e = rank_is ts i in omega (arith, e, h)
 
--- one token alone, which spells the tree
+-- one token alone, which spells the behaviour expression
 pub record Leaf (n : Token) (z : BehaviourView) (o : Bool) (m : ℕ) (own : List Token) (x : BehaviourView) : Type 0 where
   pub tokens : own ≡ n ∷ []
   pub shut : o ≡ false

@@ -19,7 +19,7 @@ use Rattle.lotos_text.proofs.ParseErrors.{Carries}
 use Rattle.lotos_text.proofs.SyncLists.{is_mark}
 use Rattle.lotos_text.proofs.GrammarUnique.{unique, join_assoc}
 
--- the next tighter level ranks one higher
+-- the precedence of the next tighter level is one higher
 pub next_rank : {l m : Level} → BindsTighter l m → level_precedence m ≡ level_precedence l + 1
 next_rank tighter_than_enabling = refl
 next_rank tighter_than_disabling = refl
@@ -42,7 +42,7 @@ quits_looser false ts b without h = let e = next_rank b in smaller _ _ _ e witho
     smaller : (n k j : ℕ) → j ≡ k + 1 → (n ≡ k → ⊥) → n < j → n < k
     smaller n k j e without h = omega (arith, e, without, h)
 
--- a token that is an operator's sign ranks as its level's operators, and opens a construct
+-- a token that is an operator's sign has the precedence of its level's operators, and opens a construct
 mark_opens : (n : Token) (m : Infix) → infix_of n.kind ≡ Some m → opens_construct n.kind ≡ true
 mark_opens n i.Enable e = opens_is (is_mark n i.Enable e) refl
 mark_opens n i.Disable e = opens_is (is_mark n i.Disable e) refl
@@ -59,7 +59,7 @@ mark_rank n i.Full ts e = rank_is ts (is_mark n i.Full e)
 mark_rank n i.Sync ts e = rank_is ts (is_mark n i.Sync e)
 mark_rank n i.Choice ts e = rank_is ts (is_mark n i.Choice e)
 
--- the tokens from an operator's sign on rank as its level's operators
+-- the tokens from an operator's sign on have the precedence of its level's operators
 pub marked : {l : Level} (between after : List Token) (n : Token) (m : Infix) → between ≡ n ∷ after → infix_of n.kind ≡ Some m →
     infix_level m ≡ l → precedence between ≡ level_precedence l
 marked between after n m e i j = ap precedence e ∙ mark_rank n m after i ∙ ap level_precedence j

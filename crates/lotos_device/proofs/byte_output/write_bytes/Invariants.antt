@@ -2,7 +2,7 @@ use Rattle.std.proofs.Common.{◌≡◌, ◌≤◌, ◌-◌, false, length, take
 use Rattle.std.specs.Io.KnownBytes.{Appends}
 use Rattle.lotos_device.proofs.byte_output.write_bytes.Given as goal
 
--- the bytes before the place were got, and no write has failed
+-- the bytes before the offset were got, and no write has failed
 abbrev pub invariant-loop-at : goal.invariant-loop-at
 invariant-loop-at g l = record {
   within : l.at ≤ length l.bytes;
