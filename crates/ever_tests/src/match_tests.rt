@@ -280,6 +280,22 @@ const ROWS: &[Row] = &[
         answer: Answer::TooManyStates,
     },
 
+    // A system that grows for ever.
+    Row {
+        behaviour: "noexit behaviour P[a] where process P [x] : noexit := x; (P[x] ||| P[x]) endproc",
+        words: &["<until>", "b"],
+        strong: false,
+        states: 50,
+        answer: Answer::TooManyStates,
+    },
+    Row {
+        behaviour: "noexit behaviour P[a] where process P [x] : noexit := x; (P[x] ||| P[x]) endproc",
+        words: &["a", "a", "a"],
+        strong: false,
+        states: 50,
+        answer: Answer::Found(&[A, A, A], &[A, A, A]),
+    },
+
     // Recursions with swapped gates, with hiding, and with parallel composition.
     Row {
         behaviour: "noexit behaviour P[a,b] where process P [x,y] : noexit := x; P[y,x] endproc",
