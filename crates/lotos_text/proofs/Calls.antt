@@ -12,7 +12,7 @@ use Rattle.lotos_text.specs.declared.token.Token.{Token}
 use Rattle.lotos_text.specs.declared.token.TokenKind.TheVariants.{Identifier, Sign}
 use Rattle.lotos_text.specs.declared.ast.Placed.{Placed}
 use Rattle.lotos_text.proofs.OperandEnds.{Ended}
-use Rattle.lotos_text.proofs.FirstToken.{not_first, starts_not, starts_behind}
+use Rattle.lotos_text.proofs.FirstToken.{not_first, starts_not, starts_after}
 use Rattle.lotos_text.proofs.Limits.{within_none}
 use Rattle.lotos_text.proofs.NameLists.{firm_gates}
 use Rattle.lotos_text.proofs.Operands.{below_calls, not_bracket, taken_name}
@@ -20,10 +20,10 @@ use Rattle.lotos_text.proofs.Sequences.{lost_first, lost_second}
 
 module _ (text : List ℕ) where
   -- a name and its gates, which nothing continues, are a call
-  pub found_call : (room : ℕ) (n : Token) (ts rest : List Token) (name : Placed) (names : List Placed) → IsOfKind n Identifier →
+  pub found_call : (nesting_left : ℕ) (n : Token) (ts rest : List Token) (name : Placed) (names : List Placed) → IsOfKind n Identifier →
       name ≡ located_name text n → Parses (OptionalGates text) ts names rest → precedence rest < 5 →
-      Parses (BehaviourPhrase text prefixing (Some room)) (n ∷ ts) (t.call name names) rest
-  found_call room n ts rest name names i e f h = record {
+      Parses (BehaviourPhrase text prefixing (Some nesting_left)) (n ∷ ts) (t.call name names) rest
+  found_call nesting_left n ts rest name names i e f h = record {
     front = n ∷ f.front;
     joined = ap (λ m. n ∷ m) f.joined;
     whole = record {
@@ -31,7 +31,7 @@ module _ (text : List ℕ) where
       nesting = 0;
       spells = subst (λ m. Spells text prefixing false 0 (n ∷ f.front) (t.call m names)) (sym e) (call i f.whole.gates);
       quits = h;
-      within = within_none (Some room);
+      within = within_none (Some nesting_left);
     };
   }
 
@@ -48,23 +48,23 @@ module _ (text : List ℕ) where
   lost_listed n ts rest i without l = record {
     front = n ∷ l.front;
     joined = ap (λ m. n ∷ m) l.joined;
-    never = λ more own behind x st e p.
+    never = λ more own remainder x st e p.
         let alike : StartsAlike ts (l.front ++ more) =
-        subst (λ m. StartsAlike m (l.front ++ more)) (sym l.joined) (starts_behind l.front rest more st) in
+        subst (λ m. StartsAlike m (l.front ++ more)) (sym l.joined) (starts_after l.front rest more st) in
         let none = starts_not (Sign s.Semicolon) ts (l.front ++ more) alike without in
-        let quits = below_calls p.ends behind p.quits in
-        elim (taken_name text behind (l.front ++ more) i p.spells (sym e)) [
-          | inl c ↦ l.never more c.listed behind c.names st (sym c.rest) (record {
+        let quits = below_calls p.ends remainder p.quits in
+        elim (taken_name text remainder (l.front ++ more) i p.spells (sym e)) [
+          | inl c ↦ l.never more c.listed remainder c.names st (sym c.rest) (record {
             front = c.listed;
             back = [];
             one = c.names;
             other = tt;
             joined = sym (append-nil c.listed);
-            first = record { gates = c.gates; quits = λ e. not_bracket behind quits };
+            first = record { gates = c.gates; quits = λ e. not_bracket remainder quits };
             second = record { empty = refl; quits = quits };
             same = refl;
           })
-          | inr f ↦ not_first (Sign s.Semicolon) (l.front ++ more) (f.body ++ behind) none f.separates (sym f.rest)
+          | inr f ↦ not_first (Sign s.Semicolon) (l.front ++ more) (f.body ++ remainder) none f.separates (sym f.rest)
         ];
   }
 

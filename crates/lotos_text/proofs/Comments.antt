@@ -21,7 +21,7 @@ begins_false front text h b =
 -- the offset of the closing in the front of a text
 record Closing (front text : List ℕ) : Type 0 where
   at : ℕ
-  behind_opening : 2 ≤ at
+  after_opening : 2 ≤ at
   long : length front ≡ at + 2
   located : StartsWith comment_closing (drop at text)
 
@@ -30,7 +30,7 @@ closing_of front rest text e c =
     let body = c.0 in
     record {
       at = suc (suc (length body));
-      behind_opening = omega arith;
+      after_opening = omega arith;
       long = ap length c.1 ∙ omega (arith, length-append body comment_closing);
       located = (
         rest,
@@ -41,7 +41,7 @@ closing_of front rest text e c =
 
 -- the offset is after the opening, and no closing is between
 pub record NoneBefore (text : List ℕ) (at : ℕ) : Type 0 where
-  pub behind_opening : 2 ≤ at
+  pub after_opening : 2 ≤ at
   pub inside : at ≤ length text
   pub none : (k : ℕ) → 2 ≤ k → k < at → StartsWith comment_closing (drop k text) → ⊥
 
@@ -57,7 +57,7 @@ rest_is text at = take_all (length text - at) (drop at text) (omega (arith, leng
 pub none_step : (text : List ℕ) (at : ℕ) → NoneBefore text at → at < length text → starts_with nat_eq (rest_of text at) comment_closing ≡ false →
     NoneBefore text (at + 1)
 none_step text at n s h = record {
-  behind_opening = omega (arith, n.behind_opening);
+  after_opening = omega (arith, n.after_opening);
   inside = omega (arith, s);
   none = λ k low high c. elim (cases_order k at) [
     | inl same ↦
@@ -69,12 +69,12 @@ none_step text at n s h = record {
 }
 
 -- so a closing is at the offset or after it
-closed_behind : (front rest text : List ℕ) (at : ℕ) → NoneBefore text at → text ≡ front ++ rest → IsClosedComment front → at + 2 ≤ length front
-closed_behind front rest text at n e c =
+closed_after : (front rest text : List ℕ) (at : ℕ) → NoneBefore text at → text ≡ front ++ rest → IsClosedComment front → at + 2 ≤ length front
+closed_after front rest text at n e c =
     let k = closing_of front rest text e c in
     elim (cases_order k.at at) [
       | inl same ↦ omega (arith, same, k.long)
-      | inr (inl less) ↦ absurd (n.none k.at k.behind_opening less k.located)
+      | inr (inl less) ↦ absurd (n.none k.at k.after_opening less k.located)
       | inr (inr more) ↦ omega (arith, more, k.long)
     ]
 
@@ -110,11 +110,11 @@ comment_found text at o n h =
       record {
         closed = (
           take (at - 2) o.0,
-          closed_here text at n.inside c ∙ ap (λ l. l ++ comment_closing) (opened_front text o.0 at o.1 n.behind_opening),
+          closed_here text at n.inside c ∙ ap (λ l. l ++ comment_closing) (opened_front text o.0 at o.1 n.after_opening),
         );
         first = λ front rest e k.
             let all = whole ∙ ap (λ l. l ++ drop (at + 2) text) e ∙ append_assoc front rest (drop (at + 2) text) in
-            let past = closed_behind front (rest ++ drop (at + 2) text) text at n all k in
+            let past = closed_after front (rest ++ drop (at + 2) text) text at n all k in
             no_bytes rest (omega (arith, past, long, ap length e, length-append front rest));
       },
       inside,
@@ -124,7 +124,7 @@ comment_found text at o n h =
 pub comment_open : (text : List ℕ) (at : ℕ) → StartsWith comment_opening text → NoneBefore text at → length text ≤ at → IsUnclosedComment text
 comment_open text at o n h = record {
   opens = o;
-  never = λ front b c. omega (arith, h, closed_behind front b.0 text at n b.1 c, ap length b.1, length-append front b.0);
+  never = λ front b c. omega (arith, h, closed_after front b.0 text at n b.1 c, ap length b.1, length-append front b.0);
 }
 
 -- a comment is no longer than a closed beginning of the same text

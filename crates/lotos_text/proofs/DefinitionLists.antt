@@ -3,14 +3,14 @@ use Rattle.std.proofs.Common.{◌≡◌, ℕ, ◌+◌, ◌≤◌, List, [], ◌�
 use Rattle.lotos_text.specs.Grammar.{IsOfKind, a_process, SpellsDefinition, definition, SpellsDefinitions, last, another}
 use Rattle.lotos_text.specs.ConstructOpenings.{opens_construct, count_openings}
 use Rattle.lotos_text.specs.ParserContracts.{NestingLimit, IsNestingWithin, DoesNotStartWith, StartsAlike, Parses, Fails, IsTooDeepAt}
-use Rattle.lotos_text.specs.Phrases.{OneToken, DefinitionList, WherePhrase, no_inner, some_inner, DefinitionRest, ProcessDefinition}
+use Rattle.lotos_text.specs.Phrases.{OneToken, DefinitionList, WherePhrase, no_inner, some_inner, DefinitionRest, CompleteDefinition}
 use Rattle.lotos_text.specs.AstView.{DefinitionView, DefinitionListView, no_defs, more_defs}
 use Rattle.lotos_text.specs.declared.token.Token.{Token}
 use Rattle.lotos_text.specs.declared.token.TokenKind.TheVariants.{Reserved}
 use Rattle.lotos_text.specs.declared.token.Word.TheVariants as w
 use Rattle.lotos_text.proofs.Definitions.{within_first, within_second, within_both, firm_definition, as_definition, from_definition}
-use Rattle.lotos_text.proofs.FirstToken.{tail_same, not_first, starts_behind}
-use Rattle.lotos_text.proofs.OneToken.{found_behind, lost_behind}
+use Rattle.lotos_text.proofs.FirstToken.{tail_same, not_first, starts_after}
+use Rattle.lotos_text.proofs.OneToken.{found_preceded, lost_preceded}
 use Rattle.lotos_text.proofs.ParseErrors.{Carries}
 
 -- a token that opens a construct is one opening
@@ -21,13 +21,13 @@ module _ (text : List ℕ) where
   -- lists of definitions
 
   -- a process that no other process follows is a list
-  pub found_last_process : (inner room : ℕ) (ts after behind : List Token) (n : Token) (d : DefinitionView) → inner + 1 ≤ room →
+  pub found_last_process : (inner nesting_left : ℕ) (ts after remainder : List Token) (n : Token) (d : DefinitionView) → inner + 1 ≤ nesting_left →
       ts ≡ n ∷ after →
-      IsOfKind n (Reserved w.ProcessWord) → Parses (DefinitionRest text a_process (Some inner)) after d behind →
-      DoesNotStartWith (Reserved w.ProcessWord) behind → Parses (DefinitionList text (Some room)) ts (more_defs d no_defs) behind
-  found_last_process inner room ts after behind n d h e i f g =
-      let p = found_behind _ (DefinitionRest text a_process (Some inner)) ts after behind n d e i f in
-      let q = from_definition text (Some inner) p.front behind d p.whole in
+      IsOfKind n (Reserved w.ProcessWord) → Parses (DefinitionRest text a_process (Some inner)) after d remainder →
+      DoesNotStartWith (Reserved w.ProcessWord) remainder → Parses (DefinitionList text (Some nesting_left)) ts (more_defs d no_defs) remainder
+  found_last_process inner nesting_left ts after remainder n d h e i f g =
+      let p = found_preceded _ (DefinitionRest text a_process (Some inner)) ts after remainder n d e i f in
+      let q = from_definition text (Some inner) p.front remainder d p.whole in
       record {
         front = p.front;
         joined = p.joined;
@@ -35,13 +35,13 @@ module _ (text : List ℕ) where
       }
 
   -- a process and a list after it are a list
-  pub found_more_processes : (inner room : ℕ) (ts after behind rest : List Token) (n : Token) (d : DefinitionView) (ds : DefinitionListView) →
-      inner + 1 ≤ room →
-      ts ≡ n ∷ after → IsOfKind n (Reserved w.ProcessWord) → Parses (DefinitionRest text a_process (Some inner)) after d behind →
-      Parses (DefinitionList text (Some room)) behind ds rest → Parses (DefinitionList text (Some room)) ts (more_defs d ds) rest
-  found_more_processes inner room ts after behind rest n d ds h e i f g =
-      let p = found_behind _ (DefinitionRest text a_process (Some inner)) ts after behind n d e i f in
-      let q = from_definition text (Some inner) p.front behind d p.whole in
+  pub found_more_processes : (inner nesting_left : ℕ) (ts after remainder rest : List Token) (n : Token) (d : DefinitionView) (ds : DefinitionListView) →
+      inner + 1 ≤ nesting_left →
+      ts ≡ n ∷ after → IsOfKind n (Reserved w.ProcessWord) → Parses (DefinitionRest text a_process (Some inner)) after d remainder →
+      Parses (DefinitionList text (Some nesting_left)) remainder ds rest → Parses (DefinitionList text (Some nesting_left)) ts (more_defs d ds) rest
+  found_more_processes inner nesting_left ts after remainder rest n d ds h e i f g =
+      let p = found_preceded _ (DefinitionRest text a_process (Some inner)) ts after remainder n d e i f in
+      let q = from_definition text (Some inner) p.front remainder d p.whole in
       record {
         front = p.front ++ g.front;
         joined = p.joined ∙ ap (λ m. p.front ++ m) g.joined ∙ sym (append_assoc p.front g.front rest);
@@ -49,7 +49,7 @@ module _ (text : List ℕ) where
           nesting = max (q.0 + 1) g.whole.nesting;
           several = another q.1 g.whole.several;
           ends = g.whole.ends;
-          within = within_both (Some room) (q.0 + 1) g.whole.nesting (let j = q.2 in omega (arith, h, j)) g.whole.within;
+          within = within_both (Some nesting_left) (q.0 + 1) g.whole.nesting (let j = q.2 in omega (arith, h, j)) g.whole.within;
         };
       }
 
@@ -75,21 +75,21 @@ module _ (text : List ℕ) where
   lost_word limit ts rest l = record {
     front = l.front;
     joined = l.joined;
-    never = λ more own behind said st e p.
+    never = λ more own remainder said st e p.
         let b = row_begins p.several in
-        l.never more (b.word ∷ []) (b.others ++ behind) b.word st (e ∙ ap (λ m. m ++ behind) b.joined)
+        l.never more (b.word ∷ []) (b.others ++ remainder) b.word st (e ∙ ap (λ m. m ++ remainder) b.joined)
         (record { joined = refl; is = b.is });
   }
 
-  never_first : {n : ℕ} {own : List Token} {ds : DefinitionListView} (inner limit : NestingLimit) (front more behind : List Token) →
+  never_first : {n : ℕ} {own : List Token} {ds : DefinitionListView} (inner limit : NestingLimit) (front more remainder : List Token) →
       ((n : ℕ) → IsNestingWithin limit (n + 1) → IsNestingWithin inner n) →
-      ((a b : List Token) (d : DefinitionView) → front ++ more ≡ a ++ b → ProcessDefinition text a_process inner a d b → ⊥) →
-      front ++ more ≡ own ++ behind → SpellsDefinitions text n own ds → IsNestingWithin limit n → ⊥
-  never_first inner limit front more behind to h e (last {n = n} {ts = own} {d = d} p) v =
-      h own behind d e (as_definition text inner behind p (to n v))
-  never_first inner limit front more behind to h e (another {n = n} {m = m} {first = first} {others = others} {d = d} p ds) v =
-      h first (others ++ behind) d (e ∙ append_assoc first others behind)
-      (as_definition text inner (others ++ behind) p (to n (within_first limit (n + 1) m v)))
+      ((a b : List Token) (d : DefinitionView) → front ++ more ≡ a ++ b → CompleteDefinition text a_process inner a d b → ⊥) →
+      front ++ more ≡ own ++ remainder → SpellsDefinitions text n own ds → IsNestingWithin limit n → ⊥
+  never_first inner limit front more remainder to h e (last {n = n} {ts = own} {d = d} p) v =
+      h own remainder d e (as_definition text inner remainder p (to n v))
+  never_first inner limit front more remainder to h e (another {n = n} {m = m} {first = first} {others = others} {d = d} p ds) v =
+      h first (others ++ remainder) d (e ∙ append_assoc first others remainder)
+      (as_definition text inner (others ++ remainder) p (to n (within_first limit (n + 1) m v)))
 
   -- if the first process fails, so does the list
   lost_process : (inner limit : NestingLimit) (ts after rest : List Token) (n : Token) →
@@ -97,76 +97,76 @@ module _ (text : List ℕ) where
       ts ≡ n ∷ after → IsOfKind n (Reserved w.ProcessWord) → Fails (DefinitionRest text a_process inner) after rest →
       Fails (DefinitionList text limit) ts rest
   lost_process inner limit ts after rest n to e i lost =
-      let l = lost_behind _ (DefinitionRest text a_process inner) ts after rest n e i lost in
+      let l = lost_preceded _ (DefinitionRest text a_process inner) ts after rest n e i lost in
       record {
         front = l.front;
         joined = l.joined;
-        never = λ more own behind said st e p. never_first inner limit l.front more behind to
+        never = λ more own remainder said st e p. never_first inner limit l.front more remainder to
             (λ a b d e q. l.never more a b d st e q) e p.several p.within;
       }
 
   -- an error inside a process is an error of the list
-  pub carries_process : (inner room : ℕ) (ts after : List Token) (n : Token) → inner + 1 ≡ room → ts ≡ n ∷ after →
-      IsOfKind n (Reserved w.ProcessWord) → Carries (DefinitionRest text a_process) inner after (DefinitionList text) room ts
-  carries_process inner room ts after n h e i = record {
+  pub carries_process : (inner nesting_left : ℕ) (ts after : List Token) (n : Token) → inner + 1 ≡ nesting_left → ts ≡ n ∷ after →
+      IsOfKind n (Reserved w.ProcessWord) → Carries (DefinitionRest text a_process) inner after (DefinitionList text) nesting_left ts
+  carries_process inner nesting_left ts after n h e i = record {
     free = λ rest l. lost_process None None ts after rest n (λ n g. tt) e i l;
-    limited = λ rest l. lost_process (Some inner) (Some room) ts after rest n (λ n g. omega (arith, h, g)) e i l;
+    limited = λ rest l. lost_process (Some inner) (Some nesting_left) ts after rest n (λ n g. omega (arith, h, g)) e i l;
     before = n ∷ [];
     joined = e;
     crowds = (let j = one_opening n (ap opens_construct i.same) in omega (arith, h, j));
   }
 
-  never_more : {n : ℕ} {own : List Token} {ds : DefinitionListView} (inner : ℕ) (limit : NestingLimit) (front behind more rest : List Token)
+  never_more : {n : ℕ} {own : List Token} {ds : DefinitionListView} (inner : ℕ) (limit : NestingLimit) (front remainder more rest : List Token)
       (m : Token) (d : DefinitionView) →
-      ProcessDefinition text a_process (Some inner) front d behind → StartsAlike behind more → IsOfKind m (Reserved w.ProcessWord) →
+      CompleteDefinition text a_process (Some inner) front d remainder → StartsAlike remainder more → IsOfKind m (Reserved w.ProcessWord) →
       (others : List Token) → more ≡ m ∷ others → DoesNotStartWith (Reserved w.ProcessWord) rest →
       ((a : List Token) (es : DefinitionListView) → more ≡ a ++ rest → DefinitionList text limit a es rest → ⊥) →
       front ++ more ≡ own ++ rest → SpellsDefinitions text n own ds → IsNestingWithin limit n → ⊥
-  never_more inner limit front behind more rest m d p st i others g ends h e (last {ts = own} {d = d'} q) v =
-      let one = firm_definition text a_process (Some inner) None front own behind more rest d d' p st
+  never_more inner limit front remainder more rest m d p st i others g ends h e (last {ts = own} {d = d'} q) v =
+      let one = firm_definition text a_process (Some inner) None front own remainder more rest d d' p st
       (as_definition text None rest q tt) e in
       not_first _ rest others ends i (sym one.rest ∙ g)
-  never_more inner limit front behind more rest m d p st i others g ends h e
+  never_more inner limit front remainder more rest m d p st i others g ends h e
       (another {n = n} {m = k} {first = first} {others = own} {d = d'} {ds = es} q qs) v =
-      let one = firm_definition text a_process (Some inner) None front first behind more (own ++ rest) d d' p st
+      let one = firm_definition text a_process (Some inner) None front first remainder more (own ++ rest) d d' p st
       (as_definition text None (own ++ rest) q tt) (e ∙ append_assoc first own rest) in
       h own es one.rest (record { nesting = k; several = qs; ends = ends; within = within_second limit (n + 1) k v })
 
   -- if a list fails after a process, so does the list with that process
-  lost_more_processes : (inner : ℕ) (limit : NestingLimit) (ts after behind rest others : List Token) (n m : Token) (d : DefinitionView) →
+  lost_more_processes : (inner : ℕ) (limit : NestingLimit) (ts after remainder rest others : List Token) (n m : Token) (d : DefinitionView) →
       ts ≡ n ∷ after →
-      IsOfKind n (Reserved w.ProcessWord) → Parses (DefinitionRest text a_process (Some inner)) after d behind → behind ≡ m ∷ others →
-      IsOfKind m (Reserved w.ProcessWord) → Fails (DefinitionList text limit) behind rest → Fails (DefinitionList text limit) ts rest
-  lost_more_processes inner limit ts after behind rest others n m d e i f g j l =
-      let p = found_behind _ (DefinitionRest text a_process (Some inner)) ts after behind n d e i f in
+      IsOfKind n (Reserved w.ProcessWord) → Parses (DefinitionRest text a_process (Some inner)) after d remainder → remainder ≡ m ∷ others →
+      IsOfKind m (Reserved w.ProcessWord) → Fails (DefinitionList text limit) remainder rest → Fails (DefinitionList text limit) ts rest
+  lost_more_processes inner limit ts after remainder rest others n m d e i f g j l =
+      let p = found_preceded _ (DefinitionRest text a_process (Some inner)) ts after remainder n d e i f in
       record {
         front = p.front ++ l.front;
         joined = p.joined ∙ ap (λ k. p.front ++ k) l.joined ∙ sym (append_assoc p.front l.front rest);
         never = λ more own last said st e q.
-            let alike : StartsAlike behind (l.front ++ more) = subst (λ k. StartsAlike k (l.front ++ more)) (sym l.joined)
-            (starts_behind l.front rest more st) in
+            let alike : StartsAlike remainder (l.front ++ more) = subst (λ k. StartsAlike k (l.front ++ more)) (sym l.joined)
+            (starts_after l.front rest more st) in
             let begins : StartsAlike (m ∷ others) (l.front ++ more) = subst (λ k. StartsAlike k (l.front ++ more)) g alike in
-            never_more inner limit p.front behind (l.front ++ more) last m d p.whole alike j begins.0 begins.1 q.ends
+            never_more inner limit p.front remainder (l.front ++ more) last m d p.whole alike j begins.0 begins.1 q.ends
             (λ a es h r. l.never more a last es st h r) (sym (append_assoc p.front l.front more) ∙ e) q.several q.within;
       }
 
   -- an error in a list is an error of the list with a process before it
-  pub carries_more : (inner room : ℕ) (ts after behind others : List Token) (n m : Token) (d : DefinitionView) → ts ≡ n ∷ after →
-      IsOfKind n (Reserved w.ProcessWord) → Parses (DefinitionRest text a_process (Some inner)) after d behind → behind ≡ m ∷ others →
-      IsOfKind m (Reserved w.ProcessWord) → Carries (DefinitionList text) room behind (DefinitionList text) room ts
-  carries_more inner room ts after behind others n m d e i f g j =
-      let p = found_behind _ (DefinitionRest text a_process (Some inner)) ts after behind n d e i f in
+  pub carries_more : (inner nesting_left : ℕ) (ts after remainder others : List Token) (n m : Token) (d : DefinitionView) → ts ≡ n ∷ after →
+      IsOfKind n (Reserved w.ProcessWord) → Parses (DefinitionRest text a_process (Some inner)) after d remainder → remainder ≡ m ∷ others →
+      IsOfKind m (Reserved w.ProcessWord) → Carries (DefinitionList text) nesting_left remainder (DefinitionList text) nesting_left ts
+  carries_more inner nesting_left ts after remainder others n m d e i f g j =
+      let p = found_preceded _ (DefinitionRest text a_process (Some inner)) ts after remainder n d e i f in
       record {
-        free = λ rest l. lost_more_processes inner None ts after behind rest others n m d e i f g j l;
-        limited = λ rest l. lost_more_processes inner (Some room) ts after behind rest others n m d e i f g j l;
+        free = λ rest l. lost_more_processes inner None ts after remainder rest others n m d e i f g j l;
+        limited = λ rest l. lost_more_processes inner (Some nesting_left) ts after remainder rest others n m d e i f g j l;
         before = p.front;
         joined = p.joined;
         crowds = omega arith;
       }
 
   -- an error inside a list is an error of the list
-  pub carries_all : (room : ℕ) (ts : List Token) → Carries (DefinitionList text) room ts (DefinitionList text) room ts
-  carries_all room ts = record {
+  pub carries_all : (nesting_left : ℕ) (ts : List Token) → Carries (DefinitionList text) nesting_left ts (DefinitionList text) nesting_left ts
+  carries_all nesting_left ts = record {
     free = λ rest l. l;
     limited = λ rest l. l;
     before = [];
@@ -179,14 +179,14 @@ module _ (text : List ℕ) where
   never_shallow (another d ds) h = omega (arith, h)
 
   -- with no nesting left, the keyword `process` is too deep
-  pub deep_process : (room : ℕ) (ts after : List Token) (n : Token) → room ≡ 0 → ts ≡ n ∷ after → IsOfKind n (Reserved w.ProcessWord) →
-      IsTooDeepAt (DefinitionList text) room ts n
-  deep_process room ts after n h e i = record {
+  pub deep_process : (nesting_left : ℕ) (ts after : List Token) (n : Token) → nesting_left ≡ 0 → ts ≡ n ∷ after → IsOfKind n (Reserved w.ProcessWord) →
+      IsTooDeepAt (DefinitionList text) nesting_left ts n
+  deep_process nesting_left ts after n h e i = record {
     after = after;
     fails = record {
       front = [];
       joined = e;
-      never = λ more own behind said st e p. never_shallow p.several (let g = p.within in omega (arith, h, g));
+      never = λ more own remainder said st e p. never_shallow p.several (let g = p.within in omega (arith, h, g));
     };
     too_many_open = record { front = []; joined = e; many = (let j = one_opening n (ap opens_construct i.same) in omega (arith, h, j)) };
     opens = ap opens_construct i.same;
@@ -209,11 +209,11 @@ module _ (text : List ℕ) where
     whole = some_inner i f.whole;
   }
 
-  never_inner : {own behind : List Token} {said : DefinitionListView} (limit : NestingLimit) (n : Token) (front more : List Token) →
+  never_inner : {own remainder : List Token} {said : DefinitionListView} (limit : NestingLimit) (n : Token) (front more : List Token) →
       IsOfKind n (Reserved w.WhereWord) →
-      ((a : List Token) → front ++ more ≡ a ++ behind → DefinitionList text limit a said behind → ⊥) →
-      n ∷ (front ++ more) ≡ own ++ behind → WherePhrase text limit own said behind → ⊥
-  never_inner limit n front more i h e (no_inner {rest = behind} g) = not_first _ behind (front ++ more) g i (sym e)
+      ((a : List Token) → front ++ more ≡ a ++ remainder → DefinitionList text limit a said remainder → ⊥) →
+      n ∷ (front ++ more) ≡ own ++ remainder → WherePhrase text limit own said remainder → ⊥
+  never_inner limit n front more i h e (no_inner {rest = remainder} g) = not_first _ remainder (front ++ more) g i (sym e)
   never_inner limit n front more i h e (some_inner {tokens = own} j r) = h own (tail_same e) r
 
   -- if the list fails, so do the inner definitions
@@ -222,15 +222,15 @@ module _ (text : List ℕ) where
   lost_row limit ts after rest n e i l = record {
     front = n ∷ l.front;
     joined = e ∙ ap (λ m. n ∷ m) l.joined;
-    never = λ more own behind said st e p. never_inner limit n l.front more i (λ a e r. l.never more a behind said st e r) e p;
+    never = λ more own remainder said st e p. never_inner limit n l.front more i (λ a e r. l.never more a remainder said st e r) e p;
   }
 
   -- an error inside the list is an error of the inner definitions
-  pub carries_row : (room : ℕ) (ts after : List Token) (n : Token) → ts ≡ n ∷ after → IsOfKind n (Reserved w.WhereWord) →
-      Carries (DefinitionList text) room after (WherePhrase text) room ts
-  carries_row room ts after n e i = record {
+  pub carries_row : (nesting_left : ℕ) (ts after : List Token) (n : Token) → ts ≡ n ∷ after → IsOfKind n (Reserved w.WhereWord) →
+      Carries (DefinitionList text) nesting_left after (WherePhrase text) nesting_left ts
+  carries_row nesting_left ts after n e i = record {
     free = λ rest l. lost_row None ts after rest n e i l;
-    limited = λ rest l. lost_row (Some room) ts after rest n e i l;
+    limited = λ rest l. lost_row (Some nesting_left) ts after rest n e i l;
     before = n ∷ [];
     joined = e;
     crowds = omega arith;

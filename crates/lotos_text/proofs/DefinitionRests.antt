@@ -6,8 +6,8 @@ use Rattle.lotos_text.specs.Phrases.{Sequence, OneToken, BehaviourPhrase, Header
 use Rattle.lotos_text.specs.AstView.{BehaviourView, DefinitionView, DefinitionListView}
 use Rattle.lotos_text.specs.declared.token.Token.{Token}
 use Rattle.lotos_text.proofs.Definitions.{firm_inner}
-use Rattle.lotos_text.proofs.PhraseUniqueness.{FirmWithin, firm_always, firm_then_within, firm_behind_within, firm_expression, firm_header, lost_after}
-use Rattle.lotos_text.proofs.OneToken.{found_behind, lost_before, lost_behind, found_before, lost_within}
+use Rattle.lotos_text.proofs.PhraseUniqueness.{FirmWithin, firm_always, firm_then_within, firm_preceded_within, firm_expression, firm_header, lost_after}
+use Rattle.lotos_text.proofs.OneToken.{found_preceded, lost_before, lost_preceded, found_before, lost_within}
 use Rattle.lotos_text.proofs.Sequences.{found_then, lost_first, lost_second}
 use Rattle.lotos_text.proofs.ParseErrors.{Carries}
 
@@ -25,7 +25,7 @@ module _ (text : List ℕ) (what : DefinitionKind) where
 
   firm_outer : FirmWithin Outer
   firm_outer = firm_then_within bodied (λ _. HeaderPhrase text) (BodyPhrase text what) (firm_always (HeaderPhrase text) (firm_header text))
-      (firm_behind_within (defining_sign what) (BehaviourPhrase text enabling) (firm_expression text enabling))
+      (firm_preceded_within (defining_sign what) (BehaviourPhrase text enabling) (firm_expression text enabling))
 
   firm_open : FirmWithin Open
   firm_open = firm_then_within make_definition Outer (WherePhrase text) firm_outer (firm_inner text)
@@ -35,7 +35,7 @@ module _ (text : List ℕ) (what : DefinitionKind) where
       IsOfKind n (defining_sign what) →
       Parses (BehaviourPhrase text enabling limit) between x rest → Parses (BodyPhrase text what limit) ts x rest
   found_body limit ts between rest n x e i f =
-      found_behind (defining_sign what) (BehaviourPhrase text enabling limit) ts between rest n x e i f
+      found_preceded (defining_sign what) (BehaviourPhrase text enabling limit) ts between rest n x e i f
 
   found_outer : (limit : NestingLimit) (ts r q : List Token) (heading : HeaderValue) (x : BehaviourView) → Parses (HeaderPhrase text) ts heading r →
       Parses (BodyPhrase text what limit) r x q → Parses (Outer limit) ts (heading, x) q
@@ -81,7 +81,7 @@ module _ (text : List ℕ) (what : DefinitionKind) where
       r ≡ n ∷ between → IsOfKind n (defining_sign what) → Fails (BehaviourPhrase text enabling limit) between rest →
       Fails (DefinitionRest text what limit) ts rest
   lost_behaviour limit ts r between rest n heading f e i l = lost_body limit ts r rest heading f
-      (lost_behind (defining_sign what) (BehaviourPhrase text enabling limit) r between rest n e i l)
+      (lost_preceded (defining_sign what) (BehaviourPhrase text enabling limit) r between rest n e i l)
 
   -- if the inner definitions after the body fail, so does the definition
   pub lost_inner : (found limit : NestingLimit) (ts r q rest : List Token) (heading : HeaderValue) (x : BehaviourView) →
@@ -99,26 +99,26 @@ module _ (text : List ℕ) (what : DefinitionKind) where
       found limit firm_open ts p rest (make_definition (heading, x) inner) (found_open found ts r q p heading x inner f g h) l
 
   -- an error inside the behaviour is an error of the definition
-  pub carries_behaviour : (room : ℕ) (ts r between : List Token) (n : Token) (heading : HeaderValue) →
+  pub carries_behaviour : (nesting_left : ℕ) (ts r between : List Token) (n : Token) (heading : HeaderValue) →
       Parses (HeaderPhrase text) ts heading r →
       r ≡ n ∷ between → IsOfKind n (defining_sign what) →
-      Carries (BehaviourPhrase text enabling) room between (DefinitionRest text what) room ts
-  carries_behaviour room ts r between n heading f e i = record {
+      Carries (BehaviourPhrase text enabling) nesting_left between (DefinitionRest text what) nesting_left ts
+  carries_behaviour nesting_left ts r between n heading f e i = record {
     free = λ rest l. lost_behaviour None ts r between rest n heading f e i l;
-    limited = λ rest l. lost_behaviour (Some room) ts r between rest n heading f e i l;
+    limited = λ rest l. lost_behaviour (Some nesting_left) ts r between rest n heading f e i l;
     before = f.front ++ n ∷ [];
     joined = f.joined ∙ ap (λ m. f.front ++ m) e ∙ sym (append_assoc f.front (n ∷ []) between);
     crowds = omega arith;
   }
 
   -- so is one inside the inner definitions
-  pub carries_inner : (room : ℕ) (ts r q : List Token) (heading : HeaderValue) (x : BehaviourView) → Parses (HeaderPhrase text) ts heading r →
-      Parses (BodyPhrase text what (Some room)) r x q → Carries (WherePhrase text) room q (DefinitionRest text what) room ts
-  carries_inner room ts r q heading x f g =
-      let h = found_outer (Some room) ts r q heading x f g in
+  pub carries_inner : (nesting_left : ℕ) (ts r q : List Token) (heading : HeaderValue) (x : BehaviourView) → Parses (HeaderPhrase text) ts heading r →
+      Parses (BodyPhrase text what (Some nesting_left)) r x q → Carries (WherePhrase text) nesting_left q (DefinitionRest text what) nesting_left ts
+  carries_inner nesting_left ts r q heading x f g =
+      let h = found_outer (Some nesting_left) ts r q heading x f g in
       record {
-        free = λ rest l. lost_inner (Some room) None ts r q rest heading x f g l;
-        limited = λ rest l. lost_inner (Some room) (Some room) ts r q rest heading x f g l;
+        free = λ rest l. lost_inner (Some nesting_left) None ts r q rest heading x f g l;
+        limited = λ rest l. lost_inner (Some nesting_left) (Some nesting_left) ts r q rest heading x f g l;
         before = h.front;
         joined = h.joined;
         crowds = omega arith;

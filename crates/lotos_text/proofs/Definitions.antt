@@ -5,18 +5,18 @@ use Rattle.lotos_text.specs.AstView.{BehaviourView, DefinitionView, DefinitionLi
 use Rattle.lotos_text.specs.Grammar.{IsOfKind, located_name, GateList, IsFunctionality, enabling, DefinitionKind, a_specification, a_process, opening_word, defining_sign, closing_word, SpellsDefinition, definition, SpellsWhere, nothing, definitions, SpellsDefinitions, last, another, SpellsSpecification}
 use Rattle.lotos_text.specs.Follow.{kind_precedence, precedence}
 use Rattle.lotos_text.specs.ParserContracts.{Phrase, NestingLimit, IsNestingWithin, DoesNotStartWith}
-use Rattle.lotos_text.specs.Phrases.{Sequence, BehaviourPhrase, OneFunctionality, HeaderValue, HeaderPhrase, BodyPhrase, DefinitionList, WherePhrase, no_inner, some_inner, make_definition, DefinitionRest, ProcessDefinition}
+use Rattle.lotos_text.specs.Phrases.{Sequence, BehaviourPhrase, OneFunctionality, HeaderValue, HeaderPhrase, BodyPhrase, DefinitionList, WherePhrase, no_inner, some_inner, make_definition, DefinitionRest, CompleteDefinition}
 use Rattle.lotos_text.specs.declared.token.Token.{Token}
 use Rattle.lotos_text.specs.declared.token.TokenKind.TheVariants.{Identifier, Reserved, Sign}
 use Rattle.lotos_text.specs.declared.token.Word.TheVariants as w
 use Rattle.lotos_text.specs.declared.token.Sign.TheVariants as s
 use Rattle.lotos_text.specs.declared.ast.Functionality.{Functionality}
 use Rattle.lotos_text.specs.declared.ast.Placed.{Placed}
-use Rattle.lotos_text.proofs.PhraseUniqueness.{FirmWithin, firm_always, firm_then_within, firm_behind_within, firm_before_within, firm_expression, firm_header}
+use Rattle.lotos_text.proofs.PhraseUniqueness.{FirmWithin, firm_always, firm_then_within, firm_preceded_within, firm_before_within, firm_expression, firm_header}
 use Rattle.lotos_text.proofs.FirstToken.{head_same, tail_same, not_first, is_first, starts_not}
 use Rattle.lotos_text.proofs.Levels.{rank_none, rank_is}
 use Rattle.lotos_text.proofs.NameLists.{unique_gates}
-use Rattle.lotos_text.proofs.OneToken.{same_functionality, behind as behind_token, uncover}
+use Rattle.lotos_text.proofs.OneToken.{same_functionality, remainder as after_token, uncover}
 use Rattle.lotos_text.proofs.GrammarUnique.{unique}
 
 -- four lists before a fifth
@@ -60,21 +60,21 @@ pub record SameNested {A : Type 0} (a b : List Token) (n m : ℕ) (x y : A) (r q
 
 module _ (text : List ℕ) where
   -- no operator follows the body of a definition
-  rest_rank : {m : ℕ} {own : List Token} {inner : DefinitionListView} (behind : List Token) → SpellsWhere text m own inner → precedence behind ≡ 0 →
-      precedence (own ++ behind) ≡ 0
-  rest_rank behind nothing e = e
-  rest_rank behind (definitions i d) e = ap kind_precedence i.same
+  rest_rank : {m : ℕ} {own : List Token} {inner : DefinitionListView} (remainder : List Token) → SpellsWhere text m own inner → precedence remainder ≡ 0 →
+      precedence (own ++ remainder) ≡ 0
+  rest_rank remainder nothing e = e
+  rest_rank remainder (definitions i d) e = ap kind_precedence i.same
 
   -- a definition of a process begins with that word
-  process_first : {n : ℕ} {own : List Token} {d : DefinitionView} (behind : List Token) → SpellsDefinition text a_process n own d →
-      DoesNotStartWith (Reserved w.ProcessWord) (own ++ behind) → ⊥
-  process_first behind (definition i j g c f k s l e) h = h i
+  process_first : {n : ℕ} {own : List Token} {d : DefinitionView} (remainder : List Token) → SpellsDefinition text a_process n own d →
+      DoesNotStartWith (Reserved w.ProcessWord) (own ++ remainder) → ⊥
+  process_first remainder (definition i j g c f k s l e) h = h i
 
-  several_first : {n : ℕ} {own : List Token} {ds : DefinitionListView} (behind : List Token) → SpellsDefinitions text n own ds →
-      DoesNotStartWith (Reserved w.ProcessWord) (own ++ behind) → ⊥
-  several_first behind (last d) h = process_first behind d h
-  several_first behind (another {first = first} {others = others} d ds) h =
-      process_first (others ++ behind) d (subst (λ m. DoesNotStartWith (Reserved w.ProcessWord) m) (append_assoc first others behind) h)
+  several_first : {n : ℕ} {own : List Token} {ds : DefinitionListView} (remainder : List Token) → SpellsDefinitions text n own ds →
+      DoesNotStartWith (Reserved w.ProcessWord) (own ++ remainder) → ⊥
+  several_first remainder (last d) h = process_first remainder d h
+  several_first remainder (another {first = first} {others = others} d ds) h =
+      process_first (others ++ remainder) d (subst (λ m. DoesNotStartWith (Reserved w.ProcessWord) m) (append_assoc first others remainder) h)
 
   mutual
     -- one list begins with one definition
@@ -157,8 +157,8 @@ module _ (text : List ℕ) where
   abbrev Headed : DefinitionKind → NestingLimit → Phrase (HeaderValue × BehaviourView)
   Headed what limit = Sequence (λ heading body. (heading, body)) (HeaderPhrase text) (BodyPhrase text what limit)
 
-  abbrev Told : DefinitionKind → NestingLimit → Phrase DefinitionView
-  Told what limit = Sequence make_definition (Headed what limit) (WherePhrase text limit)
+  abbrev HeaderBodyWhere : DefinitionKind → NestingLimit → Phrase DefinitionView
+  HeaderBodyWhere what limit = Sequence make_definition (Headed what limit) (WherePhrase text limit)
 
   -- a list of definitions is unique
   pub firm_row : FirmWithin (DefinitionList text)
@@ -180,18 +180,18 @@ module _ (text : List ℕ) where
   firm_headed : (what : DefinitionKind) → FirmWithin (Headed what)
   firm_headed what = firm_then_within (λ heading body. (heading, body)) (λ _. HeaderPhrase text) (BodyPhrase text what)
       (firm_always (HeaderPhrase text) (firm_header text))
-      (firm_behind_within (defining_sign what) (BehaviourPhrase text enabling) (firm_expression text enabling))
+      (firm_preceded_within (defining_sign what) (BehaviourPhrase text enabling) (firm_expression text enabling))
 
-  firm_told : (what : DefinitionKind) → FirmWithin (Told what)
-  firm_told what = firm_then_within make_definition (Headed what) (WherePhrase text) (firm_headed what) firm_inner
+  firm_header_body_where : (what : DefinitionKind) → FirmWithin (HeaderBodyWhere what)
+  firm_header_body_where what = firm_then_within make_definition (Headed what) (WherePhrase text) (firm_headed what) firm_inner
 
   -- so is what follows the first keyword of a definition
   pub firm_contents : (what : DefinitionKind) → FirmWithin (DefinitionRest text what)
-  firm_contents what = firm_before_within (Told what) (closing_word what) (firm_told what)
+  firm_contents what = firm_before_within (HeaderBodyWhere what) (closing_word what) (firm_header_body_where what)
 
   -- so is a definition
-  pub firm_definition : (what : DefinitionKind) → FirmWithin (ProcessDefinition text what)
-  firm_definition what = firm_behind_within (opening_word what) (DefinitionRest text what) (firm_contents what)
+  pub firm_definition : (what : DefinitionKind) → FirmWithin (CompleteDefinition text what)
+  firm_definition what = firm_preceded_within (opening_word what) (DefinitionRest text what) (firm_contents what)
 
   -- headers as parts
 
@@ -211,9 +211,9 @@ module _ (text : List ℕ) where
     pub same : said ≡ (located_name text name, formals, func)
 
   as_header : {name colon returns : Token} {gates : List Token} {formals : List Placed} {func : Functionality}
-      (behind : List Token) → IsOfKind name Identifier → GateList text gates formals → IsOfKind colon (Sign s.Colon) → IsFunctionality returns func →
-      HeaderPhrase text ((name ∷ gates) ++ colon ∷ returns ∷ []) (located_name text name, formals, func) behind
-  as_header {name} {colon} {returns} {gates} {formals} {func} behind i g j d = record {
+      (remainder : List Token) → IsOfKind name Identifier → GateList text gates formals → IsOfKind colon (Sign s.Colon) → IsFunctionality returns func →
+      HeaderPhrase text ((name ∷ gates) ++ colon ∷ returns ∷ []) (located_name text name, formals, func) remainder
+  as_header {name} {colon} {returns} {gates} {formals} {func} remainder i g j d = record {
     front = name ∷ gates;
     back = colon ∷ returns ∷ [];
     one = (located_name text name, formals);
@@ -229,14 +229,14 @@ module _ (text : List ℕ) where
       second = record { gates = g; quits = λ _. is_first j (λ e. cc) };
       same = refl;
     };
-    second = behind_token _ OneFunctionality colon (returns ∷ []) behind func j (record { token = returns; joined = refl; declares = d });
+    second = after_token _ OneFunctionality colon (returns ∷ []) remainder func j (record { token = returns; joined = refl; declares = d });
     same = refl;
   }
 
-  from_header : (own behind : List Token) (said : HeaderValue) → HeaderPhrase text own said behind → HeaderTokens own said
-  from_header own behind said h =
+  from_header : (own remainder : List Token) (said : HeaderValue) → HeaderPhrase text own said remainder → HeaderTokens own said
+  from_header own remainder said h =
       let f = h.first in
-      let returns = uncover _ OneFunctionality h.back behind h.other h.second in
+      let returns = uncover _ OneFunctionality h.back remainder h.other h.second in
       record {
         name = f.first.token;
         gates = f.back;
@@ -256,35 +256,35 @@ module _ (text : List ℕ) where
 
   -- inner definitions as parts
 
-  as_inner : {m : ℕ} {own : List Token} {ds : DefinitionListView} (limit : NestingLimit) (behind : List Token) → SpellsWhere text m own ds → IsNestingWithin limit m →
-      DoesNotStartWith (Reserved w.WhereWord) behind → DoesNotStartWith (Reserved w.ProcessWord) behind → WherePhrase text limit own ds behind
-  as_inner limit behind nothing h row one = no_inner row
-  as_inner limit behind (definitions {n = n} i d) h row one =
+  as_inner : {m : ℕ} {own : List Token} {ds : DefinitionListView} (limit : NestingLimit) (remainder : List Token) → SpellsWhere text m own ds → IsNestingWithin limit m →
+      DoesNotStartWith (Reserved w.WhereWord) remainder → DoesNotStartWith (Reserved w.ProcessWord) remainder → WherePhrase text limit own ds remainder
+  as_inner limit remainder nothing h row one = no_inner row
+  as_inner limit remainder (definitions {n = n} i d) h row one =
       some_inner i (record { nesting = n; several = d; ends = one; within = h })
 
-  from_inner : (limit : NestingLimit) (own behind : List Token) (ds : DefinitionListView) → WherePhrase text limit own ds behind →
+  from_inner : (limit : NestingLimit) (own remainder : List Token) (ds : DefinitionListView) → WherePhrase text limit own ds remainder →
       (n : ℕ) × SpellsWhere text n own ds × IsNestingWithin limit n
-  from_inner None _ behind _ (no_inner h) = (0, nothing, tt)
-  from_inner (Some limit) _ behind _ (no_inner h) = (0, nothing, omega arith)
-  from_inner limit _ behind _ (some_inner i r) = (r.nesting, definitions i r.several, r.within)
+  from_inner None _ remainder _ (no_inner h) = (0, nothing, tt)
+  from_inner (Some limit) _ remainder _ (no_inner h) = (0, nothing, omega arith)
+  from_inner limit _ remainder _ (some_inner i r) = (r.nesting, definitions i r.several, r.within)
 
   -- definitions as parts
 
   -- a definition whose nesting is within the limit is the part
-  pub as_definition : {what : DefinitionKind} {n : ℕ} {own : List Token} {d : DefinitionView} (limit : NestingLimit) (behind : List Token) →
-      SpellsDefinition text what n own d → IsNestingWithin limit n → ProcessDefinition text what limit own d behind
-  as_definition {what} limit behind
+  pub as_definition : {what : DefinitionKind} {n : ℕ} {own : List Token} {d : DefinitionView} (limit : NestingLimit) (remainder : List Token) →
+      SpellsDefinition text what n own d → IsNestingWithin limit n → CompleteDefinition text what limit own d remainder
+  as_definition {what} limit remainder
       (definition {word = word} {name = name} {colon = colon} {returns = returns} {define = define} {end = end} {gates = gates}
       {body = body} {rest = rest} {formals = formals} {func = func} {o = o} {n = n} {m = m} {x = x} {inner = inner}
       i j g c f k spells ds z) h =
-      let after : List Token = end ∷ behind in
+      let after : List Token = end ∷ remainder in
       let header = (name ∷ gates) ++ colon ∷ returns ∷ [] in
       let heading : HeaderValue = (located_name text name, formals, func) in
       let expression : BehaviourPhrase text enabling limit body x (rest ++ after) = record {
         ends = o;
         nesting = n;
         spells = spells;
-        quits = rank_none enabling o (rest ++ after) (rest_rank after ds (rank_is behind z ∙ closing_rank what));
+        quits = rank_none enabling o (rest ++ after) (rest_rank after ds (rank_is remainder z ∙ closing_rank what));
         within = within_first limit n m h;
       } in
       let headed : Headed what limit ((name ∷ gates) ++ colon ∷ returns ∷ define ∷ body) (heading, x) (rest ++ after) = record {
@@ -294,10 +294,10 @@ module _ (text : List ℕ) where
         other = x;
         joined = sym (append_assoc (name ∷ gates) (colon ∷ returns ∷ []) (define ∷ body));
         first = as_header (define ∷ (body ++ (rest ++ after))) j g c f;
-        second = behind_token _ (BehaviourPhrase text enabling limit) define body (rest ++ after) x k expression;
+        second = after_token _ (BehaviourPhrase text enabling limit) define body (rest ++ after) x k expression;
         same = refl;
       } in
-      let told : Told what limit ((name ∷ gates) ++ (colon ∷ returns ∷ define ∷ body) ++ rest)
+      let parts : HeaderBodyWhere what limit ((name ∷ gates) ++ (colon ∷ returns ∷ define ∷ body) ++ rest)
       (make_definition (heading, x) inner) after =
       record {
         front = (name ∷ gates) ++ colon ∷ returns ∷ define ∷ body;
@@ -310,46 +310,46 @@ module _ (text : List ℕ) where
             (is_first z (closing_one what));
         same = refl;
       } in
-      behind_token (opening_word what) (DefinitionRest text what limit) word
-      ((name ∷ gates) ++ (colon ∷ returns ∷ define ∷ body) ++ rest ++ end ∷ []) behind _ i
+      after_token (opening_word what) (DefinitionRest text what limit) word
+      ((name ∷ gates) ++ (colon ∷ returns ∷ define ∷ body) ++ rest ++ end ∷ []) remainder _ i
       (record {
         front = (name ∷ gates) ++ (colon ∷ returns ∷ define ∷ body) ++ rest;
         back = end ∷ [];
         one = make_definition (heading, x) inner;
         other = end;
         joined = refl;
-        first = told;
+        first = parts;
         second = record { joined = refl; is = z };
         same = refl;
       })
 
   -- the part is a definition whose nesting is within the limit
-  pub from_definition : {what : DefinitionKind} (limit : NestingLimit) (own behind : List Token) (d : DefinitionView) →
-      ProcessDefinition text what limit own d behind → (n : ℕ) × SpellsDefinition text what n own d × IsNestingWithin limit n
-  from_definition {what} limit own behind d w =
-      let whole = uncover (opening_word what) (DefinitionRest text what limit) own behind d w in
+  pub from_definition : {what : DefinitionKind} (limit : NestingLimit) (own remainder : List Token) (d : DefinitionView) →
+      CompleteDefinition text what limit own d remainder → (n : ℕ) × SpellsDefinition text what n own d × IsNestingWithin limit n
+  from_definition {what} limit own remainder d w =
+      let whole = uncover (opening_word what) (DefinitionRest text what limit) own remainder d w in
       let c = whole.within in
-      let told = c.first in
-      let f = told.first in
+      let parts = c.first in
+      let f = parts.first in
       let header = from_header f.front _ f.one f.first in
       let body = uncover _ (BehaviourPhrase text enabling limit) f.back _ f.other f.second in
-      let inner = from_inner limit told.back _ told.other told.second in
+      let inner = from_inner limit parts.back _ parts.other parts.second in
       let gates = header.name ∷ header.gates in
       let mid : List Token = header.colon ∷ header.returns ∷ body.token ∷ body.inner in
-      let headed : told.front ≡ gates ++ mid =
+      let headed : parts.front ≡ gates ++ mid =
       f.joined ∙ ap (λ m. m ++ f.back) header.tokens
       ∙ ap (λ m. (gates ++ header.colon ∷ header.returns ∷ []) ++ m) body.joined
       ∙ append_assoc gates (header.colon ∷ header.returns ∷ []) (body.token ∷ body.inner) in
-      let tokens : own ≡ (whole.token ∷ gates) ++ mid ++ told.back ++ c.other ∷ [] =
+      let tokens : own ≡ (whole.token ∷ gates) ++ mid ++ parts.back ++ c.other ∷ [] =
       whole.joined ∙ ap (λ m. whole.token ∷ m)
-      (c.joined ∙ ap (λ m. m ++ c.back) (told.joined ∙ ap (λ m. m ++ told.back) headed)
-      ∙ ap (λ m. ((gates ++ mid) ++ told.back) ++ m) c.second.joined) in
-      let says : d ≡ make_definition ((located_name text header.name, header.formals, header.func), f.other) told.other =
-      c.same ∙ told.same ∙ ap (λ m. make_definition m told.other) (f.same ∙ ap (λ m. (m, f.other)) header.same) in (
+      (c.joined ∙ ap (λ m. m ++ c.back) (parts.joined ∙ ap (λ m. m ++ parts.back) headed)
+      ∙ ap (λ m. ((gates ++ mid) ++ parts.back) ++ m) c.second.joined) in
+      let same_value : d ≡ make_definition ((located_name text header.name, header.formals, header.func), f.other) parts.other =
+      c.same ∙ parts.same ∙ ap (λ m. make_definition m parts.other) (f.same ∙ ap (λ m. (m, f.other)) header.same) in (
         max body.within.nesting inner.0,
         subst (λ m. SpellsDefinition text what (max body.within.nesting inner.0) m d) (sym tokens)
             (subst (λ m. SpellsDefinition text what (max body.within.nesting inner.0)
-            ((whole.token ∷ gates) ++ mid ++ told.back ++ c.other ∷ []) m) (sym says)
+            ((whole.token ∷ gates) ++ mid ++ parts.back ++ c.other ∷ []) m) (sym same_value)
             (definition whole.is header.names header.listed header.separates header.declares body.is body.within.spells
             inner.1 c.second.is)),
         within_both limit body.within.nesting inner.0 body.within.within inner.2,

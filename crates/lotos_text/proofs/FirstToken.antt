@@ -47,9 +47,9 @@ starts_rank [] more st = ap precedence st
 starts_rank (n ∷ ns) more st = ap precedence st.1
 
 -- after the same tokens it still starts alike
-pub starts_behind : (front rest more : List Token) → StartsAlike rest more → StartsAlike (front ++ rest) (front ++ more)
-starts_behind [] rest more st = st
-starts_behind (n ∷ front) rest more st = (front ++ more, refl)
+pub starts_after : (front rest more : List Token) → StartsAlike rest more → StartsAlike (front ++ rest) (front ++ more)
+starts_after [] rest more st = st
+starts_after (n ∷ front) rest more st = (front ++ more, refl)
 
 -- each list starts as itself
 pub starts_same : (ts : List Token) → StartsAlike ts ts

@@ -14,7 +14,7 @@ use Rattle.lotos_text.proofs.FirstToken.{is_first}
 use Rattle.lotos_text.proofs.Levels.{rank_open}
 use Rattle.lotos_text.proofs.Limits.{inside, within_inside, opens_is, opens_among, crowded_here}
 use Rattle.lotos_text.proofs.NameLists.{firm_names}
-use Rattle.lotos_text.proofs.OneToken.{found_behind, lost_behind, firm_behind, found_before, lost_unclosed, lost_within, firm_before}
+use Rattle.lotos_text.proofs.OneToken.{found_preceded, lost_preceded, firm_preceded, found_before, lost_unclosed, lost_within, firm_before}
 use Rattle.lotos_text.proofs.Operands.{taken_hide}
 use Rattle.lotos_text.proofs.Sequences.{Firm, lost_as, between, as_between, found_then, lost_first, lost_second}
 use Rattle.lotos_text.proofs.ParseErrors.{Carries}
@@ -41,12 +41,12 @@ module _ (text : List ℕ) where
   HideForm limit = Sequence t.hide Hiding (BehaviourPhrase text enabling limit)
 
   firm_hiding : Firm Hiding
-  firm_hiding = firm_before Opened _ (firm_behind _ (NameList text) (firm_names text))
+  firm_hiding = firm_before Opened _ (firm_preceded _ (NameList text) (firm_names text))
 
-  found_form : (l : Level) (room : ℕ) (ts rest : List Token) (x : BehaviourView) → 0 < room →
-      Parses (HideForm (Some (room - 1))) ts x rest →
-      Parses (BehaviourPhrase text l (Some room)) ts x rest
-  found_form l room ts rest x h f =
+  found_form : (l : Level) (nesting_left : ℕ) (ts rest : List Token) (x : BehaviourView) → 0 < nesting_left →
+      Parses (HideForm (Some (nesting_left - 1))) ts x rest →
+      Parses (BehaviourPhrase text l (Some nesting_left)) ts x rest
+  found_form l nesting_left ts rest x h f =
       let p = f.whole in
       let b = between _ _ (NameList text) p.front (p.back ++ rest) p.one p.first in
       let own : f.front ≡ b.left ∷ b.inner ++ b.right ∷ p.back =
@@ -68,8 +68,8 @@ module _ (text : List ℕ) where
   lost_form : (l : Level) (limit : NestingLimit) (n : Token) (ts rest : List Token) → IsOfKind n (Reserved w.HideWord) →
       Fails (HideForm (inside limit)) (n ∷ ts) rest → Fails (BehaviourPhrase text l limit) (n ∷ ts) rest
   lost_form l limit n ts rest i lost = lost_as (BehaviourPhrase text l limit) (HideForm (inside limit)) n (n ∷ ts) ts rest refl
-      (λ own behind more x e p.
-      let b = taken_hide text behind more i p.spells e in (
+      (λ own remainder more x e p.
+      let b = taken_hide text remainder more i p.spells e in (
         x,
         record {
           front = n ∷ b.listed ++ b.word ∷ [];
@@ -77,13 +77,13 @@ module _ (text : List ℕ) where
           one = b.names;
           other = b.after;
           joined = b.tokens ∙ ap (λ m. n ∷ m) (sym (append_assoc b.listed (b.word ∷ []) b.body));
-          first = as_between _ _ (NameList text) n b.word b.listed (b.body ++ behind) b.names i
+          first = as_between _ _ (NameList text) n b.word b.listed (b.body ++ remainder) b.names i
               (record { names = b.gates; quits = is_first b.enters (λ e. cc) }) b.enters;
           second = record {
             ends = b.within;
             nesting = b.depth;
             spells = b.spells;
-            quits = rank_open l enabling b.within p.ends behind b.extends p.quits;
+            quits = rank_open l enabling b.within p.ends remainder b.extends p.quits;
             within = within_inside limit b.depth p.nesting b.nesting p.within;
           };
           same = b.tree;
@@ -93,7 +93,7 @@ module _ (text : List ℕ) where
 
   opened : (n : Token) (ts between : List Token) (names : List Placed) → IsOfKind n (Reserved w.HideWord) →
       Parses (NameList text) ts names between → Parses Opened (n ∷ ts) names between
-  opened n ts between names i f = found_behind _ (NameList text) (n ∷ ts) ts between n names refl i f
+  opened n ts between names i f = found_preceded _ (NameList text) (n ∷ ts) ts between n names refl i f
 
   hiding : (n word : Token) (ts between after : List Token) (names : List Placed) → IsOfKind n (Reserved w.HideWord) →
       Parses (NameList text) ts names between → between ≡ word ∷ after → IsOfKind word (Reserved w.InWord) →
@@ -102,14 +102,14 @@ module _ (text : List ℕ) where
       (opened n ts between names i f) e j
 
   -- names, `in` and a behaviour expression are a hide form of each level
-  pub found_hidden : (l : Level) (room : ℕ) (n word : Token) (ts between after rest : List Token)
+  pub found_hidden : (l : Level) (nesting_left : ℕ) (n word : Token) (ts between after rest : List Token)
       (names : List Placed) (x z : BehaviourView) →
-      0 < room → IsOfKind n (Reserved w.HideWord) → Parses (NameList text) ts names between → between ≡ word ∷ after →
-      IsOfKind word (Reserved w.InWord) → Parses (BehaviourPhrase text enabling (Some (room - 1))) after x rest → z ≡ t.hide names x →
-      Parses (BehaviourPhrase text l (Some room)) (n ∷ ts) z rest
-  found_hidden l room n word ts between after rest names x z h i f e j g k =
-      found_form l room (n ∷ ts) rest z h
-      (found_then t.hide Hiding (BehaviourPhrase text enabling (Some (room - 1))) (n ∷ ts) after rest names x z
+      0 < nesting_left → IsOfKind n (Reserved w.HideWord) → Parses (NameList text) ts names between → between ≡ word ∷ after →
+      IsOfKind word (Reserved w.InWord) → Parses (BehaviourPhrase text enabling (Some (nesting_left - 1))) after x rest → z ≡ t.hide names x →
+      Parses (BehaviourPhrase text l (Some nesting_left)) (n ∷ ts) z rest
+  found_hidden l nesting_left n word ts between after rest names x z h i f e j g k =
+      found_form l nesting_left (n ∷ ts) rest z h
+      (found_then t.hide Hiding (BehaviourPhrase text enabling (Some (nesting_left - 1))) (n ∷ ts) after rest names x z
       (hiding n word ts between after names i f e j) g k)
 
   -- if the names fail, so does the hide form
@@ -117,7 +117,7 @@ module _ (text : List ℕ) where
       Fails (BehaviourPhrase text l None) (n ∷ ts) rest
   lost_hidden l n ts rest i lost =
       lost_form l None n ts rest i (lost_first t.hide Hiding (BehaviourPhrase text enabling None) (n ∷ ts) rest
-      (lost_within Opened _ (n ∷ ts) rest (lost_behind _ (NameList text) (n ∷ ts) ts rest n refl i lost)))
+      (lost_within Opened _ (n ∷ ts) rest (lost_preceded _ (NameList text) (n ∷ ts) ts rest n refl i lost)))
 
   -- if `in` fails, so does the hide form
   pub lost_unentered : (l : Level) (n : Token) (ts between rest : List Token) (names : List Placed) → IsOfKind n (Reserved w.HideWord) →
@@ -125,7 +125,7 @@ module _ (text : List ℕ) where
       Fails (BehaviourPhrase text l None) (n ∷ ts) rest
   lost_unentered l n ts between rest names i f lost =
       lost_form l None n ts rest i (lost_first t.hide Hiding (BehaviourPhrase text enabling None) (n ∷ ts) rest
-      (lost_unclosed Opened _ (firm_behind _ (NameList text) (firm_names text)) (n ∷ ts) between rest names
+      (lost_unclosed Opened _ (firm_preceded _ (NameList text) (firm_names text)) (n ∷ ts) between rest names
       (opened n ts between names i f) lost))
 
   lost_body : (l : Level) (limit : NestingLimit) (n word : Token) (ts between after rest : List Token) (names : List Placed) →
@@ -136,29 +136,29 @@ module _ (text : List ℕ) where
       (lost_second t.hide Hiding (BehaviourPhrase text enabling (inside limit)) firm_hiding (n ∷ ts) after rest names (hiding n word ts between after names i f e j) lost)
 
   -- if the behaviour expression fails, so does the hide form
-  pub carries_hidden : (l : Level) (room : ℕ) (n word : Token) (ts between after : List Token) (names : List Placed) →
+  pub carries_hidden : (l : Level) (nesting_left : ℕ) (n word : Token) (ts between after : List Token) (names : List Placed) →
       IsOfKind n (Reserved w.HideWord) → Parses (NameList text) ts names between → between ≡ word ∷ after → IsOfKind word (Reserved w.InWord) →
-      Carries (BehaviourPhrase text enabling) (room - 1) after (BehaviourPhrase text l) room (n ∷ ts)
-  carries_hidden l room n word ts between after names i f e j = record {
+      Carries (BehaviourPhrase text enabling) (nesting_left - 1) after (BehaviourPhrase text l) nesting_left (n ∷ ts)
+  carries_hidden l nesting_left n word ts between after names i f e j = record {
     free = λ rest. lost_body l None n word ts between after rest names i f e j;
-    limited = λ rest. lost_body l (Some room) n word ts between after rest names i f e j;
+    limited = λ rest. lost_body l (Some nesting_left) n word ts between after rest names i f e j;
     before = n ∷ f.front ++ word ∷ [];
     joined = ap (λ m. n ∷ m) (f.joined ∙ ap (λ m. f.front ++ m) e ∙ sym (append_assoc f.front (word ∷ []) after));
     crowds = (let h = opens_among [] (f.front ++ word ∷ []) n (opens_is i refl) in omega (arith, h));
   }
 
   -- with no nesting left, `hide` is too deep
-  pub deep_hide : (l : Level) (room : ℕ) (n : Token) (ts : List Token) → room ≡ 0 → IsOfKind n (Reserved w.HideWord) →
-      IsTooDeepAt (BehaviourPhrase text l) room (n ∷ ts) n
-  deep_hide l room n ts h i = record {
+  pub deep_hide : (l : Level) (nesting_left : ℕ) (n : Token) (ts : List Token) → nesting_left ≡ 0 → IsOfKind n (Reserved w.HideWord) →
+      IsTooDeepAt (BehaviourPhrase text l) nesting_left (n ∷ ts) n
+  deep_hide l nesting_left n ts h i = record {
     after = ts;
     fails = record {
       front = [];
       joined = refl;
-      never = λ more own behind x st e p.
-          let b = taken_hide text behind st.0 i p.spells (sym e ∙ st.1) in
+      never = λ more own remainder x st e p.
+          let b = taken_hide text remainder st.0 i p.spells (sym e ∙ st.1) in
           let j = b.nesting in let k = p.within in absurd (omega (arith, h, j, k));
     };
-    too_many_open = crowded_here (n ∷ ts) [] ts n room refl h (opens_is i refl);
+    too_many_open = crowded_here (n ∷ ts) [] ts n nesting_left refl h (opens_is i refl);
     opens = opens_is i refl;
   }

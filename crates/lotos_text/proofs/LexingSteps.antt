@@ -14,8 +14,8 @@ use Rattle.lotos_text.specs.declared.token.TokenKind.{TokenKind}
 use Rattle.lotos_text.proofs.Comments.{rest_of, rest_is, comment_some}
 
 -- after the bytes at an offset the rest follows, and the text is at least as long as they reach
-pub behind : (text : List ℕ) (at : ℕ) (found rest : List ℕ) → drop at text ≡ found ++ rest → drop (at + length found) text ≡ rest
-behind text at found rest e = sym (drop-drop (length found) at text) ∙ ap (drop (length found)) e ∙ drop-append_seam found rest
+pub remainder : (text : List ℕ) (at : ℕ) (found rest : List ℕ) → drop at text ≡ found ++ rest → drop (at + length found) text ≡ rest
+remainder text at found rest e = sym (drop-drop (length found) at text) ∙ ap (drop (length found)) e ∙ drop-append_seam found rest
 
 pub fits : (text : List ℕ) (at : ℕ) (found rest : List ℕ) → at ≤ length text → drop at text ≡ found ++ rest → at + length found ≤ length text
 fits text at found rest h e = omega (arith, ap length e, length-drop at text, length-append found rest)
@@ -32,22 +32,22 @@ join (sign_token sign i c) d = sign_token sign i (join c d)
 cut_blank : (text : List ℕ) (at : ℕ) → IsNextLexeme (drop at text) Blank → LexesTo at (drop at text) [] (at + 1) (drop (at + 1) text)
 cut_blank text at (a_blank b rest e i) =
     let C : List ℕ → List ℕ → Type 0 = λ t r. LexesTo at t [] (at + 1) r in
-    subst (λ t. C t (drop (at + 1) text)) (sym e) (subst (λ r. C (b ∷ rest) r) (sym (behind text at (b ∷ []) rest e)) (blank i nothing))
+    subst (λ t. C t (drop (at + 1) text)) (sym e) (subst (λ r. C (b ∷ rest) r) (sym (remainder text at (b ∷ []) rest e)) (blank i nothing))
 
 cut_comment : (text : List ℕ) (at n : ℕ) → IsNextLexeme (drop at text) (Comment n) → LexesTo at (drop at text) [] (at + n) (drop (at + n) text)
 cut_comment text at n (a_comment piece rest e i) =
     let C : List ℕ → List ℕ → Type 0 = λ t r. LexesTo at t [] (at + n) r in
     subst (λ t. C t (drop (at + n) text)) (sym e)
-    (subst (λ r. C (piece ++ rest) r) (sym (behind text at piece rest e)) (comment piece i nothing))
+    (subst (λ r. C (piece ++ rest) r) (sym (remainder text at piece rest e)) (comment piece i nothing))
 
 cut_token : (text : List ℕ) (at n : ℕ) (kind : TokenKind) → IsNextLexeme (drop at text) (a_token n kind) →
     LexesTo at (drop at text) (token at n kind ∷ []) (at + n) (drop (at + n) text)
 cut_token text at n kind (a_word found rest e i f) =
     let C : List ℕ → List ℕ → Type 0 = λ t r. LexesTo at t (token at n kind ∷ []) (at + n) r in
-    subst (λ t. C t (drop (at + n) text)) (sym e) (subst (λ r. C (found ++ rest) r) (sym (behind text at found rest e)) (word found i f nothing))
+    subst (λ t. C t (drop (at + n) text)) (sym e) (subst (λ r. C (found ++ rest) r) (sym (remainder text at found rest e)) (word found i f nothing))
 cut_token text at n kind (a_sign sign rest e i) =
     let C : List ℕ → List ℕ → Type 0 = λ t r. LexesTo at t (token at n kind ∷ []) (at + n) r in
-    subst (λ t. C t (drop (at + n) text)) (sym e) (subst (λ r. C (sign_text sign ++ rest) r) (sym (behind text at (sign_text sign) rest e)) (sign_token sign i nothing))
+    subst (λ t. C t (drop (at + n) text)) (sym e) (subst (λ r. C (sign_text sign ++ rest) r) (sym (remainder text at (sign_text sign) rest e)) (sign_token sign i nothing))
 
 -- a word and a sign have a byte at least
 word_some : (found : List ℕ) → IsWord found → 0 < length found
@@ -130,7 +130,7 @@ stuck_at_byte text at found r f = here (front_at text at Unknown f)
   where
     here : IsNextLexeme (drop at text) Unknown → FailsAtByte text at
     here (no_piece b rest e i) =
-        record { before = found; byte = b; rest = rest; lexes = subst (λ t. LexesTo 0 text found at t) e r.lexes; strange = i }
+        record { before = found; byte = b; rest = rest; lexes = subst (λ t. LexesTo 0 text found at t) e r.lexes; no_lexeme = i }
 
 pub stuck_at_comment : (text : List ℕ) (at : ℕ) (found : List Token) → Reached text at found → IsNextLexeme (rest_of text at) Unended →
     FailsAtComment text at

@@ -69,12 +69,12 @@ record Past (at n : ℕ) (kind : TokenKind) (text : List ℕ) (ts : List Token) 
 -- two lexings end alike
 record Alike (us ts : List Token) (fin end : ℕ) (rest last : List ℕ) : Type 0 where
   tokens : us ≡ ts
-  place : fin ≡ end
+  same_end : fin ≡ end
   left : rest ≡ last
 
 -- a lexing stays where it halts
 stays : {at end : ℕ} {text last : List ℕ} {ts : List Token} → Halts text → Next at text ts end last → Alike [] ts at end text last
-stays h (ended e g p) = record { tokens = sym g; place = p; left = e }
+stays h (ended e g p) = record { tokens = sym g; same_end = p; left = e }
 stays h (blank_first f d) = absurd (h.no_blank f)
 stays h (comment_first n f d) = absurd (h.no_comment n f)
 stays h (token_first n kind us f e d) = absurd (h.no_token n kind f)
@@ -116,9 +116,9 @@ module _ (end : ℕ) (last : List ℕ) (k : Halts last) where
       }
 
   -- one token more before both
-  behind_token : {us vs : List Token} {fin : ℕ} {rest : List ℕ} (t : Token) (ts : List Token) → ts ≡ t ∷ vs →
+  after_token : {us vs : List Token} {fin : ℕ} {rest : List ℕ} (t : Token) (ts : List Token) → ts ≡ t ∷ vs →
       Alike us vs fin end rest last → Alike (t ∷ us) ts fin end rest last
-  behind_token t ts e a = record { tokens = ap (λ l. t ∷ l) a.tokens ∙ sym e; place = a.place; left = a.left }
+  after_token t ts e a = record { tokens = ap (λ l. t ∷ l) a.tokens ∙ sym e; same_end = a.same_end; left = a.left }
 
   -- two lexings of one text that go on until they halt are equal
   alike : {at fin : ℕ} {text rest : List ℕ} {us : List Token} → Halts rest → LexesTo at text us fin rest → (ts : List Token) →
@@ -130,11 +130,11 @@ module _ (end : ℕ) (last : List ℕ) (k : Halts last) where
       alike h c ts (subst (λ t. LexesTo (at + length piece) t ts end last) (drop-append_seam piece text) past)
   alike h (word {at} found {text} i f c) ts d =
       let past = past_token (a_word found text refl i f) (next d) in
-      behind_token (token at (length found) (classify found)) ts past.begins
+      after_token (token at (length found) (classify found)) ts past.begins
       (alike h c past.more (subst (λ t. LexesTo (at + length found) t past.more end last) (drop-append_seam found text) past.lexes))
   alike h (sign_token {at} sign {text} i c) ts d =
       let past = past_token (a_sign sign text refl i) (next d) in
-      behind_token (token at (length (sign_text sign)) (of_sign sign)) ts past.begins
+      after_token (token at (length (sign_text sign)) (of_sign sign)) ts past.begins
       (alike h c past.more (subst (λ t. LexesTo (at + length (sign_text sign)) t past.more end last) (drop-append_seam (sign_text sign) text) past.lexes))
 
 -- if a text fails to lex at an offset, its lexing halts there, before the end
@@ -150,7 +150,7 @@ stuck (at_byte s) = record {
   before = s.before;
   rest = s.byte ∷ s.rest;
   lexes = s.lexes;
-  halts = halts_unknown (no_piece s.byte s.rest refl s.strange);
+  halts = halts_unknown (no_piece s.byte s.rest refl s.no_lexeme);
   more = λ e. cc;
 }
 stuck (at_comment s) = record {
@@ -166,11 +166,11 @@ pub one_cut : (text : List ℕ) (ts us : List Token) → Lexes text ts → Lexes
 one_cut text ts us c d = (alike (length text) [] halts_end halts_end c us d).tokens
 
 -- a text fails to lex at one offset at most
-pub one_place : (text : List ℕ) (at other : ℕ) → LexingFailsAt text at → LexingFailsAt text other → at ≡ other
-one_place text at other s t =
+pub one_offset : (text : List ℕ) (at other : ℕ) → LexingFailsAt text at → LexingFailsAt text other → at ≡ other
+one_offset text at other s t =
     let first = stuck s in
     let second = stuck t in
-    (alike other second.rest second.halts first.halts first.lexes second.before second.lexes).place
+    (alike other second.rest second.halts first.halts first.lexes second.before second.lexes).same_end
 
 -- a text that lexes fails at no offset
 pub sticks_uncut : (text : List ℕ) (ts : List Token) (at : ℕ) → Lexes text ts → LexingFailsAt text at → ⊥

@@ -17,7 +17,7 @@ pub mod Levels
 pub mod GrammarUnique
 pub mod PhraseUniqueness
 pub mod Definitions
-pub mod Openings
+pub mod OperandStarts
 pub mod ParseErrors
 pub mod Limits
 pub mod OperandEnds

@@ -11,22 +11,22 @@ use Rattle.lotos_text.specs.declared.token.TokenKind.{TokenKind}
 -- the limit inside one more construct
 abbrev pub inside : NestingLimit → NestingLimit
 inside None = None
-inside (Some room) = Some (room - 1)
+inside (Some nesting_left) = Some (nesting_left - 1)
 
 -- a construct within the limit leaves its inner part within the limit inside
 pub within_inside : (limit : NestingLimit) (n m : ℕ) → m ≡ n + 1 → IsNestingWithin limit m → IsNestingWithin (inside limit) n
 within_inside None n m e h = tt
-within_inside (Some room) n m e h = omega (arith, e, h)
+within_inside (Some nesting_left) n m e h = omega (arith, e, h)
 
 -- each limit allows no nesting
 pub within_none : (limit : NestingLimit) → IsNestingWithin limit 0
 within_none None = tt
-within_none (Some room) = omega arith
+within_none (Some nesting_left) = omega arith
 
 -- a limit allows what is nested less
 pub within_less : (limit : NestingLimit) (n m : ℕ) → n ≤ m → IsNestingWithin limit m → IsNestingWithin limit n
 within_less None n m e h = tt
-within_less (Some room) n m e h = omega (arith, e, h)
+within_less (Some nesting_left) n m e h = omega (arith, e, h)
 
 -- a token of a kind that opens a construct opens one
 pub opens_is : {n : Token} {k : TokenKind} → IsOfKind n k → opens_construct k ≡ true → opens_construct n.kind ≡ true
@@ -41,9 +41,9 @@ opens_among before after n h =
     omega (arith, e, f, g)
 
 -- with no nesting left, a token that opens a construct is too deep
-pub crowded_here : (ts front after : List Token) (n : Token) (room : ℕ) → ts ≡ front ++ n ∷ after → room ≡ 0 →
-    opens_construct n.kind ≡ true → HasTooManyOpen room ts n after
-crowded_here ts front after n room e h i = record {
+pub crowded_here : (ts front after : List Token) (n : Token) (nesting_left : ℕ) → ts ≡ front ++ n ∷ after → nesting_left ≡ 0 →
+    opens_construct n.kind ≡ true → HasTooManyOpen nesting_left ts n after
+crowded_here ts front after n nesting_left e h i = record {
   front = front;
   joined = e;
   many = (let k = opens_among front [] n i in omega (arith, h, k));

@@ -9,20 +9,20 @@ use Rattle.lotos_text.specs.declared.token.TokenKind.TheVariants.{Identifier, Si
 use Rattle.lotos_text.specs.declared.token.Sign.TheVariants as s
 use Rattle.lotos_text.specs.declared.ast.Placed.{Placed}
 use Rattle.lotos_text.proofs.FirstToken.{head_same, tail_same, apart, not_first, is_first, starts_not}
-use Rattle.lotos_text.proofs.OneToken.{found_behind, lost_behind, firm_behind, found_before, lost_unclosed, lost_within}
+use Rattle.lotos_text.proofs.OneToken.{found_preceded, lost_preceded, firm_preceded, found_before, lost_unclosed, lost_within}
 use Rattle.lotos_text.proofs.Sequences.{Same, Firm, lost_as, between, as_between}
 
 module _ (text : List ℕ) where
   -- a name with no comma after it is a list
-  pub found_last : (ts behind : List Token) (n : Token) → ts ≡ n ∷ behind → IsOfKind n Identifier → DoesNotStartWith (Sign s.Comma) behind →
-      Parses (NameList text) ts (located_name text n ∷ []) behind
-  found_last ts behind n e i h = record { front = n ∷ []; joined = e; whole = record { names = one_name i; quits = h } }
+  pub found_last : (ts remainder : List Token) (n : Token) → ts ≡ n ∷ remainder → IsOfKind n Identifier → DoesNotStartWith (Sign s.Comma) remainder →
+      Parses (NameList text) ts (located_name text n ∷ []) remainder
+  found_last ts remainder n e i h = record { front = n ∷ []; joined = e; whole = record { names = one_name i; quits = h } }
 
   -- a name and a comma go before a list
-  pub found_more : (ts behind after rest : List Token) (n comma : Token) (names : List Placed) → ts ≡ n ∷ behind →
-      IsOfKind n Identifier → behind ≡ comma ∷ after → IsOfKind comma (Sign s.Comma) →
+  pub found_more : (ts remainder after rest : List Token) (n comma : Token) (names : List Placed) → ts ≡ n ∷ remainder →
+      IsOfKind n Identifier → remainder ≡ comma ∷ after → IsOfKind comma (Sign s.Comma) →
       Parses (NameList text) after names rest → Parses (NameList text) ts (located_name text n ∷ names) rest
-  found_more ts behind after rest n comma names e i g j f = record {
+  found_more ts remainder after rest n comma names e i g j f = record {
     front = n ∷ comma ∷ f.front;
     joined = e ∙ ap (λ l. n ∷ l) (g ∙ ap (λ l. comma ∷ l) f.joined);
     whole = record { names = more_names i j f.whole.names; quits = f.whole.quits };
@@ -33,32 +33,32 @@ module _ (text : List ℕ) where
   lost_here ts rest l = record {
     front = l.front;
     joined = l.joined;
-    never = λ more own behind said st e p. never_here l.front more own behind said
+    never = λ more own remainder said st e p. never_here l.front more own remainder said
         (λ n ls e i. l.never more (n ∷ []) ls n st e (record { joined = refl; is = i })) e p.names;
   }
     where
-      never_here : (front more own behind : List Token) (names : List Placed) →
+      never_here : (front more own remainder : List Token) (names : List Placed) →
           ((n : Token) (ls : List Token) → front ++ more ≡ n ∷ ls → IsOfKind n Identifier → ⊥) →
-          front ++ more ≡ own ++ behind → Names text own names → ⊥
-      never_here front more _ behind _ h e (one_name {n = n} i) = h n behind e i
-      never_here front more _ behind _ h e (more_names {n = n} {comma = comma} {ts = ts} i j d) = h n (comma ∷ ts ++ behind) e i
+          front ++ more ≡ own ++ remainder → Names text own names → ⊥
+      never_here front more _ remainder _ h e (one_name {n = n} i) = h n remainder e i
+      never_here front more _ remainder _ h e (more_names {n = n} {comma = comma} {ts = ts} i j d) = h n (comma ∷ ts ++ remainder) e i
 
   -- if a list fails after a name and a comma, so does the list with them
-  pub lost_more : (ts behind after rest : List Token) (n comma : Token) → ts ≡ n ∷ behind → behind ≡ comma ∷ after →
+  pub lost_more : (ts remainder after rest : List Token) (n comma : Token) → ts ≡ n ∷ remainder → remainder ≡ comma ∷ after →
       IsOfKind comma (Sign s.Comma) →
       Fails (NameList text) after rest → Fails (NameList text) ts rest
-  lost_more ts behind after rest n comma e g j l = record {
+  lost_more ts remainder after rest n comma e g j l = record {
     front = n ∷ comma ∷ l.front;
     joined = e ∙ ap (λ m. n ∷ m) (g ∙ ap (λ m. comma ∷ m) l.joined);
-    never = λ more own behind said st e p. never_more l.front more own behind said
-        (λ a ms e d. l.never more a behind ms st e (record { names = d; quits = p.quits })) e p.names p.quits;
+    never = λ more own remainder said st e p. never_more l.front more own remainder said
+        (λ a ms e d. l.never more a remainder ms st e (record { names = d; quits = p.quits })) e p.names p.quits;
   }
     where
-      never_more : (front more own behind : List Token) (names : List Placed) →
-          ((a : List Token) (ms : List Placed) → front ++ more ≡ a ++ behind → Names text a ms → ⊥) →
-          n ∷ comma ∷ (front ++ more) ≡ own ++ behind → Names text own names → DoesNotStartWith (Sign s.Comma) behind → ⊥
-      never_more front more _ behind _ h e (one_name i) q = not_first _ behind (front ++ more) q j (sym (tail_same e))
-      never_more front more _ behind _ h e (more_names {ts = ts} {names = ms} i k d) q = h ts ms (tail_same (tail_same e)) d
+      never_more : (front more own remainder : List Token) (names : List Placed) →
+          ((a : List Token) (ms : List Placed) → front ++ more ≡ a ++ remainder → Names text a ms → ⊥) →
+          n ∷ comma ∷ (front ++ more) ≡ own ++ remainder → Names text own names → DoesNotStartWith (Sign s.Comma) remainder → ⊥
+      never_more front more _ remainder _ h e (one_name i) q = not_first _ remainder (front ++ more) q j (sym (tail_same e))
+      never_more front more _ remainder _ h e (more_names {ts = ts} {names = ms} i k d) q = h ts ms (tail_same (tail_same e)) d
 
   -- one list begins with one list of names
   pub unique_names : {a b : List Token} {ns ms : List Placed} (r q : List Token) → Names text a ns → Names text b ms →
@@ -160,17 +160,17 @@ module _ (text : List ℕ) where
         };
       }
 
-  down_gates : (n : Token) → IsOfKind n (Sign s.LeftBracket) → (own behind more : List Token) (names : List Placed) →
-      own ++ behind ≡ n ∷ more → GateList text own names →
-      (own ≡ [] → DoesNotStartWith (Sign s.LeftBracket) behind) → (said : List Placed) × InBrackets own said behind
-  down_gates n i _ behind more _ e no_gates h = absurd (not_first _ behind more (h refl) i e)
-  down_gates n i _ behind more _ e (gates {left = left} {right = right} {ts = ts} {names = names} j d k) h =
-      (names, as_between _ _ (NameList text) left right ts behind names j (record { names = d; quits = is_first k (λ e. cc) }) k)
+  down_gates : (n : Token) → IsOfKind n (Sign s.LeftBracket) → (own remainder more : List Token) (names : List Placed) →
+      own ++ remainder ≡ n ∷ more → GateList text own names →
+      (own ≡ [] → DoesNotStartWith (Sign s.LeftBracket) remainder) → (said : List Placed) × InBrackets own said remainder
+  down_gates n i _ remainder more _ e no_gates h = absurd (not_first _ remainder more (h refl) i e)
+  down_gates n i _ remainder more _ e (gates {left = left} {right = right} {ts = ts} {names = names} j d k) h =
+      (names, as_between _ _ (NameList text) left right ts remainder names j (record { names = d; quits = is_first k (λ e. cc) }) k)
 
   lost_gates : (ts others rest : List Token) (n : Token) → ts ≡ n ∷ others → IsOfKind n (Sign s.LeftBracket) → Fails InBrackets ts rest →
       Fails (OptionalGates text) ts rest
   lost_gates ts others rest n e i l = lost_as (OptionalGates text) InBrackets n ts others rest e
-      (λ own behind more x e p. down_gates n i own behind more x e p.gates p.quits) l
+      (λ own remainder more x e p. down_gates n i own remainder more x e p.gates p.quits) l
 
   -- a bracket, names and a bracket are a gate list
   pub found_closed : (ts inside between rest : List Token) (left right : Token) (names : List Placed) → ts ≡ left ∷ inside →
@@ -179,13 +179,13 @@ module _ (text : List ℕ) where
       (OptionalGates text) ts names rest
   found_closed ts inside between rest left right names e i f g j =
       found_gates ts rest names (found_before Opened _ ts between rest right names
-      (found_behind _ (NameList text) ts inside between left names e i f) g j)
+      (found_preceded _ (NameList text) ts inside between left names e i f) g j)
 
   -- if the names in the bracket fail, so does the gate list
   pub lost_inside : (ts inside rest : List Token) (left : Token) → ts ≡ left ∷ inside → IsOfKind left (Sign s.LeftBracket) →
       Fails (NameList text) inside rest → Fails (OptionalGates text) ts rest
   lost_inside ts inside rest left e i l = lost_gates ts inside rest left e i
-      (lost_within Opened _ ts rest (lost_behind _ (NameList text) ts inside rest left e i l))
+      (lost_within Opened _ ts rest (lost_preceded _ (NameList text) ts inside rest left e i l))
 
   -- if the right bracket fails, so does the gate list
   pub lost_open : (ts inside between rest : List Token) (left : Token) (names : List Placed) → ts ≡ left ∷ inside →
@@ -193,5 +193,5 @@ module _ (text : List ℕ) where
       Parses (NameList text) inside names between → Fails (OneToken (Sign s.RightBracket)) between rest → Fails (OptionalGates text) ts rest
   lost_open ts inside between rest left names e i f l =
       lost_gates ts inside rest left e i
-      (lost_unclosed Opened _ (firm_behind _ (NameList text) firm_names) ts between rest names
-      (found_behind _ (NameList text) ts inside between left names e i f) l)
+      (lost_unclosed Opened _ (firm_preceded _ (NameList text) firm_names) ts between rest names
+      (found_preceded _ (NameList text) ts inside between left names e i f) l)

@@ -50,21 +50,21 @@ module _ (text : List ℕ) where
       (x, names_inside d (stand_front ts (right ∷ bar ∷ []) h.1), y)
   join_inside l r (choice_sign i) h x y = (x, y)
 
-  tree_inside : {l : Level} {o : Bool} {n : ℕ} {ts : List Token} {x : BehaviourView} → Spells text l o n ts x → AreTokensIn text ts →
+  ast_inside : {l : Level} {o : Bool} {n : ℕ} {ts : List Token} {x : BehaviourView} → Spells text l o n ts x → AreTokensIn text ts →
       IsBehaviourInside (length text) x
-  tree_inside (stop i) h = tt
-  tree_inside (exit i) h = tt
-  tree_inside (parentheses {right = right} {ts = ts} i d j) h = tree_inside d (stand_front ts (right ∷ []) h.1)
-  tree_inside (call {name = name} i g) h = (token_inside name h.0, gates_inside g h.1)
-  tree_inside (prefix {act = act} (gate i) c d) h = (token_inside act h.0, tree_inside d h.1.1)
-  tree_inside (prefix (internal i) c d) h = tree_inside d h.1.1
-  tree_inside (tighter b d) h = tree_inside d h
-  tree_inside (operation {left = left} {op = op} {right = right} {x = x} {y = y} b d i e) h =
+  ast_inside (stop i) h = tt
+  ast_inside (exit i) h = tt
+  ast_inside (parentheses {right = right} {ts = ts} i d j) h = ast_inside d (stand_front ts (right ∷ []) h.1)
+  ast_inside (call {name = name} i g) h = (token_inside name h.0, gates_inside g h.1)
+  ast_inside (prefix {act = act} (gate i) c d) h = (token_inside act h.0, ast_inside d h.1.1)
+  ast_inside (prefix (internal i) c d) h = ast_inside d h.1.1
+  ast_inside (tighter b d) h = ast_inside d h
+  ast_inside (operation {left = left} {op = op} {right = right} {x = x} {y = y} b d i e) h =
       let front = stand_front (left ++ op) right h in
-      join_inside x y i (stand_rest left op front) (tree_inside d (stand_front left op front))
-      (tree_inside e (stand_rest (left ++ op) right h))
-  tree_inside (hide {within = within} {gates = gs} {ts = ts} i d j e) h =
-      (names_inside d (stand_front gs (within ∷ ts) h.1), tree_inside e (stand_rest gs (within ∷ ts) h.1).1)
+      join_inside x y i (stand_rest left op front) (ast_inside d (stand_front left op front))
+      (ast_inside e (stand_rest (left ++ op) right h))
+  ast_inside (hide {within = within} {gates = gs} {ts = ts} i d j e) h =
+      (names_inside d (stand_front gs (within ∷ ts) h.1), ast_inside e (stand_rest gs (within ∷ ts) h.1).1)
 
   mutual
     -- the names of a definition lie inside the text
@@ -78,7 +78,7 @@ module _ (text : List ℕ) where
         let outer = stand_front (gs ++ middle) rest all in (
           token_inside name h.1.0,
           gates_inside g (stand_front gs middle outer),
-          tree_inside s (stand_rest gs middle outer).1.1.1,
+          ast_inside s (stand_rest gs middle outer).1.1.1,
           rest_inside l (stand_rest (gs ++ middle) rest all),
         )
 
@@ -98,7 +98,7 @@ module _ (text : List ℕ) where
   placed_within at before t s =
       let stand = all_stand text (before ++ t ∷ s.after) s.lexes in
       let inside = token_inside text t (stand_rest text before (t ∷ s.after) stand).0 in
-      let place = s.place in omega arith
+      let offset = s.offset in omega arith
 
   -- the fault lies inside the text
   pub fault_inside : (fault : TextFault) → IsFaultOfText text fault → IsFaultInside (length text) fault
@@ -107,7 +107,7 @@ module _ (text : List ℕ) where
   fault_inside E03 h = tt
   fault_inside (E04 at) h = placed_within at h.before h.token h.located
   fault_inside (E05 at) h = placed_within at h.before h.token h.located
-  fault_inside (E06 at) h = let place = h.place in omega arith
+  fault_inside (E06 at) h = let offset = h.offset in omega arith
   fault_inside (E07 at) h = placed_within at h.before h.token h.located
   fault_inside (E99 e) h = tt
 

@@ -9,7 +9,7 @@ use Rattle.lotos_text.specs.declared.token.TokenKind.TheVariants.{Identifier, Re
 use Rattle.lotos_text.specs.declared.token.Word.TheVariants as w
 use Rattle.lotos_text.specs.declared.ast.Functionality.{Functionality}
 use Rattle.lotos_text.specs.declared.ast.Placed.{Placed}
-use Rattle.lotos_text.proofs.FirstToken.{head_same, tail_same, apart, not_first, starts_not, starts_behind}
+use Rattle.lotos_text.proofs.FirstToken.{head_same, tail_same, apart, not_first, starts_not, starts_after}
 use Rattle.lotos_text.proofs.Sequences.{Firm, found_then, firm_then, lost_first, lost_second}
 
 -- two lists that each begin with a phrase of one token
@@ -17,8 +17,8 @@ same_token : (a b r q : List Token) (n m : Token) → a ≡ n ∷ [] → b ≡ m
 same_token a b r q n m i j e = sym (ap (λ l. l ++ r) i) ∙ e ∙ ap (λ l. l ++ q) j
 
 -- the first token of a list that begins with a phrase of one token
-its_first : (own ts behind : List Token) (n : Token) → ts ≡ own ++ behind → own ≡ n ∷ [] → ts ≡ n ∷ behind
-its_first own ts behind n e i = e ∙ ap (λ l. l ++ behind) i
+its_first : (own ts remainder : List Token) (n : Token) → ts ≡ own ++ remainder → own ≡ n ∷ [] → ts ≡ n ∷ remainder
+its_first own ts remainder n e i = e ∙ ap (λ l. l ++ remainder) i
 
 pub found_one : (k : TokenKind) (ts rest : List Token) (n : Token) → ts ≡ n ∷ rest → IsOfKind n k → Parses (OneToken k) ts n rest
 found_one k ts rest n e i = record { front = n ∷ []; joined = e; whole = record { joined = refl; is = i } }
@@ -28,8 +28,8 @@ pub lost_one : (k : TokenKind) (ts : List Token) → DoesNotStartWith k ts → F
 lost_one k ts h = record {
   front = [];
   joined = refl;
-  never = λ more own behind said st e p. not_first k more behind (starts_not k ts more st h) p.is
-      (its_first own more behind said e p.joined);
+  never = λ more own remainder said st e p. not_first k more remainder (starts_not k ts more st h) p.is
+      (its_first own more remainder said e p.joined);
 }
 
 -- a token of a kind is the only one
@@ -65,12 +65,12 @@ pub lost_declared : (ts rest : List Token) → DoesNotStartWith (Reserved w.Exit
 lost_declared ts rest h l = record {
   front = l.front;
   joined = l.joined;
-  never = λ more own behind said st e p.
+  never = λ more own remainder said st e p.
       let alike : StartsAlike ts (l.front ++ more) = subst (λ m. StartsAlike m (l.front ++ more)) (sym l.joined)
-      (starts_behind l.front rest more st) in
-      neither p.declares (not_first _ (l.front ++ more) behind (starts_not _ ts (l.front ++ more) alike h))
-      (λ i. l.never more own behind p.token st e (record { joined = p.joined; is = i }))
-      (its_first own (l.front ++ more) behind p.token e p.joined);
+      (starts_after l.front rest more st) in
+      neither p.declares (not_first _ (l.front ++ more) remainder (starts_not _ ts (l.front ++ more) alike h))
+      (λ i. l.never more own remainder p.token st e (record { joined = p.joined; is = i }))
+      (its_first own (l.front ++ more) remainder p.token e p.joined);
 }
   where
     neither : {n : Token} {x : Functionality} {E : Type 0} → IsFunctionality n x → (IsOfKind n (Reserved w.ExitWord) → E → ⊥) →
@@ -86,8 +86,8 @@ pub lost_nothing : (n : Token) (ts : List Token) → Fails EndOfInput (n ∷ ts)
 lost_nothing n ts = record {
   front = [];
   joined = refl;
-  never = λ more own behind said st e p. let i = st.1 in let j = p.empty in let k = p.last in let l : more ≡ [] = e ∙ ap
-      (λ l. l ++ behind) j ∙ k in cc;
+  never = λ more own remainder said st e p. let i = st.1 in let j = p.empty in let k = p.last in let l : more ≡ [] = e ∙ ap
+      (λ l. l ++ remainder) j ∙ k in cc;
 }
 
 -- if tokens are left, the end of the input fails
@@ -99,9 +99,9 @@ lost_end (n ∷ ts) h = lost_nothing n ts
 
 module _ {A : Type 0} (k : TokenKind) (P : Phrase A) where
   -- the token, and after it the phrase
-  pub found_behind : (ts between rest : List Token) (n : Token) (x : A) → ts ≡ n ∷ between → IsOfKind n k → Parses P between x rest →
+  pub found_preceded : (ts between rest : List Token) (n : Token) (x : A) → ts ≡ n ∷ between → IsOfKind n k → Parses P between x rest →
       Parses (Preceded k P) ts x rest
-  found_behind ts between rest n x e i f = found_then (λ token said. said) (OneToken k) P ts between rest n x x
+  found_preceded ts between rest n x e i f = found_then (λ token said. said) (OneToken k) P ts between rest n x x
       (found_one k ts between n e i) f refl
 
   -- the token fails, and so does the token with the phrase after it
@@ -109,17 +109,17 @@ module _ {A : Type 0} (k : TokenKind) (P : Phrase A) where
   lost_before ts rest l = lost_first (λ token said. said) (OneToken k) P ts rest l
 
   -- the token parses, and the phrase after it fails
-  pub lost_behind : (ts between rest : List Token) (n : Token) → ts ≡ n ∷ between → IsOfKind n k → Fails P between rest →
+  pub lost_preceded : (ts between rest : List Token) (n : Token) → ts ≡ n ∷ between → IsOfKind n k → Fails P between rest →
       Fails (Preceded k P) ts rest
-  lost_behind ts between rest n e i l = lost_second (λ token said. said) (OneToken k) P (firm_one k) ts between rest n
+  lost_preceded ts between rest n e i l = lost_second (λ token said. said) (OneToken k) P (firm_one k) ts between rest n
       (found_one k ts between n e i) l
 
-  pub firm_behind : Firm P → Firm (Preceded k P)
-  firm_behind firm = firm_then (λ token said. said) (OneToken k) P (firm_one k) firm
+  pub firm_preceded : Firm P → Firm (Preceded k P)
+  firm_preceded firm = firm_then (λ token said. said) (OneToken k) P (firm_one k) firm
 
   -- the phrase after a token, put together
-  pub behind : (n : Token) (own rest : List Token) (x : A) → IsOfKind n k → P own x rest → Preceded k P (n ∷ own) x rest
-  behind n own rest x i p = record {
+  pub remainder : (n : Token) (own rest : List Token) (x : A) → IsOfKind n k → P own x rest → Preceded k P (n ∷ own) x rest
+  remainder n own rest x i p = record {
     front = n ∷ [];
     back = own;
     one = n;
@@ -178,7 +178,7 @@ module _ (text : List ℕ) where
   lost_name ts rest l = record {
     front = l.front;
     joined = l.joined;
-    never = λ more own behind said st e p. l.never more own behind p.token st e (record { joined = p.joined; is = p.is });
+    never = λ more own remainder said st e p. l.never more own remainder p.token st e (record { joined = p.joined; is = p.is });
   }
 
   pub firm_name : Firm (OneName text)

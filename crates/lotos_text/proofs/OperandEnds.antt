@@ -21,17 +21,17 @@ use Rattle.lotos_text.proofs.Operands.{Leaf, below_calls, taken_stop, taken_exit
 use Rattle.lotos_text.proofs.ParseErrors.{missed_free}
 
 -- no token, where nothing goes on with an operand
-pub record Ended (own : List Token) (said : Unit {0}) (behind : List Token) : Type 0 where
+pub record Ended (own : List Token) (said : Unit {0}) (remainder : List Token) : Type 0 where
   pub empty : own ≡ []
-  pub quits : precedence behind < 5
+  pub quits : precedence remainder < 5
 
 lost_ended : (ts : List Token) → precedence ts ≡ 5 → Fails Ended ts ts
 lost_ended ts h = record {
   front = [];
   joined = refl;
-  never = λ more own behind said st e p.
+  never = λ more own remainder said st e p.
       let i = starts_rank ts more st in
-      let j = ap precedence (e ∙ ap (λ m. m ++ behind) p.empty) in
+      let j = ap precedence (e ∙ ap (λ m. m ++ remainder) p.empty) in
       let k = p.quits in
       omega (arith, h, i, j, k);
 }
@@ -44,70 +44,70 @@ missed_end ts (Memory x) e h = absurd e
 
 module _ (text : List ℕ) where
   -- if the end of the operand fails, so does the operand; the error is passed on
-  pub unended : {T : Type 0} (room : ℕ) (ts us : List Token) →
+  pub unended : {T : Type 0} (nesting_left : ℕ) (ts us : List Token) →
       ((rest : List Token) → Fails Ended ts rest → Fails (BehaviourPhrase text prefixing None) us rest) →
       (r : Result T ParseError) (e : ParseError) → IsErrAnd r (λ y. y ≡ e) → StopsAt ts e × (precedence ts ≡ 5) →
-      IfErr r (FailsWithin (BehaviourPhrase text prefixing) room us)
-  unended room ts us to r e h l =
-      missed_free Ended (BehaviourPhrase text prefixing) room ts us to r e h (missed_end ts e l.0 l.1)
+      IfErr r (FailsWithin (BehaviourPhrase text prefixing) nesting_left us)
+  unended nesting_left ts us to r e h l =
+      missed_free Ended (BehaviourPhrase text prefixing) nesting_left ts us to r e h (missed_end ts e l.0 l.1)
 
   lost_leaf : (n : Token) (ts rest : List Token) (z : BehaviourView) →
-      ((ends : Bool) (nesting : ℕ) (own behind more : List Token) (x : BehaviourView) → Spells text prefixing ends nesting own x →
-      own ++ behind ≡ n ∷ more → Leaf n z ends nesting own x) → Fails Ended ts rest →
+      ((ends : Bool) (nesting : ℕ) (own remainder more : List Token) (x : BehaviourView) → Spells text prefixing ends nesting own x →
+      own ++ remainder ≡ n ∷ more → Leaf n z ends nesting own x) → Fails Ended ts rest →
       Fails (BehaviourPhrase text prefixing None) (n ∷ ts) rest
   lost_leaf n ts rest z taken l = record {
     front = n ∷ l.front;
     joined = ap (λ m. n ∷ m) l.joined;
-    never = λ more own behind x st e p.
-        let leaf = taken p.ends p.nesting own behind (l.front ++ more) x p.spells (sym e) in
-        l.never more [] behind tt st (tail_same (e ∙ ap (λ m. m ++ behind) leaf.tokens))
-        (record { empty = refl; quits = below_calls p.ends behind p.quits });
+    never = λ more own remainder x st e p.
+        let leaf = taken p.ends p.nesting own remainder (l.front ++ more) x p.spells (sym e) in
+        l.never more [] remainder tt st (tail_same (e ∙ ap (λ m. m ++ remainder) leaf.tokens))
+        (record { empty = refl; quits = below_calls p.ends remainder p.quits });
   }
 
   -- `stop`, which nothing continues, is an operand
-  pub found_stop : (room : ℕ) (n : Token) (ts : List Token) → IsOfKind n (Reserved w.StopWord) → precedence ts < 5 →
-      Parses (BehaviourPhrase text prefixing (Some room)) (n ∷ ts) t.stop ts
-  found_stop room n ts i h = record {
+  pub found_stop : (nesting_left : ℕ) (n : Token) (ts : List Token) → IsOfKind n (Reserved w.StopWord) → precedence ts < 5 →
+      Parses (BehaviourPhrase text prefixing (Some nesting_left)) (n ∷ ts) t.stop ts
+  found_stop nesting_left n ts i h = record {
     front = n ∷ [];
     joined = refl;
-    whole = record { ends = false; nesting = 0; spells = stop i; quits = h; within = within_none (Some room) };
+    whole = record { ends = false; nesting = 0; spells = stop i; quits = h; within = within_none (Some nesting_left) };
   }
 
   -- if something continues `stop`, it is no operand
   pub lost_stop : (n : Token) (ts rest : List Token) → IsOfKind n (Reserved w.StopWord) → Fails Ended ts rest →
       Fails (BehaviourPhrase text prefixing None) (n ∷ ts) rest
-  lost_stop n ts rest i l = lost_leaf n ts rest t.stop (λ ends nesting own behind more x d e. taken_stop text behind more i d e) l
+  lost_stop n ts rest i l = lost_leaf n ts rest t.stop (λ ends nesting own remainder more x d e. taken_stop text remainder more i d e) l
 
   -- `exit`, which nothing continues, is an operand
-  pub found_exit : (room : ℕ) (n : Token) (ts : List Token) → IsOfKind n (Reserved w.ExitWord) → precedence ts < 5 →
-      Parses (BehaviourPhrase text prefixing (Some room)) (n ∷ ts) t.exit ts
-  found_exit room n ts i h = record {
+  pub found_exit : (nesting_left : ℕ) (n : Token) (ts : List Token) → IsOfKind n (Reserved w.ExitWord) → precedence ts < 5 →
+      Parses (BehaviourPhrase text prefixing (Some nesting_left)) (n ∷ ts) t.exit ts
+  found_exit nesting_left n ts i h = record {
     front = n ∷ [];
     joined = refl;
-    whole = record { ends = false; nesting = 0; spells = exit i; quits = h; within = within_none (Some room) };
+    whole = record { ends = false; nesting = 0; spells = exit i; quits = h; within = within_none (Some nesting_left) };
   }
 
   -- if something continues `exit`, it is no operand
   pub lost_exit : (n : Token) (ts rest : List Token) → IsOfKind n (Reserved w.ExitWord) → Fails Ended ts rest →
       Fails (BehaviourPhrase text prefixing None) (n ∷ ts) rest
-  lost_exit n ts rest i l = lost_leaf n ts rest t.exit (λ ends nesting own behind more x d e. taken_exit text behind more i d e) l
+  lost_exit n ts rest i l = lost_leaf n ts rest t.exit (λ ends nesting own remainder more x d e. taken_exit text remainder more i d e) l
 
   -- no operand
 
   other_begins : {n m : Token} {k : TokenKind} → operand_start n.kind ≡ o.Nothing → n ≡ m → IsOfKind m k → (operand_start k ≡ o.Nothing → ⊥) → ⊥
   other_begins h e i other = other (sym (ap operand_start (ap (λ (x : Token). x.kind) e ∙ i.same)) ∙ h)
 
-  never_begun : (n : Token) (ends : Bool) (nesting : ℕ) (own behind more : List Token) (x : BehaviourView) → operand_start n.kind ≡ o.Nothing →
-      (IsOfKind n (Reserved w.HideWord) → ⊥) → n ∷ more ≡ own ++ behind → Spells text prefixing ends nesting own x → ⊥
-  never_begun n ends nesting own behind more x h without e (stop i) = other_begins h (head_same e) i (λ e. cc)
-  never_begun n ends nesting own behind more x h without e (exit i) = other_begins h (head_same e) i (λ e. cc)
-  never_begun n ends nesting own behind more x h without e (parentheses i d j) = other_begins h (head_same e) i (λ e. cc)
-  never_begun n ends nesting own behind more x h without e (call i g) = other_begins h (head_same e) i (λ e. cc)
-  never_begun n ends nesting own behind more x h without e (prefix (gate i) j d) = other_begins h (head_same e) i (λ e. cc)
-  never_begun n ends nesting own behind more x h without e (prefix (internal i) j d) = other_begins h (head_same e) i (λ e. cc)
-  never_begun n ends nesting own behind more x h without e (tighter b d) = elim b [ ]
-  never_begun n ends nesting own behind more x h without e (operation b d j f) = elim b [ ]
-  never_begun n ends nesting own behind more x h without e (hide i g j d) = without (same_is i (sym (head_same e)))
+  never_begun : (n : Token) (ends : Bool) (nesting : ℕ) (own remainder more : List Token) (x : BehaviourView) → operand_start n.kind ≡ o.Nothing →
+      (IsOfKind n (Reserved w.HideWord) → ⊥) → n ∷ more ≡ own ++ remainder → Spells text prefixing ends nesting own x → ⊥
+  never_begun n ends nesting own remainder more x h without e (stop i) = other_begins h (head_same e) i (λ e. cc)
+  never_begun n ends nesting own remainder more x h without e (exit i) = other_begins h (head_same e) i (λ e. cc)
+  never_begun n ends nesting own remainder more x h without e (parentheses i d j) = other_begins h (head_same e) i (λ e. cc)
+  never_begun n ends nesting own remainder more x h without e (call i g) = other_begins h (head_same e) i (λ e. cc)
+  never_begun n ends nesting own remainder more x h without e (prefix (gate i) j d) = other_begins h (head_same e) i (λ e. cc)
+  never_begun n ends nesting own remainder more x h without e (prefix (internal i) j d) = other_begins h (head_same e) i (λ e. cc)
+  never_begun n ends nesting own remainder more x h without e (tighter b d) = elim b [ ]
+  never_begun n ends nesting own remainder more x h without e (operation b d j f) = elim b [ ]
+  never_begun n ends nesting own remainder more x h without e (hide i g j d) = without (same_is i (sym (head_same e)))
 
   -- what begins no operand and no hide form spells none
   pub lost_begun : (n : Token) (ts : List Token) → operand_start n.kind ≡ o.Nothing → DoesNotStartWith (Reserved w.HideWord) (n ∷ ts) →
@@ -115,6 +115,6 @@ module _ (text : List ℕ) where
   lost_begun n ts h without = record {
     front = [];
     joined = refl;
-    never = λ more own behind x st e p.
-        never_begun n p.ends p.nesting own behind st.0 x h without (sym st.1 ∙ e) p.spells;
+    never = λ more own remainder x st e p.
+        never_begun n p.ends p.nesting own remainder st.0 x h without (sym st.1 ∙ e) p.spells;
   }

@@ -34,7 +34,7 @@ pub record Leaf (n : Token) (z : BehaviourView) (o : Bool) (m : ℕ) (own : List
 
 module _ (text : List ℕ) where
   -- a behaviour expression in parentheses, the first of which is the token
-  pub record Parenthesized (n : Token) (o : Bool) (m : ℕ) (own : List Token) (x : BehaviourView) (behind ts : List Token) : Type 0 where
+  pub record Parenthesized (n : Token) (o : Bool) (m : ℕ) (own : List Token) (x : BehaviourView) (remainder ts : List Token) : Type 0 where
     pub inner : List Token
     pub right : Token
     pub within : Bool
@@ -44,10 +44,10 @@ module _ (text : List ℕ) where
     pub nesting : m ≡ depth + 1
     pub spells : Spells text enabling within depth inner x
     pub closes : IsOfKind right (Sign s.RightParenthesis)
-    pub rest : inner ++ right ∷ behind ≡ ts
+    pub rest : inner ++ right ∷ remainder ≡ ts
 
   -- a call, whose name is the token
-  pub record Called (n : Token) (o : Bool) (m : ℕ) (own : List Token) (x : BehaviourView) (behind ts : List Token) : Type 0 where
+  pub record Called (n : Token) (o : Bool) (m : ℕ) (own : List Token) (x : BehaviourView) (remainder ts : List Token) : Type 0 where
     pub listed : List Token
     pub names : List Placed
     pub tokens : own ≡ n ∷ listed
@@ -55,11 +55,11 @@ module _ (text : List ℕ) where
     pub nesting : m ≡ 0
     pub tree : x ≡ t.call (located_name text n) names
     pub gates : GateList text listed names
-    pub rest : listed ++ behind ≡ ts
+    pub rest : listed ++ remainder ≡ ts
 
   -- a prefix, whose action is the token
   pub record Prefixed (n : Token) (act : Action) (o : Bool) (m : ℕ) (own : List Token) (x : BehaviourView)
-      (behind ts : List Token) : Type 0 where
+      (remainder ts : List Token) : Type 0 where
     pub semicolon : Token
     pub body : List Token
     pub depth : ℕ
@@ -69,10 +69,10 @@ module _ (text : List ℕ) where
     pub tree : x ≡ t.prefix act after
     pub separates : IsOfKind semicolon (Sign s.Semicolon)
     pub spells : Spells text prefixing o depth body after
-    pub rest : semicolon ∷ body ++ behind ≡ ts
+    pub rest : semicolon ∷ body ++ remainder ≡ ts
 
   -- a hide form, whose word is the token
-  pub record Hidden (n : Token) (o : Bool) (m : ℕ) (own : List Token) (x : BehaviourView) (behind ts : List Token) : Type 0 where
+  pub record Hidden (n : Token) (o : Bool) (m : ℕ) (own : List Token) (x : BehaviourView) (remainder ts : List Token) : Type 0 where
     pub listed : List Token
     pub names : List Placed
     pub word : Token
@@ -87,43 +87,43 @@ module _ (text : List ℕ) where
     pub gates : Names text listed names
     pub enters : IsOfKind word (Reserved w.InWord)
     pub spells : Spells text enabling within depth body after
-    pub rest : listed ++ word ∷ (body ++ behind) ≡ ts
+    pub rest : listed ++ word ∷ (body ++ remainder) ≡ ts
 
   -- what begins with `stop` is that word
-  pub taken_stop : {n : Token} {o : Bool} {m : ℕ} {own : List Token} {x : BehaviourView} (behind ts : List Token) →
+  pub taken_stop : {n : Token} {o : Bool} {m : ℕ} {own : List Token} {x : BehaviourView} (remainder ts : List Token) →
       IsOfKind n (Reserved w.StopWord) →
-      Spells text prefixing o m own x → own ++ behind ≡ n ∷ ts → Leaf n t.stop o m own x
-  taken_stop behind ts i (stop j) e = record { tokens = ap (λ m. m ∷ []) (head_same e); shut = refl; nesting = refl; tree = refl }
-  taken_stop behind ts i (exit j) e = absurd (apart j i (head_same e) (λ e. cc))
-  taken_stop behind ts i (parentheses j d k) e = absurd (apart j i (head_same e) (λ e. cc))
-  taken_stop behind ts i (call j g) e = absurd (apart j i (head_same e) (λ e. cc))
-  taken_stop behind ts i (prefix (gate j) k d) e = absurd (apart j i (head_same e) (λ e. cc))
-  taken_stop behind ts i (prefix (internal j) k d) e = absurd (apart j i (head_same e) (λ e. cc))
-  taken_stop behind ts i (hide j g k d) e = absurd (apart j i (head_same e) (λ e. cc))
-  taken_stop behind ts i (tighter b d) e = elim b [ ]
-  taken_stop behind ts i (operation b d j f) e = elim b [ ]
+      Spells text prefixing o m own x → own ++ remainder ≡ n ∷ ts → Leaf n t.stop o m own x
+  taken_stop remainder ts i (stop j) e = record { tokens = ap (λ m. m ∷ []) (head_same e); shut = refl; nesting = refl; tree = refl }
+  taken_stop remainder ts i (exit j) e = absurd (apart j i (head_same e) (λ e. cc))
+  taken_stop remainder ts i (parentheses j d k) e = absurd (apart j i (head_same e) (λ e. cc))
+  taken_stop remainder ts i (call j g) e = absurd (apart j i (head_same e) (λ e. cc))
+  taken_stop remainder ts i (prefix (gate j) k d) e = absurd (apart j i (head_same e) (λ e. cc))
+  taken_stop remainder ts i (prefix (internal j) k d) e = absurd (apart j i (head_same e) (λ e. cc))
+  taken_stop remainder ts i (hide j g k d) e = absurd (apart j i (head_same e) (λ e. cc))
+  taken_stop remainder ts i (tighter b d) e = elim b [ ]
+  taken_stop remainder ts i (operation b d j f) e = elim b [ ]
 
   -- what begins with `exit` is that word
-  pub taken_exit : {n : Token} {o : Bool} {m : ℕ} {own : List Token} {x : BehaviourView} (behind ts : List Token) →
+  pub taken_exit : {n : Token} {o : Bool} {m : ℕ} {own : List Token} {x : BehaviourView} (remainder ts : List Token) →
       IsOfKind n (Reserved w.ExitWord) →
-      Spells text prefixing o m own x → own ++ behind ≡ n ∷ ts → Leaf n t.exit o m own x
-  taken_exit behind ts i (stop j) e = absurd (apart j i (head_same e) (λ e. cc))
-  taken_exit behind ts i (exit j) e = record { tokens = ap (λ m. m ∷ []) (head_same e); shut = refl; nesting = refl; tree = refl }
-  taken_exit behind ts i (parentheses j d k) e = absurd (apart j i (head_same e) (λ e. cc))
-  taken_exit behind ts i (call j g) e = absurd (apart j i (head_same e) (λ e. cc))
-  taken_exit behind ts i (prefix (gate j) k d) e = absurd (apart j i (head_same e) (λ e. cc))
-  taken_exit behind ts i (prefix (internal j) k d) e = absurd (apart j i (head_same e) (λ e. cc))
-  taken_exit behind ts i (hide j g k d) e = absurd (apart j i (head_same e) (λ e. cc))
-  taken_exit behind ts i (tighter b d) e = elim b [ ]
-  taken_exit behind ts i (operation b d j f) e = elim b [ ]
+      Spells text prefixing o m own x → own ++ remainder ≡ n ∷ ts → Leaf n t.exit o m own x
+  taken_exit remainder ts i (stop j) e = absurd (apart j i (head_same e) (λ e. cc))
+  taken_exit remainder ts i (exit j) e = record { tokens = ap (λ m. m ∷ []) (head_same e); shut = refl; nesting = refl; tree = refl }
+  taken_exit remainder ts i (parentheses j d k) e = absurd (apart j i (head_same e) (λ e. cc))
+  taken_exit remainder ts i (call j g) e = absurd (apart j i (head_same e) (λ e. cc))
+  taken_exit remainder ts i (prefix (gate j) k d) e = absurd (apart j i (head_same e) (λ e. cc))
+  taken_exit remainder ts i (prefix (internal j) k d) e = absurd (apart j i (head_same e) (λ e. cc))
+  taken_exit remainder ts i (hide j g k d) e = absurd (apart j i (head_same e) (λ e. cc))
+  taken_exit remainder ts i (tighter b d) e = elim b [ ]
+  taken_exit remainder ts i (operation b d j f) e = elim b [ ]
 
   -- what begins with a left parenthesis is in parentheses
-  pub taken_parentheses : {n : Token} {o : Bool} {m : ℕ} {own : List Token} {x : BehaviourView} (behind ts : List Token) →
+  pub taken_parentheses : {n : Token} {o : Bool} {m : ℕ} {own : List Token} {x : BehaviourView} (remainder ts : List Token) →
       IsOfKind n (Sign s.LeftParenthesis) →
-      Spells text prefixing o m own x → own ++ behind ≡ n ∷ ts → Parenthesized n o m own x behind ts
-  taken_parentheses behind ts i (stop j) e = absurd (apart j i (head_same e) (λ e. cc))
-  taken_parentheses behind ts i (exit j) e = absurd (apart j i (head_same e) (λ e. cc))
-  taken_parentheses behind ts i (parentheses {right = right} {o = within} {n = depth} {ts = inner} j d k) e = record {
+      Spells text prefixing o m own x → own ++ remainder ≡ n ∷ ts → Parenthesized n o m own x remainder ts
+  taken_parentheses remainder ts i (stop j) e = absurd (apart j i (head_same e) (λ e. cc))
+  taken_parentheses remainder ts i (exit j) e = absurd (apart j i (head_same e) (λ e. cc))
+  taken_parentheses remainder ts i (parentheses {right = right} {o = within} {n = depth} {ts = inner} j d k) e = record {
     inner = inner;
     right = right;
     within = within;
@@ -133,25 +133,25 @@ module _ (text : List ℕ) where
     nesting = refl;
     spells = d;
     closes = k;
-    rest = sym (append_assoc inner (right ∷ []) behind) ∙ tail_same e;
+    rest = sym (append_assoc inner (right ∷ []) remainder) ∙ tail_same e;
   }
-  taken_parentheses behind ts i (call j g) e = absurd (apart j i (head_same e) (λ e. cc))
-  taken_parentheses behind ts i (prefix (gate j) k d) e = absurd (apart j i (head_same e) (λ e. cc))
-  taken_parentheses behind ts i (prefix (internal j) k d) e = absurd (apart j i (head_same e) (λ e. cc))
-  taken_parentheses behind ts i (hide j g k d) e = absurd (apart j i (head_same e) (λ e. cc))
-  taken_parentheses behind ts i (tighter b d) e = elim b [ ]
-  taken_parentheses behind ts i (operation b d j f) e = elim b [ ]
+  taken_parentheses remainder ts i (call j g) e = absurd (apart j i (head_same e) (λ e. cc))
+  taken_parentheses remainder ts i (prefix (gate j) k d) e = absurd (apart j i (head_same e) (λ e. cc))
+  taken_parentheses remainder ts i (prefix (internal j) k d) e = absurd (apart j i (head_same e) (λ e. cc))
+  taken_parentheses remainder ts i (hide j g k d) e = absurd (apart j i (head_same e) (λ e. cc))
+  taken_parentheses remainder ts i (tighter b d) e = elim b [ ]
+  taken_parentheses remainder ts i (operation b d j f) e = elim b [ ]
 
   -- what begins with `i` is a prefix of the internal action
-  pub taken_internal : {n : Token} {o : Bool} {m : ℕ} {own : List Token} {x : BehaviourView} (behind ts : List Token) →
+  pub taken_internal : {n : Token} {o : Bool} {m : ℕ} {own : List Token} {x : BehaviourView} (remainder ts : List Token) →
       IsOfKind n (Reserved w.IWord) →
-      Spells text prefixing o m own x → own ++ behind ≡ n ∷ ts → Prefixed n Internal o m own x behind ts
-  taken_internal behind ts i (stop j) e = absurd (apart j i (head_same e) (λ e. cc))
-  taken_internal behind ts i (exit j) e = absurd (apart j i (head_same e) (λ e. cc))
-  taken_internal behind ts i (parentheses j d k) e = absurd (apart j i (head_same e) (λ e. cc))
-  taken_internal behind ts i (call j g) e = absurd (apart j i (head_same e) (λ e. cc))
-  taken_internal behind ts i (prefix (gate j) k d) e = absurd (apart j i (head_same e) (λ e. cc))
-  taken_internal behind ts i (prefix {semicolon = semicolon} {n = depth} {ts = body} {x = after} (internal j) k d) e = record {
+      Spells text prefixing o m own x → own ++ remainder ≡ n ∷ ts → Prefixed n Internal o m own x remainder ts
+  taken_internal remainder ts i (stop j) e = absurd (apart j i (head_same e) (λ e. cc))
+  taken_internal remainder ts i (exit j) e = absurd (apart j i (head_same e) (λ e. cc))
+  taken_internal remainder ts i (parentheses j d k) e = absurd (apart j i (head_same e) (λ e. cc))
+  taken_internal remainder ts i (call j g) e = absurd (apart j i (head_same e) (λ e. cc))
+  taken_internal remainder ts i (prefix (gate j) k d) e = absurd (apart j i (head_same e) (λ e. cc))
+  taken_internal remainder ts i (prefix {semicolon = semicolon} {n = depth} {ts = body} {x = after} (internal j) k d) e = record {
     semicolon = semicolon;
     body = body;
     depth = depth;
@@ -163,18 +163,18 @@ module _ (text : List ℕ) where
     spells = d;
     rest = tail_same e;
   }
-  taken_internal behind ts i (hide j g k d) e = absurd (apart j i (head_same e) (λ e. cc))
-  taken_internal behind ts i (tighter b d) e = elim b [ ]
-  taken_internal behind ts i (operation b d j f) e = elim b [ ]
+  taken_internal remainder ts i (hide j g k d) e = absurd (apart j i (head_same e) (λ e. cc))
+  taken_internal remainder ts i (tighter b d) e = elim b [ ]
+  taken_internal remainder ts i (operation b d j f) e = elim b [ ]
 
   -- what begins with an identifier is a call, or a prefix of that gate
-  pub taken_name : {n : Token} {o : Bool} {m : ℕ} {own : List Token} {x : BehaviourView} (behind ts : List Token) → IsOfKind n (Identifier) →
+  pub taken_name : {n : Token} {o : Bool} {m : ℕ} {own : List Token} {x : BehaviourView} (remainder ts : List Token) → IsOfKind n (Identifier) →
       Spells text prefixing o m own x →
-      own ++ behind ≡ n ∷ ts → Called n o m own x behind ts ⊎ Prefixed n (Gate (located_name text n)) o m own x behind ts
-  taken_name behind ts i (stop j) e = absurd (apart j i (head_same e) (λ e. cc))
-  taken_name behind ts i (exit j) e = absurd (apart j i (head_same e) (λ e. cc))
-  taken_name behind ts i (parentheses j d k) e = absurd (apart j i (head_same e) (λ e. cc))
-  taken_name behind ts i (call {ts = listed} {names = names} j g) e = inl (record {
+      own ++ remainder ≡ n ∷ ts → Called n o m own x remainder ts ⊎ Prefixed n (Gate (located_name text n)) o m own x remainder ts
+  taken_name remainder ts i (stop j) e = absurd (apart j i (head_same e) (λ e. cc))
+  taken_name remainder ts i (exit j) e = absurd (apart j i (head_same e) (λ e. cc))
+  taken_name remainder ts i (parentheses j d k) e = absurd (apart j i (head_same e) (λ e. cc))
+  taken_name remainder ts i (call {ts = listed} {names = names} j g) e = inl (record {
     listed = listed;
     names = names;
     tokens = ap (λ m. m ∷ listed) (head_same e);
@@ -184,7 +184,7 @@ module _ (text : List ℕ) where
     gates = g;
     rest = tail_same e;
   })
-  taken_name behind ts i (prefix {semicolon = semicolon} {n = depth} {ts = body} {x = after} (gate j) k d) e = inr (record {
+  taken_name remainder ts i (prefix {semicolon = semicolon} {n = depth} {ts = body} {x = after} (gate j) k d) e = inr (record {
     semicolon = semicolon;
     body = body;
     depth = depth;
@@ -196,42 +196,42 @@ module _ (text : List ℕ) where
     spells = d;
     rest = tail_same e;
   })
-  taken_name behind ts i (prefix (internal j) k d) e = absurd (apart j i (head_same e) (λ e. cc))
-  taken_name behind ts i (hide j g k d) e = absurd (apart j i (head_same e) (λ e. cc))
-  taken_name behind ts i (tighter b d) e = elim b [ ]
-  taken_name behind ts i (operation b d j f) e = elim b [ ]
+  taken_name remainder ts i (prefix (internal j) k d) e = absurd (apart j i (head_same e) (λ e. cc))
+  taken_name remainder ts i (hide j g k d) e = absurd (apart j i (head_same e) (λ e. cc))
+  taken_name remainder ts i (tighter b d) e = elim b [ ]
+  taken_name remainder ts i (operation b d j f) e = elim b [ ]
 
   -- where a gate list begins with a semicolon, it is empty, and what follows goes on
-  pub not_listed : {listed : List Token} {names : List Placed} {n : Token} (behind ts : List Token) → GateList text listed names →
-      listed ++ behind ≡ n ∷ ts → IsOfKind n (Sign s.Semicolon) → precedence behind < 5 → ⊥
-  not_listed behind ts no_gates e i h = let f = ap precedence e ∙ rank_is ts i in omega (arith, f, h)
-  not_listed behind ts (gates j d k) e i h = apart j i (head_same e) (λ e. cc)
+  pub not_listed : {listed : List Token} {names : List Placed} {n : Token} (remainder ts : List Token) → GateList text listed names →
+      listed ++ remainder ≡ n ∷ ts → IsOfKind n (Sign s.Semicolon) → precedence remainder < 5 → ⊥
+  not_listed remainder ts no_gates e i h = let f = ap precedence e ∙ rank_is ts i in omega (arith, f, h)
+  not_listed remainder ts (gates j d k) e i h = apart j i (head_same e) (λ e. cc)
 
   -- what begins with an action and a semicolon is a prefix of it
   pub taken_prefix : {n semicolon : Token} {act : Action} {o : Bool} {m : ℕ} {own : List Token} {x : BehaviourView}
-      (behind ts : List Token) →
+      (remainder ts : List Token) →
       IsAction text n act → IsOfKind semicolon (Sign s.Semicolon) → Spells text prefixing o m own x →
-      own ++ behind ≡ n ∷ semicolon ∷ ts → precedence behind < bound prefixing o → Prefixed n act o m own x behind (semicolon ∷ ts)
-  taken_prefix {semicolon = semicolon} behind ts (internal i) j d e h = taken_internal behind (semicolon ∷ ts) i d e
-  taken_prefix {n} {semicolon} {o = o} {m = m} {own = own} {x = x} behind ts (gate i) j d e h =
-      only (taken_name behind (semicolon ∷ ts) i d e)
+      own ++ remainder ≡ n ∷ semicolon ∷ ts → precedence remainder < bound prefixing o → Prefixed n act o m own x remainder (semicolon ∷ ts)
+  taken_prefix {semicolon = semicolon} remainder ts (internal i) j d e h = taken_internal remainder (semicolon ∷ ts) i d e
+  taken_prefix {n} {semicolon} {o = o} {m = m} {own = own} {x = x} remainder ts (gate i) j d e h =
+      only (taken_name remainder (semicolon ∷ ts) i d e)
     where
-      only : Called n o m own x behind (semicolon ∷ ts) ⊎ Prefixed n (Gate (located_name text n)) o m own x behind (semicolon ∷ ts) →
-          Prefixed n (Gate (located_name text n)) o m own x behind (semicolon ∷ ts)
-      only (inl c) = absurd (not_listed behind ts c.gates c.rest j (below_calls o behind h))
+      only : Called n o m own x remainder (semicolon ∷ ts) ⊎ Prefixed n (Gate (located_name text n)) o m own x remainder (semicolon ∷ ts) →
+          Prefixed n (Gate (located_name text n)) o m own x remainder (semicolon ∷ ts)
+      only (inl c) = absurd (not_listed remainder ts c.gates c.rest j (below_calls o remainder h))
       only (inr p) = p
 
   -- what begins with `hide`, at any level, is a hide form
-  pub taken_hide : {n : Token} {l : Level} {o : Bool} {m : ℕ} {own : List Token} {x : BehaviourView} (behind ts : List Token) →
+  pub taken_hide : {n : Token} {l : Level} {o : Bool} {m : ℕ} {own : List Token} {x : BehaviourView} (remainder ts : List Token) →
       IsOfKind n (Reserved w.HideWord) →
-      Spells text l o m own x → own ++ behind ≡ n ∷ ts → Hidden n o m own x behind ts
-  taken_hide behind ts i (stop j) e = absurd (apart j i (head_same e) (λ e. cc))
-  taken_hide behind ts i (exit j) e = absurd (apart j i (head_same e) (λ e. cc))
-  taken_hide behind ts i (parentheses j d k) e = absurd (apart j i (head_same e) (λ e. cc))
-  taken_hide behind ts i (call j g) e = absurd (apart j i (head_same e) (λ e. cc))
-  taken_hide behind ts i (prefix (gate j) k d) e = absurd (apart j i (head_same e) (λ e. cc))
-  taken_hide behind ts i (prefix (internal j) k d) e = absurd (apart j i (head_same e) (λ e. cc))
-  taken_hide behind ts i (hide {within = word} {o = within} {n = depth} {gates = listed} {ts = body}
+      Spells text l o m own x → own ++ remainder ≡ n ∷ ts → Hidden n o m own x remainder ts
+  taken_hide remainder ts i (stop j) e = absurd (apart j i (head_same e) (λ e. cc))
+  taken_hide remainder ts i (exit j) e = absurd (apart j i (head_same e) (λ e. cc))
+  taken_hide remainder ts i (parentheses j d k) e = absurd (apart j i (head_same e) (λ e. cc))
+  taken_hide remainder ts i (call j g) e = absurd (apart j i (head_same e) (λ e. cc))
+  taken_hide remainder ts i (prefix (gate j) k d) e = absurd (apart j i (head_same e) (λ e. cc))
+  taken_hide remainder ts i (prefix (internal j) k d) e = absurd (apart j i (head_same e) (λ e. cc))
+  taken_hide remainder ts i (hide {within = word} {o = within} {n = depth} {gates = listed} {ts = body}
       {names = names} {x = after} j g k d) e =
       record {
         listed = listed;
@@ -248,12 +248,12 @@ module _ (text : List ℕ) where
         gates = g;
         enters = k;
         spells = d;
-        rest = sym (append_assoc listed (word ∷ body) behind) ∙ tail_same e;
+        rest = sym (append_assoc listed (word ∷ body) remainder) ∙ tail_same e;
       }
-  taken_hide behind ts i (tighter b d) e = taken_hide behind ts i d e
-  taken_hide behind ts i (operation {left = left} {op = op} {right = right} b d j f) e =
-      let h = taken_hide (op ++ (right ++ behind)) ts i d
-      (sym (append_assoc (left ++ op) right behind ∙ append_assoc left op (right ++ behind)) ∙ e) in
+  taken_hide remainder ts i (tighter b d) e = taken_hide remainder ts i d e
+  taken_hide remainder ts i (operation {left = left} {op = op} {right = right} b d j f) e =
+      let h = taken_hide (op ++ (right ++ remainder)) ts i d
+      (sym (append_assoc (left ++ op) right remainder ∙ append_assoc left op (right ++ remainder)) ∙ e) in
       absurd (let g = h.extends in never g)
     where
       never : false ≡ true → ⊥

@@ -11,7 +11,7 @@ use Rattle.lotos_text.specs.declared.operators.Infix.{Infix}
 use Rattle.lotos_text.specs.declared.operators.Infix.TheVariants as i
 use Rattle.lotos_text.specs.declared.token.Token.{Token}
 use Rattle.lotos_text.proofs.PhraseUniqueness.{firm_operation}
-use Rattle.lotos_text.proofs.FirstToken.{starts_rank, starts_behind}
+use Rattle.lotos_text.proofs.FirstToken.{starts_rank, starts_after}
 use Rattle.lotos_text.proofs.Levels.{bound_below, bound_most, rank_is, operator_rank, operator_below, Levelled, alone, operated, taken_level}
 use Rattle.lotos_text.proofs.Limits.{inside, within_inside, within_less, opens_is, opens_among, crowded_here}
 use Rattle.lotos_text.proofs.Sequences.{lost_first, lost_second}
@@ -82,10 +82,10 @@ right_within limit nl nr h = within_inside limit nr (nr + 1) refl (within_less l
 
 module _ (text : List ℕ) where
   -- the left operand alone, with which no operator of the level goes on
-  pub found_alone : {l m : Level} (room : ℕ) (ts rest : List Token) (x : BehaviourView) → BindsTighter l m →
-      Parses (BehaviourPhrase text m (Some room)) ts x rest → (precedence rest ≡ level_precedence l → l ≡ prefixing) →
-      Parses (BehaviourPhrase text l (Some room)) ts x rest
-  found_alone room ts rest x b f without = record {
+  pub found_alone : {l m : Level} (nesting_left : ℕ) (ts rest : List Token) (x : BehaviourView) → BindsTighter l m →
+      Parses (BehaviourPhrase text m (Some nesting_left)) ts x rest → (precedence rest ≡ level_precedence l → l ≡ prefixing) →
+      Parses (BehaviourPhrase text l (Some nesting_left)) ts x rest
+  found_alone nesting_left ts rest x b f without = record {
     front = f.front;
     joined = f.joined;
     whole = record {
@@ -98,11 +98,11 @@ module _ (text : List ℕ) where
   }
 
   -- a left operand, an operator and a right operand
-  pub found_operation : {l m : Level} (room : ℕ) (ts between after rest : List Token) (how : Operator) (x y z : BehaviourView) → 0 < room →
-      BindsTighter l m → Parses (BehaviourPhrase text m (Some room)) ts x between → Parses (OneOperator text l) between how after →
-      Parses (BehaviourPhrase text l (Some (room - 1))) after y rest → z ≡ apply how x y →
-      Parses (BehaviourPhrase text l (Some room)) ts z rest
-  found_operation {l} {m} room ts between after rest how x y z h b f o g e =
+  pub found_operation : {l m : Level} (nesting_left : ℕ) (ts between after rest : List Token) (how : Operator) (x y z : BehaviourView) → 0 < nesting_left →
+      BindsTighter l m → Parses (BehaviourPhrase text m (Some nesting_left)) ts x between → Parses (OneOperator text l) between how after →
+      Parses (BehaviourPhrase text l (Some (nesting_left - 1))) after y rest → z ≡ apply how x y →
+      Parses (BehaviourPhrase text l (Some nesting_left)) ts z rest
+  found_operation {l} {m} nesting_left ts between after rest how x y z h b f o g e =
       let ranks : precedence between ≡ level_precedence l = ap precedence o.joined ∙ operator_rank text after o.whole.operates in
       let left : Spells text m false f.whole.nesting f.front x =
       subst (λ ends. Spells text m ends f.whole.nesting f.front x) (shut l m f.whole.ends between ranks f.whole.quits)
@@ -124,10 +124,10 @@ module _ (text : List ℕ) where
 
   -- the left operand
 
-  never_left : {l m : Level} (limit : NestingLimit) (ts own behind : List Token) (ends : Bool) (nesting : ℕ) (x : BehaviourView) → BindsTighter l m →
+  never_left : {l m : Level} (limit : NestingLimit) (ts own remainder : List Token) (ends : Bool) (nesting : ℕ) (x : BehaviourView) → BindsTighter l m →
       ((a r : List Token) (y : BehaviourView) → ts ≡ a ++ r → BehaviourPhrase text m limit a y r → ⊥) →
-      ts ≡ own ++ behind → Levelled text l m ends nesting own x → precedence behind < bound l ends → IsNestingWithin limit nesting → ⊥
-  never_left limit ts own behind ends nesting x b h e (alone d) q u = h own behind x e
+      ts ≡ own ++ remainder → Levelled text l m ends nesting own x → precedence remainder < bound l ends → IsNestingWithin limit nesting → ⊥
+  never_left limit ts own remainder ends nesting x b h e (alone d) q u = h own remainder x e
       (record {
         ends = ends;
         nesting = nesting;
@@ -135,13 +135,13 @@ module _ (text : List ℕ) where
         quits = (let g = bound_below ends b in omega (arith, g, q));
         within = u;
       })
-  never_left limit ts _ behind ends _ _ b h e
+  never_left limit ts _ remainder ends _ _ b h e
       (operated {nl = nl} {nr = nr} {left = left} {op = op} {right = right} {x = x} d i f) q u =
-      h left (op ++ (right ++ behind)) x (e ∙ join_assoc left op right behind) (record {
+      h left (op ++ (right ++ remainder)) x (e ∙ join_assoc left op right remainder) (record {
         ends = false;
         nesting = nl;
         spells = d;
-        quits = (let g = operator_below text b i in let f = operator_rank text (right ++ behind) i in omega (arith, f, g));
+        quits = (let g = operator_below text b i in let f = operator_rank text (right ++ remainder) i in omega (arith, f, g));
         within = left_within limit nl nr u;
       })
 
@@ -150,17 +150,17 @@ module _ (text : List ℕ) where
   lost_left limit ts rest b l = record {
     front = l.front;
     joined = l.joined;
-    never = λ more own behind x st e p.
-        never_left limit (l.front ++ more) own behind p.ends p.nesting x b (λ a r y e d. l.never more a r y st e d) e
+    never = λ more own remainder x st e p.
+        never_left limit (l.front ++ more) own remainder p.ends p.nesting x b (λ a r y e d. l.never more a r y st e d) e
         (taken_level text b p.spells) p.quits p.within;
   }
 
   -- if the left operand fails, so does the whole
-  pub carries_left : {l m : Level} (room : ℕ) (ts : List Token) → BindsTighter l m →
-      Carries (BehaviourPhrase text m) room ts (BehaviourPhrase text l) room ts
-  carries_left room ts b = record {
+  pub carries_left : {l m : Level} (nesting_left : ℕ) (ts : List Token) → BindsTighter l m →
+      Carries (BehaviourPhrase text m) nesting_left ts (BehaviourPhrase text l) nesting_left ts
+  carries_left nesting_left ts b = record {
     free = λ rest. lost_left None ts rest b;
-    limited = λ rest. lost_left (Some room) ts rest b;
+    limited = λ rest. lost_left (Some nesting_left) ts rest b;
     before = [];
     joined = refl;
     crowds = omega arith;
@@ -175,20 +175,20 @@ module _ (text : List ℕ) where
   abbrev Behind : Level → NestingLimit → Phrase (Operator × BehaviourView)
   Behind l limit = Sequence paired (OneOperator text l) (BehaviourPhrase text l limit)
 
-  never_behind : {l m : Level} (limit : NestingLimit) (front more own behind : List Token) (o ends : Bool) (n nesting : ℕ) (x z : BehaviourView) →
+  never_preceded : {l m : Level} (limit : NestingLimit) (front more own remainder : List Token) (o ends : Bool) (n nesting : ℕ) (x z : BehaviourView) →
       BindsTighter l m → Spells text m o n front x → precedence more ≡ level_precedence l → precedence more < bound m o →
       ((a r : List Token) (said : Operator × BehaviourView) → more ≡ a ++ r → Behind l (inside limit) a said r → ⊥) →
-      front ++ more ≡ own ++ behind → Levelled text l m ends nesting own z → precedence behind < bound l ends → IsNestingWithin limit nesting → ⊥
-  never_behind {l = l} limit front more own behind o ends n nesting x z b c ranks quits none e (alone d) q u =
-      let h = unique text more behind c d e quits (let g = bound_below ends b in omega (arith, g, q)) in
+      front ++ more ≡ own ++ remainder → Levelled text l m ends nesting own z → precedence remainder < bound l ends → IsNestingWithin limit nesting → ⊥
+  never_preceded {l = l} limit front more own remainder o ends n nesting x z b c ranks quits none e (alone d) q u =
+      let h = unique text more remainder c d e quits (let g = bound_below ends b in omega (arith, g, q)) in
       let g = ap precedence h.rest in
       let k = bound_most l ends in
       omega (arith, ranks, g, k, q)
-  never_behind limit front more _ behind o ends n _ x _ b c ranks quits none e
+  never_preceded limit front more _ remainder o ends n _ x _ b c ranks quits none e
       (operated {nl = nl} {nr = nr} {left = left} {op = op} {right = right} {y = y} {how = how} d i f) q u =
-      let h = unique text more (op ++ (right ++ behind)) c d (e ∙ join_assoc left op right behind) quits
-      (let g = operator_below text b i in let f = operator_rank text (right ++ behind) i in omega (arith, f, g)) in
-      none (op ++ right) behind (how, y) (h.rest ∙ sym (append_assoc op right behind)) (record {
+      let h = unique text more (op ++ (right ++ remainder)) c d (e ∙ join_assoc left op right remainder) quits
+      (let g = operator_below text b i in let f = operator_rank text (right ++ remainder) i in omega (arith, f, g)) in
+      none (op ++ right) remainder (how, y) (h.rest ∙ sym (append_assoc op right remainder)) (record {
         front = op;
         back = right;
         one = how;
@@ -200,17 +200,17 @@ module _ (text : List ℕ) where
       })
 
   -- if an operator of the level follows, and it or its right operand fails, so does the operation
-  lost_behind : {l m : Level} (limit within : NestingLimit) (ts between rest : List Token) (x : BehaviourView) → BindsTighter l m →
+  lost_preceded : {l m : Level} (limit within : NestingLimit) (ts between rest : List Token) (x : BehaviourView) → BindsTighter l m →
       Parses (BehaviourPhrase text m within) ts x between → precedence between ≡ level_precedence l → Fails (Behind l (inside limit)) between rest →
       Fails (BehaviourPhrase text l limit) ts rest
-  lost_behind limit within ts between rest x b f ranks l = record {
+  lost_preceded limit within ts between rest x b f ranks l = record {
     front = f.front ++ l.front;
     joined = f.joined ∙ ap (λ m. f.front ++ m) l.joined ∙ sym (append_assoc f.front l.front rest);
-    never = λ more own behind z st e p.
+    never = λ more own remainder z st e p.
         let alike : StartsAlike between (l.front ++ more) =
-        subst (λ m. StartsAlike m (l.front ++ more)) (sym l.joined) (starts_behind l.front rest more st) in
+        subst (λ m. StartsAlike m (l.front ++ more)) (sym l.joined) (starts_after l.front rest more st) in
         let same = starts_rank between (l.front ++ more) alike in
-        never_behind limit f.front (l.front ++ more) own behind f.whole.ends p.ends f.whole.nesting p.nesting x z b f.whole.spells
+        never_preceded limit f.front (l.front ++ more) own remainder f.whole.ends p.ends f.whole.nesting p.nesting x z b f.whole.spells
         (same ∙ ranks) (let q = f.whole.quits in omega (arith, same, q)) (λ a r said e d. l.never more a r said st e d)
         (sym (append_assoc f.front l.front more) ∙ e) (taken_level text b p.spells) p.quits p.within;
   }
@@ -233,14 +233,14 @@ module _ (text : List ℕ) where
       Parses (BehaviourPhrase text m within) ts x between → precedence between ≡ level_precedence l → Fails (OneOperator text l) between rest →
       Fails (BehaviourPhrase text l None) ts rest
   lost_operator {l} within ts between rest x b f ranks lost =
-      lost_behind None within ts between rest x b f ranks
+      lost_preceded None within ts between rest x b f ranks
       (lost_first paired (OneOperator text l) (BehaviourPhrase text l None) between rest lost)
 
   lost_right : {l m : Level} (limit within : NestingLimit) (ts between after rest : List Token) (how : Operator) (x : BehaviourView) → BindsTighter l m →
       Parses (BehaviourPhrase text m within) ts x between → precedence between ≡ level_precedence l → Parses (OneOperator text l) between how after →
       Fails (BehaviourPhrase text l (inside limit)) after rest → Fails (BehaviourPhrase text l limit) ts rest
   lost_right {l} limit within ts between after rest how x b f ranks o lost =
-      lost_behind limit within ts between rest x b f ranks
+      lost_preceded limit within ts between rest x b f ranks
       (lost_second paired (OneOperator text l) (BehaviourPhrase text l (inside limit)) (firm_operation text l) between after rest how o
       lost)
 
@@ -256,43 +256,43 @@ module _ (text : List ℕ) where
   operator_opens front _ how (choice_sign {o = o} i) = opens_among front [] o (opens_is i refl)
 
   -- if the right operand fails, so does the whole
-  pub carries_right : {l m : Level} (room : ℕ) (ts between after : List Token) (how : Operator) (x : BehaviourView) → BindsTighter l m →
-      Parses (BehaviourPhrase text m (Some room)) ts x between → precedence between ≡ level_precedence l →
+  pub carries_right : {l m : Level} (nesting_left : ℕ) (ts between after : List Token) (how : Operator) (x : BehaviourView) → BindsTighter l m →
+      Parses (BehaviourPhrase text m (Some nesting_left)) ts x between → precedence between ≡ level_precedence l →
       Parses (OneOperator text l) between how after →
-      Carries (BehaviourPhrase text l) (room - 1) after (BehaviourPhrase text l) room ts
-  carries_right room ts between after how x b f ranks o = record {
-    free = λ rest. lost_right None (Some room) ts between after rest how x b f ranks o;
-    limited = λ rest. lost_right (Some room) (Some room) ts between after rest how x b f ranks o;
+      Carries (BehaviourPhrase text l) (nesting_left - 1) after (BehaviourPhrase text l) nesting_left ts
+  carries_right nesting_left ts between after how x b f ranks o = record {
+    free = λ rest. lost_right None (Some nesting_left) ts between after rest how x b f ranks o;
+    limited = λ rest. lost_right (Some nesting_left) (Some nesting_left) ts between after rest how x b f ranks o;
     before = f.front ++ o.front;
     joined = f.joined ∙ ap (λ m. f.front ++ m) o.joined ∙ sym (append_assoc f.front o.front after);
     crowds = (let h = operator_opens f.front o.front how o.whole.operates in omega (arith, h));
   }
 
   -- with no nesting left, an operator that follows is too deep
-  pub deep_operation : {l m : Level} (room : ℕ) (ts between after : List Token) (n : Token) (which : Infix) (x : BehaviourView) →
-      room ≡ 0 → BindsTighter l m → Parses (BehaviourPhrase text m (Some room)) ts x between → between ≡ n ∷ after →
-      infix_of n.kind ≡ Some which → infix_level which ≡ l → IsTooDeepAt (BehaviourPhrase text l) room ts n
-  deep_operation {l} room ts between after n which x h b f e i j = record {
+  pub deep_operation : {l m : Level} (nesting_left : ℕ) (ts between after : List Token) (n : Token) (which : Infix) (x : BehaviourView) →
+      nesting_left ≡ 0 → BindsTighter l m → Parses (BehaviourPhrase text m (Some nesting_left)) ts x between → between ≡ n ∷ after →
+      infix_of n.kind ≡ Some which → infix_level which ≡ l → IsTooDeepAt (BehaviourPhrase text l) nesting_left ts n
+  deep_operation {l} nesting_left ts between after n which x h b f e i j = record {
     after = after;
     fails = record {
       front = f.front;
       joined = f.joined ∙ ap (λ m. f.front ++ m) e;
-      never = λ more own behind z st g p.
+      never = λ more own remainder z st g p.
           let same : precedence more ≡ precedence between = starts_rank (n ∷ after) more st ∙ ap precedence (sym e) in
-          never_deep f.front more own behind f.whole.ends p.ends f.whole.nesting p.nesting x z b f.whole.spells
+          never_deep f.front more own remainder f.whole.ends p.ends f.whole.nesting p.nesting x z b f.whole.spells
           (same ∙ marked between after n which e i j) (let q = f.whole.quits in omega (arith, same, q)) g
           (taken_level text b p.spells) p.quits (let k = p.within in omega (arith, h, k));
     };
-    too_many_open = crowded_here ts f.front after n room (f.joined ∙ ap (λ m. f.front ++ m) e) h (mark_opens n which i);
+    too_many_open = crowded_here ts f.front after n nesting_left (f.joined ∙ ap (λ m. f.front ++ m) e) h (mark_opens n which i);
     opens = mark_opens n which i;
   }
     where
-      never_deep : {l m : Level} (front more own behind : List Token) (o ends : Bool) (n nesting : ℕ) (x z : BehaviourView) →
+      never_deep : {l m : Level} (front more own remainder : List Token) (o ends : Bool) (n nesting : ℕ) (x z : BehaviourView) →
           BindsTighter l m → Spells text m o n front x → precedence more ≡ level_precedence l → precedence more < bound m o →
-          front ++ more ≡ own ++ behind → Levelled text l m ends nesting own z → precedence behind < bound l ends → nesting ≤ 0 → ⊥
-      never_deep {l = l} front more own behind o ends n nesting x z b c ranks quits e (alone d) q u =
-          let h = unique text more behind c d e quits (let g = bound_below ends b in omega (arith, g, q)) in
+          front ++ more ≡ own ++ remainder → Levelled text l m ends nesting own z → precedence remainder < bound l ends → nesting ≤ 0 → ⊥
+      never_deep {l = l} front more own remainder o ends n nesting x z b c ranks quits e (alone d) q u =
+          let h = unique text more remainder c d e quits (let g = bound_below ends b in omega (arith, g, q)) in
           let g = ap precedence h.rest in
           let k = bound_most l ends in
           omega (arith, ranks, g, k, q)
-      never_deep front more _ behind o ends n _ x _ b c ranks quits e (operated d i f) q u = omega (arith, u)
+      never_deep front more _ remainder o ends n _ x _ b c ranks quits e (operated d i f) q u = omega (arith, u)

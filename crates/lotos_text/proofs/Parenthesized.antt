@@ -10,10 +10,10 @@ use Rattle.lotos_text.specs.declared.token.Sign.TheVariants as s
 use Rattle.lotos_text.specs.declared.token.Token.{Token}
 use Rattle.lotos_text.specs.declared.token.TokenKind.TheVariants.{Sign}
 use Rattle.lotos_text.proofs.OperandEnds.{Ended}
-use Rattle.lotos_text.proofs.PhraseUniqueness.{FirmWithin, firm_expression, firm_behind_within, firm_before_within, lost_after}
+use Rattle.lotos_text.proofs.PhraseUniqueness.{FirmWithin, firm_expression, firm_preceded_within, firm_before_within, lost_after}
 use Rattle.lotos_text.proofs.Levels.{rank_none, rank_is}
 use Rattle.lotos_text.proofs.Limits.{inside, within_inside, opens_is, opens_among, crowded_here}
-use Rattle.lotos_text.proofs.OneToken.{found_behind, lost_behind, found_before, lost_within}
+use Rattle.lotos_text.proofs.OneToken.{found_preceded, lost_preceded, found_before, lost_within}
 use Rattle.lotos_text.proofs.Operands.{below_calls, taken_parentheses}
 use Rattle.lotos_text.proofs.Sequences.{lost_as, between, as_between, lost_first}
 use Rattle.lotos_text.proofs.ParseErrors.{Carries}
@@ -32,7 +32,7 @@ module _ (text : List ℕ) where
   Closed limit = Sequence alone (InBrackets limit) Ended
 
   firm_opened : FirmWithin Opened
-  firm_opened = firm_behind_within _ (BehaviourPhrase text enabling) (firm_expression text enabling)
+  firm_opened = firm_preceded_within _ (BehaviourPhrase text enabling) (firm_expression text enabling)
 
   firm_brackets : FirmWithin InBrackets
   firm_brackets = firm_before_within Opened _ firm_opened
@@ -40,13 +40,13 @@ module _ (text : List ℕ) where
   lost_closed : (limit : NestingLimit) (n : Token) (ts rest : List Token) → IsOfKind n (Sign s.LeftParenthesis) →
       Fails (Closed (inside limit)) (n ∷ ts) rest → Fails (BehaviourPhrase text prefixing limit) (n ∷ ts) rest
   lost_closed limit n ts rest i lost = lost_as (BehaviourPhrase text prefixing limit) (Closed (inside limit)) n (n ∷ ts) ts rest refl
-      (λ own behind more x e p.
-      let b = taken_parentheses text behind more i p.spells e in
-      let within : BehaviourPhrase text enabling (inside limit) b.inner x (b.right ∷ behind) = record {
+      (λ own remainder more x e p.
+      let b = taken_parentheses text remainder more i p.spells e in
+      let within : BehaviourPhrase text enabling (inside limit) b.inner x (b.right ∷ remainder) = record {
         ends = b.within;
         nesting = b.depth;
         spells = b.spells;
-        quits = rank_none enabling b.within (b.right ∷ behind) (rank_is behind b.closes);
+        quits = rank_none enabling b.within (b.right ∷ remainder) (rank_is remainder b.closes);
         within = within_inside limit b.depth p.nesting b.nesting p.within;
       } in (
         x,
@@ -56,8 +56,8 @@ module _ (text : List ℕ) where
           one = x;
           other = tt;
           joined = b.tokens ∙ sym (append-nil (n ∷ b.inner ++ b.right ∷ []));
-          first = as_between _ _ (BehaviourPhrase text enabling (inside limit)) n b.right b.inner behind x i within b.closes;
-          second = record { empty = refl; quits = below_calls p.ends behind p.quits };
+          first = as_between _ _ (BehaviourPhrase text enabling (inside limit)) n b.right b.inner remainder x i within b.closes;
+          second = record { empty = refl; quits = below_calls p.ends remainder p.quits };
           same = refl;
         },
       ))
@@ -65,7 +65,7 @@ module _ (text : List ℕ) where
 
   opened : (limit : NestingLimit) (n : Token) (ts between : List Token) (x : BehaviourView) → IsOfKind n (Sign s.LeftParenthesis) →
       Parses (BehaviourPhrase text enabling limit) ts x between → Parses (Opened limit) (n ∷ ts) x between
-  opened limit n ts between x i f = found_behind _ (BehaviourPhrase text enabling limit) (n ∷ ts) ts between n x refl i f
+  opened limit n ts between x i f = found_preceded _ (BehaviourPhrase text enabling limit) (n ∷ ts) ts between n x refl i f
 
   closed : (limit : NestingLimit) (n right : Token) (ts between rest : List Token) (x : BehaviourView) → IsOfKind n (Sign s.LeftParenthesis) →
       Parses (BehaviourPhrase text enabling limit) ts x between → between ≡ right ∷ rest → IsOfKind right (Sign s.RightParenthesis) →
@@ -74,12 +74,12 @@ module _ (text : List ℕ) where
       (opened limit n ts between x i f) e j
 
   -- a parenthesis, a behaviour expression and a parenthesis, which nothing continues, are an operand
-  pub found_closed : (room : ℕ) (n right : Token) (ts others rest : List Token) (x : BehaviourView) → 0 < room →
-      IsOfKind n (Sign s.LeftParenthesis) → Parses (BehaviourPhrase text enabling (Some (room - 1))) ts x others → others ≡ right ∷ rest →
-      IsOfKind right (Sign s.RightParenthesis) → precedence rest < 5 → Parses (BehaviourPhrase text prefixing (Some room)) (n ∷ ts) x rest
-  found_closed room n right ts others rest x h i f e j q =
-      let g = closed (Some (room - 1)) n right ts others rest x i f e j in
-      let b = between _ _ (BehaviourPhrase text enabling (Some (room - 1))) g.front rest x g.whole in
+  pub found_closed : (nesting_left : ℕ) (n right : Token) (ts others rest : List Token) (x : BehaviourView) → 0 < nesting_left →
+      IsOfKind n (Sign s.LeftParenthesis) → Parses (BehaviourPhrase text enabling (Some (nesting_left - 1))) ts x others → others ≡ right ∷ rest →
+      IsOfKind right (Sign s.RightParenthesis) → precedence rest < 5 → Parses (BehaviourPhrase text prefixing (Some nesting_left)) (n ∷ ts) x rest
+  found_closed nesting_left n right ts others rest x h i f e j q =
+      let g = closed (Some (nesting_left - 1)) n right ts others rest x i f e j in
+      let b = between _ _ (BehaviourPhrase text enabling (Some (nesting_left - 1))) g.front rest x g.whole in
       record {
         front = g.front;
         joined = g.joined;
@@ -98,14 +98,14 @@ module _ (text : List ℕ) where
   lost_inside limit n ts rest i lost =
       lost_closed limit n ts rest i (lost_first alone (InBrackets (inside limit)) Ended (n ∷ ts) rest
       (lost_within (Opened (inside limit)) _ (n ∷ ts) rest
-      (lost_behind _ (BehaviourPhrase text enabling (inside limit)) (n ∷ ts) ts rest n refl i lost)))
+      (lost_preceded _ (BehaviourPhrase text enabling (inside limit)) (n ∷ ts) ts rest n refl i lost)))
 
   -- if the behaviour expression in parentheses fails, so does the operand
-  pub carries_inside : (room : ℕ) (n : Token) (ts : List Token) → IsOfKind n (Sign s.LeftParenthesis) →
-      Carries (BehaviourPhrase text enabling) (room - 1) ts (BehaviourPhrase text prefixing) room (n ∷ ts)
-  carries_inside room n ts i = record {
+  pub carries_inside : (nesting_left : ℕ) (n : Token) (ts : List Token) → IsOfKind n (Sign s.LeftParenthesis) →
+      Carries (BehaviourPhrase text enabling) (nesting_left - 1) ts (BehaviourPhrase text prefixing) nesting_left (n ∷ ts)
+  carries_inside nesting_left n ts i = record {
     free = λ rest. lost_inside None n ts rest i;
-    limited = λ rest. lost_inside (Some room) n ts rest i;
+    limited = λ rest. lost_inside (Some nesting_left) n ts rest i;
     before = n ∷ [];
     joined = refl;
     crowds = (let h = opens_among [] [] n (opens_is i refl) in omega (arith, h));
@@ -129,17 +129,17 @@ module _ (text : List ℕ) where
       (closed limit n right ts between after x i f e j) lost)
 
   -- with no nesting left, a left parenthesis is too deep
-  pub deep_parenthesis : (room : ℕ) (n : Token) (ts : List Token) → room ≡ 0 → IsOfKind n (Sign s.LeftParenthesis) →
-      IsTooDeepAt (BehaviourPhrase text prefixing) room (n ∷ ts) n
-  deep_parenthesis room n ts h i = record {
+  pub deep_parenthesis : (nesting_left : ℕ) (n : Token) (ts : List Token) → nesting_left ≡ 0 → IsOfKind n (Sign s.LeftParenthesis) →
+      IsTooDeepAt (BehaviourPhrase text prefixing) nesting_left (n ∷ ts) n
+  deep_parenthesis nesting_left n ts h i = record {
     after = ts;
     fails = record {
       front = [];
       joined = refl;
-      never = λ more own behind x st e p.
-          let b = taken_parentheses text behind st.0 i p.spells (sym e ∙ st.1) in
+      never = λ more own remainder x st e p.
+          let b = taken_parentheses text remainder st.0 i p.spells (sym e ∙ st.1) in
           let j = b.nesting in let k = p.within in absurd (omega (arith, h, j, k));
     };
-    too_many_open = crowded_here (n ∷ ts) [] ts n room refl h (opens_is i refl);
+    too_many_open = crowded_here (n ∷ ts) [] ts n nesting_left refl h (opens_is i refl);
     opens = opens_is i refl;
   }

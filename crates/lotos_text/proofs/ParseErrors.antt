@@ -59,9 +59,9 @@ openings_append : (front back : List Token) → count_openings (front ++ back) �
 openings_append front back = sum_by-append (λ t. cond (opens_construct t.kind) 1 0) front back
 
 -- if a list is too deep, then with tokens before it of which so many open a construct it is too deep for as much more nesting
-pub crowded_behind : (front ts us after : List Token) (token : Token) (room more : ℕ) → us ≡ front ++ ts →
-    more ≤ room + count_openings front → HasTooManyOpen room ts token after → HasTooManyOpen more us token after
-crowded_behind front ts us after token room more e h c = record {
+pub crowded_after : (front ts us after : List Token) (token : Token) (nesting_left more : ℕ) → us ≡ front ++ ts →
+    more ≤ nesting_left + count_openings front → HasTooManyOpen nesting_left ts token after → HasTooManyOpen more us token after
+crowded_after front ts us after token nesting_left more e h c = record {
   front = front ++ c.front;
   joined = e ∙ ap (λ m. front ++ m) c.joined ∙ sym (append_assoc front c.front (token ∷ after));
   many =
@@ -71,19 +71,19 @@ crowded_behind front ts us after token room more e h c = record {
       omega (arith, h, i, j, k);
 }
 
--- How a part of a part that is lost makes the whole lost: with any nesting; with the room that there is; and with the tokens
+-- How a part of a part that is lost makes the whole lost: with any nesting; with the nesting_left that there is; and with the tokens
 -- before it that open a construct.
-pub record Carries {A B : Type 0} (P : NestingLimit → Phrase A) (inner : ℕ) (ts : List Token) (Q : NestingLimit → Phrase B) (room : ℕ) (us : List Token) : Type 0 where
+pub record Carries {A B : Type 0} (P : NestingLimit → Phrase A) (inner : ℕ) (ts : List Token) (Q : NestingLimit → Phrase B) (nesting_left : ℕ) (us : List Token) : Type 0 where
   pub free : (rest : List Token) → Fails (P None) ts rest → Fails (Q None) us rest
-  pub limited : (rest : List Token) → Fails (P (Some inner)) ts rest → Fails (Q (Some room)) us rest
+  pub limited : (rest : List Token) → Fails (P (Some inner)) ts rest → Fails (Q (Some nesting_left)) us rest
   pub before : List Token
   pub joined : us ≡ before ++ ts
-  pub crowds : room ≤ inner + count_openings before
+  pub crowds : nesting_left ≤ inner + count_openings before
 
 -- a part in a part of a part
-pub carries_further : {A B C : Type 0} (P : NestingLimit → Phrase A) (Q : NestingLimit → Phrase B) (R : NestingLimit → Phrase C) (inner room outer : ℕ)
-    (ts us vs : List Token) → Carries P inner ts Q room us → Carries Q room us R outer vs → Carries P inner ts R outer vs
-carries_further P Q R inner room outer ts us vs c d = record {
+pub carries_further : {A B C : Type 0} (P : NestingLimit → Phrase A) (Q : NestingLimit → Phrase B) (R : NestingLimit → Phrase C) (inner nesting_left outer : ℕ)
+    (ts us vs : List Token) → Carries P inner ts Q nesting_left us → Carries Q nesting_left us R outer vs → Carries P inner ts R outer vs
+carries_further P Q R inner nesting_left outer ts us vs c d = record {
   free = λ rest l. d.free rest (c.free rest l);
   limited = λ rest l. d.limited rest (c.limited rest l);
   before = d.before ++ c.before;
@@ -92,54 +92,54 @@ carries_further P Q R inner room outer ts us vs c d = record {
 }
 
 -- a token that is too deep in a part is too deep in the whole
-pub deeper_on : {A B : Type 0} (P : NestingLimit → Phrase A) (Q : NestingLimit → Phrase B) (inner room : ℕ) (ts us : List Token) →
-    Carries P inner ts Q room us → (token : Token) → IsTooDeepAt P inner ts token → IsTooDeepAt Q room us token
-deeper_on P Q inner room ts us c token l = record {
+pub deeper_on : {A B : Type 0} (P : NestingLimit → Phrase A) (Q : NestingLimit → Phrase B) (inner nesting_left : ℕ) (ts us : List Token) →
+    Carries P inner ts Q nesting_left us → (token : Token) → IsTooDeepAt P inner ts token → IsTooDeepAt Q nesting_left us token
+deeper_on P Q inner nesting_left ts us c token l = record {
   after = l.after;
   fails = c.limited (token ∷ l.after) l.fails;
-  too_many_open = crowded_behind c.before ts us l.after token inner room c.joined c.crowds l.too_many_open;
+  too_many_open = crowded_after c.before ts us l.after token inner nesting_left c.joined c.crowds l.too_many_open;
   opens = l.opens;
 }
 
-carried : {A B : Type 0} (P : NestingLimit → Phrase A) (Q : NestingLimit → Phrase B) (inner room : ℕ) (ts us : List Token) →
-    Carries P inner ts Q room us → (e : ParseError) → FailsWithin P inner ts e → FailsWithin Q room us e
-carried P Q inner room ts us c (Unexpected rest) l = c.free rest.now l
-carried P Q inner room ts us c (TooDeep token) l = deeper_on P Q inner room ts us c token l
-carried P Q inner room ts us c (Memory e) l = tt
+carried : {A B : Type 0} (P : NestingLimit → Phrase A) (Q : NestingLimit → Phrase B) (inner nesting_left : ℕ) (ts us : List Token) →
+    Carries P inner ts Q nesting_left us → (e : ParseError) → FailsWithin P inner ts e → FailsWithin Q nesting_left us e
+carried P Q inner nesting_left ts us c (Unexpected rest) l = c.free rest.now l
+carried P Q inner nesting_left ts us c (TooDeep token) l = deeper_on P Q inner nesting_left ts us c token l
+carried P Q inner nesting_left ts us c (Memory e) l = tt
 
 -- a part without nesting that stopped, in one with a limit
-pub lost_free : {A B : Type 0} (P : Phrase A) (Q : NestingLimit → Phrase B) (room : ℕ) (ts us : List Token) →
-    ((rest : List Token) → Fails P ts rest → Fails (Q None) us rest) → (e : ParseError) → FailsAtAnyNesting P ts e → FailsWithin Q room us e
-lost_free P Q room ts us to (Unexpected rest) l = to rest.now l
-lost_free P Q room ts us to (TooDeep token) l = absurd l
-lost_free P Q room ts us to (Memory e) l = tt
+pub lost_free : {A B : Type 0} (P : Phrase A) (Q : NestingLimit → Phrase B) (nesting_left : ℕ) (ts us : List Token) →
+    ((rest : List Token) → Fails P ts rest → Fails (Q None) us rest) → (e : ParseError) → FailsAtAnyNesting P ts e → FailsWithin Q nesting_left us e
+lost_free P Q nesting_left ts us to (Unexpected rest) l = to rest.now l
+lost_free P Q nesting_left ts us to (TooDeep token) l = absurd l
+lost_free P Q nesting_left ts us to (Memory e) l = tt
 
 -- A `?` passes on the error of a part with a limit, and the whole fails there too.
-pub carried_on : {A B T : Type 0} (P : NestingLimit → Phrase A) (Q : NestingLimit → Phrase B) (inner room : ℕ) (ts us : List Token) →
-    Carries P inner ts Q room us → (r : Result T ParseError) (e : ParseError) → IsErrAnd r (λ y. y ≡ e) → FailsWithin P inner ts e →
-    IfErr r (FailsWithin Q room us)
-carried_on P Q inner room ts us c r e h l =
+pub carried_on : {A B T : Type 0} (P : NestingLimit → Phrase A) (Q : NestingLimit → Phrase B) (inner nesting_left : ℕ) (ts us : List Token) →
+    Carries P inner ts Q nesting_left us → (r : Result T ParseError) (e : ParseError) → IsErrAnd r (λ y. y ≡ e) → FailsWithin P inner ts e →
+    IfErr r (FailsWithin Q nesting_left us)
+carried_on P Q inner nesting_left ts us c r e h l =
     let q = err_from_is_err_and r h in
-    subst (λ m. IfErr m (FailsWithin Q room us)) (sym q.1)
-    (subst (λ m. FailsWithin Q room us m) (sym q.2) (carried P Q inner room ts us c e l))
+    subst (λ m. IfErr m (FailsWithin Q nesting_left us)) (sym q.1)
+    (subst (λ m. FailsWithin Q nesting_left us m) (sym q.2) (carried P Q inner nesting_left ts us c e l))
 
 -- the same of a part without nesting
-pub freed_on : {A B T : Type 0} (P : Phrase A) (Q : NestingLimit → Phrase B) (room : ℕ) (ts us : List Token) →
+pub freed_on : {A B T : Type 0} (P : Phrase A) (Q : NestingLimit → Phrase B) (nesting_left : ℕ) (ts us : List Token) →
     ((rest : List Token) → Fails P ts rest → Fails (Q None) us rest) → (r : Result T ParseError) (e : ParseError) → IsErrAnd r (λ y. y ≡ e) →
-    FailsAtAnyNesting P ts e → IfErr r (FailsWithin Q room us)
-freed_on P Q room ts us to r e h l =
+    FailsAtAnyNesting P ts e → IfErr r (FailsWithin Q nesting_left us)
+freed_on P Q nesting_left ts us to r e h l =
     let q = err_from_is_err_and r h in
-    subst (λ m. IfErr m (FailsWithin Q room us)) (sym q.1)
-    (subst (λ m. FailsWithin Q room us m) (sym q.2) (lost_free P Q room ts us to e l))
+    subst (λ m. IfErr m (FailsWithin Q nesting_left us)) (sym q.1)
+    (subst (λ m. FailsWithin Q nesting_left us m) (sym q.2) (lost_free P Q nesting_left ts us to e l))
 
 -- the same of a part that does not allocate
-pub missed_free : {A B T : Type 0} (P : Phrase A) (Q : NestingLimit → Phrase B) (room : ℕ) (ts us : List Token) →
+pub missed_free : {A B T : Type 0} (P : Phrase A) (Q : NestingLimit → Phrase B) (nesting_left : ℕ) (ts us : List Token) →
     ((rest : List Token) → Fails P ts rest → Fails (Q None) us rest) → (r : Result T ParseError) (e : ParseError) → IsErrAnd r (λ y. y ≡ e) →
-    FailsAtToken P ts e → IfErr r (FailsWithin Q room us)
-missed_free P Q room ts us to r e h l = freed_on P Q room ts us to r e h (missed_lost P ts e l)
+    FailsAtToken P ts e → IfErr r (FailsWithin Q nesting_left us)
+missed_free P Q nesting_left ts us to r e h l = freed_on P Q nesting_left ts us to r e h (missed_lost P ts e l)
 
 -- a result is passed on as it is, and the whole fails where the part does
-pub still_carried : {A B T : Type 0} (P : NestingLimit → Phrase A) (Q : NestingLimit → Phrase B) (inner room : ℕ) (ts us : List Token) →
-    Carries P inner ts Q room us → (r : Result T ParseError) → IfErr r (FailsWithin P inner ts) → IfErr r (FailsWithin Q room us)
-still_carried P Q inner room ts us c (Ok x) l = tt
-still_carried P Q inner room ts us c (Err e) l = carried P Q inner room ts us c e l
+pub still_carried : {A B T : Type 0} (P : NestingLimit → Phrase A) (Q : NestingLimit → Phrase B) (inner nesting_left : ℕ) (ts us : List Token) →
+    Carries P inner ts Q nesting_left us → (r : Result T ParseError) → IfErr r (FailsWithin P inner ts) → IfErr r (FailsWithin Q nesting_left us)
+still_carried P Q inner nesting_left ts us c (Ok x) l = tt
+still_carried P Q inner nesting_left ts us c (Err e) l = carried P Q inner nesting_left ts us c e l

@@ -65,7 +65,7 @@ module _ (text : List ℕ) (ts : List Token) (short : length text ≤ max_text_l
 
   -- the token is in the text, after those before it
   stands : (before after : List Token) (t : Token) → ts ≡ before ++ t ∷ after → IsOffsetOfToken text t.at before t
-  stands before after t e = record { after = after; short = short; lexes = subst (λ m. Lexes text m) e cut; place = refl }
+  stands before after t e = record { after = after; short = short; lexes = subst (λ m. Lexes text m) e cut; offset = refl }
 
   token_refused : (after : List Token) (t : Token) → Fails (SpecificationPhrase text None) ts (t ∷ after) → (full : Bool) →
       is_full_lotos t.kind ≡ full → IsFaultOfText text (if full then E07 t.at else E04 t.at)
@@ -96,7 +96,7 @@ module _ (text : List ℕ) (ts : List Token) (short : length text ≤ max_text_l
     tokens = ts;
     short = short;
     lexes = cut;
-    place = refl;
+    offset = refl;
     never = λ n whole s. never_begun None [] [] n whole l refl (subst (λ m. SpellsSpecification text n m whole) l.joined s) tt;
   }
   at_refused (t ∷ after) l = token_refused after t l (is_full_lotos t.kind) refl

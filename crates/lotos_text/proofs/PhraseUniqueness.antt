@@ -7,10 +7,10 @@ use Rattle.lotos_text.specs.declared.token.Token.{Token}
 use Rattle.lotos_text.specs.declared.token.TokenKind.{TokenKind}
 use Rattle.lotos_text.specs.declared.ast.Functionality.{Functionality}
 use Rattle.lotos_text.specs.declared.ast.Placed.{Placed}
-use Rattle.lotos_text.proofs.FirstToken.{starts_behind, starts_rank}
+use Rattle.lotos_text.proofs.FirstToken.{starts_after, starts_rank}
 use Rattle.lotos_text.proofs.Levels.{unique_operator}
 use Rattle.lotos_text.proofs.NameLists.{firm_gates}
-use Rattle.lotos_text.proofs.OneToken.{firm_one, firm_name, firm_declared, firm_behind}
+use Rattle.lotos_text.proofs.OneToken.{firm_one, firm_name, firm_declared, firm_preceded}
 use Rattle.lotos_text.proofs.Sequences.{Same, Firm, firm_then}
 use Rattle.lotos_text.proofs.GrammarUnique.{unique}
 
@@ -30,11 +30,11 @@ pub lost_after : {A B C : Type 0} (together : A → B → C) (P : NestingLimit �
 lost_after together P Q l m firm ts between rest x f lost = record {
   front = f.front ++ lost.front;
   joined = f.joined ∙ ap (λ m. f.front ++ m) lost.joined ∙ sym (append_assoc f.front lost.front rest);
-  never = λ more own behind said st e t.
-      let one = firm l m f.front t.front (lost.front ++ rest) (lost.front ++ more) (t.back ++ behind) x t.one
-      (subst (λ ts. P l f.front x ts) lost.joined f.whole) (starts_behind lost.front rest more st) t.first
-      (sym (append_assoc f.front lost.front more) ∙ e ∙ ap (λ ts. ts ++ behind) t.joined ∙ append_assoc t.front t.back behind) in
-      lost.never more t.back behind t.other st one.rest t.second;
+  never = λ more own remainder said st e t.
+      let one = firm l m f.front t.front (lost.front ++ rest) (lost.front ++ more) (t.back ++ remainder) x t.one
+      (subst (λ ts. P l f.front x ts) lost.joined f.whole) (starts_after lost.front rest more st) t.first
+      (sym (append_assoc f.front lost.front more) ∙ e ∙ ap (λ ts. ts ++ remainder) t.joined ∙ append_assoc t.front t.back remainder) in
+      lost.never more t.back remainder t.other st one.rest t.second;
 }
 
 -- if each of two phrases is unique within each limit, so are both together
@@ -45,7 +45,7 @@ firm_then_within together P Q firm_p firm_q l m a b r more q x y t st u e =
     sym (append_assoc t.front t.back more) ∙ sym (ap (λ m. m ++ more) t.joined) ∙ e ∙ ap (λ m. m ++ q) u.joined
     ∙ append_assoc u.front u.back q in
     let one = firm_p l m t.front u.front (t.back ++ r) (t.back ++ more) (u.back ++ q) t.one u.one t.first
-    (starts_behind t.back r more st) u.first e' in
+    (starts_after t.back r more st) u.first e' in
     let other = firm_q l m t.back u.back r more q t.other u.other t.second st u.second one.rest in
     record {
       tokens = (let i = t.joined in let j = u.joined in let k = one.tokens in let l = other.tokens in cc);
@@ -54,8 +54,8 @@ firm_then_within together P Q firm_p firm_q l m a b r more q x y t st u e =
     }
 
 -- so are a token and the phrase after it
-pub firm_behind_within : {A : Type 0} (k : TokenKind) (P : NestingLimit → Phrase A) → FirmWithin P → FirmWithin (λ l. Preceded k (P l))
-firm_behind_within k P firm =
+pub firm_preceded_within : {A : Type 0} (k : TokenKind) (P : NestingLimit → Phrase A) → FirmWithin P → FirmWithin (λ l. Preceded k (P l))
+firm_preceded_within k P firm =
     firm_then_within (λ token said. said) (λ _. OneToken k) P (firm_always (OneToken k) (firm_one k)) firm
 
 -- so are the phrase and a token after it
@@ -88,4 +88,4 @@ module _ (text : List ℕ) where
   -- a header is the only one
   pub firm_header : Firm (HeaderPhrase text)
   firm_header = firm_then headed (Sequence named (OneName text) (OptionalGates text)) FunctionalityPhrase
-      (firm_then named (OneName text) (OptionalGates text) (firm_name text) (firm_gates text)) (firm_behind _ OneFunctionality firm_declared)
+      (firm_then named (OneName text) (OptionalGates text) (firm_name text) (firm_gates text)) (firm_preceded _ OneFunctionality firm_declared)

@@ -24,11 +24,11 @@ lost_not_first k (n ∷ ts) rest l = λ i.
 
 module _ (text : List ℕ) where
   -- an action, a semicolon and an operand are an operand
-  pub found_body : (room : ℕ) (n semicolon : Token) (act : Action) (ts after rest : List Token) (x z : BehaviourView) → 0 < room →
+  pub found_body : (nesting_left : ℕ) (n semicolon : Token) (act : Action) (ts after rest : List Token) (x z : BehaviourView) → 0 < nesting_left →
       IsAction text n act → ts ≡ semicolon ∷ after → IsOfKind semicolon (Sign s.Semicolon) →
-      Parses (BehaviourPhrase text prefixing (Some (room - 1))) after x rest → z ≡ t.prefix act x →
-      Parses (BehaviourPhrase text prefixing (Some room)) (n ∷ ts) z rest
-  found_body room n semicolon act ts after rest x z h i e j f g = record {
+      Parses (BehaviourPhrase text prefixing (Some (nesting_left - 1))) after x rest → z ≡ t.prefix act x →
+      Parses (BehaviourPhrase text prefixing (Some nesting_left)) (n ∷ ts) z rest
+  found_body nesting_left n semicolon act ts after rest x z h i e j f g = record {
     front = n ∷ semicolon ∷ f.front;
     joined = ap (λ m. n ∷ m) (e ∙ ap (λ m. semicolon ∷ m) f.joined);
     whole = record {
@@ -47,9 +47,9 @@ module _ (text : List ℕ) where
   lost_unseparated n ts rest i l = record {
     front = n ∷ l.front;
     joined = ap (λ m. n ∷ m) l.joined;
-    never = λ more own behind x st e p.
-        let b = taken_internal text behind (l.front ++ more) i p.spells (sym e) in
-        l.never more (b.semicolon ∷ []) (b.body ++ behind) b.semicolon st (sym b.rest)
+    never = λ more own remainder x st e p.
+        let b = taken_internal text remainder (l.front ++ more) i p.spells (sym e) in
+        l.never more (b.semicolon ∷ []) (b.body ++ remainder) b.semicolon st (sym b.rest)
         (record { joined = refl; is = b.separates });
   }
 
@@ -59,9 +59,9 @@ module _ (text : List ℕ) where
   lost_body limit n semicolon act ts after rest i e j l = record {
     front = n ∷ semicolon ∷ l.front;
     joined = ap (λ m. n ∷ m) (e ∙ ap (λ m. semicolon ∷ m) l.joined);
-    never = λ more own behind x st g p.
-        let b = taken_prefix text behind (l.front ++ more) i j p.spells (sym g) p.quits in
-        l.never more b.body behind b.after st (sym (tail_same b.rest)) (record {
+    never = λ more own remainder x st g p.
+        let b = taken_prefix text remainder (l.front ++ more) i j p.spells (sym g) p.quits in
+        l.never more b.body remainder b.after st (sym (tail_same b.rest)) (record {
           ends = p.ends;
           nesting = b.depth;
           spells = b.spells;
@@ -71,29 +71,29 @@ module _ (text : List ℕ) where
   }
 
   -- if the operand after the semicolon fails, so does the whole
-  pub carries_body : (room : ℕ) (n semicolon : Token) (act : Action) (ts after : List Token) → IsAction text n act →
+  pub carries_body : (nesting_left : ℕ) (n semicolon : Token) (act : Action) (ts after : List Token) → IsAction text n act →
       ts ≡ semicolon ∷ after → IsOfKind semicolon (Sign s.Semicolon) →
-      Carries (BehaviourPhrase text prefixing) (room - 1) after (BehaviourPhrase text prefixing) room (n ∷ ts)
-  carries_body room n semicolon act ts after i e j = record {
+      Carries (BehaviourPhrase text prefixing) (nesting_left - 1) after (BehaviourPhrase text prefixing) nesting_left (n ∷ ts)
+  carries_body nesting_left n semicolon act ts after i e j = record {
     free = λ rest. lost_body None n semicolon act ts after rest i e j;
-    limited = λ rest. lost_body (Some room) n semicolon act ts after rest i e j;
+    limited = λ rest. lost_body (Some nesting_left) n semicolon act ts after rest i e j;
     before = n ∷ semicolon ∷ [];
     joined = ap (λ m. n ∷ m) e;
     crowds = (let h = opens_among (n ∷ []) [] semicolon (opens_is j refl) in omega (arith, h));
   }
 
   -- with no nesting left, the semicolon of a prefix is too deep
-  pub deep_prefix : (room : ℕ) (n semicolon : Token) (act : Action) (ts after : List Token) → room ≡ 0 → IsAction text n act →
-      ts ≡ semicolon ∷ after → IsOfKind semicolon (Sign s.Semicolon) → IsTooDeepAt (BehaviourPhrase text prefixing) room (n ∷ ts) semicolon
-  deep_prefix room n semicolon act ts after h i e j = record {
+  pub deep_prefix : (nesting_left : ℕ) (n semicolon : Token) (act : Action) (ts after : List Token) → nesting_left ≡ 0 → IsAction text n act →
+      ts ≡ semicolon ∷ after → IsOfKind semicolon (Sign s.Semicolon) → IsTooDeepAt (BehaviourPhrase text prefixing) nesting_left (n ∷ ts) semicolon
+  deep_prefix nesting_left n semicolon act ts after h i e j = record {
     after = after;
     fails = record {
       front = n ∷ [];
       joined = ap (λ m. n ∷ m) e;
-      never = λ more own behind x st g p.
-          let b = taken_prefix text behind st.0 i j p.spells (sym g ∙ ap (λ m. n ∷ m) st.1) p.quits in
+      never = λ more own remainder x st g p.
+          let b = taken_prefix text remainder st.0 i j p.spells (sym g ∙ ap (λ m. n ∷ m) st.1) p.quits in
           let j = b.nesting in let k = p.within in absurd (omega (arith, h, j, k));
     };
-    too_many_open = crowded_here (n ∷ ts) (n ∷ []) after semicolon room (ap (λ m. n ∷ m) e) h (opens_is j refl);
+    too_many_open = crowded_here (n ∷ ts) (n ∷ []) after semicolon nesting_left (ap (λ m. n ∷ m) e) h (opens_is j refl);
     opens = opens_is j refl;
   }

@@ -5,7 +5,7 @@ use Rattle.lotos_text.specs.ParserContracts.{Phrase, Parses, StartsAlike, Fails}
 use Rattle.lotos_text.specs.Phrases.{Sequence, Preceded, Followed}
 use Rattle.lotos_text.specs.declared.token.Token.{Token}
 use Rattle.lotos_text.specs.declared.token.TokenKind.{TokenKind}
-use Rattle.lotos_text.proofs.FirstToken.{starts_behind}
+use Rattle.lotos_text.proofs.FirstToken.{starts_after}
 
 pub record Same {A : Type 0} (a b : List Token) (x y : A) (r q : List Token) : Type 0 where
   pub tokens : a ≡ b
@@ -18,16 +18,16 @@ Firm {A} P = (a b r more q : List Token) (x y : A) → P a x r → StartsAlike r
 
 -- If each spelling as P of tokens that begin with the given one is a spelling as Q, and Q fails, so does P.
 pub lost_as : {A B : Type 0} (P : Phrase A) (Q : Phrase B) (n : Token) (ts others rest : List Token) → ts ≡ n ∷ others →
-    ((own behind more : List Token) (x : A) → own ++ behind ≡ n ∷ more → P own x behind → (y : B) × Q own y behind) →
+    ((own remainder more : List Token) (x : A) → own ++ remainder ≡ n ∷ more → P own x remainder → (y : B) × Q own y remainder) →
     Fails Q ts rest → Fails P ts rest
 lost_as P Q n ts others rest begins down l = record {
   front = l.front;
   joined = l.joined;
-  never = λ more own behind said st e p.
+  never = λ more own remainder said st e p.
       let alike : StartsAlike (n ∷ others) (l.front ++ more) = subst (λ m. StartsAlike m (l.front ++ more)) (sym l.joined ∙ begins)
-      (starts_behind l.front rest more st) in
-      let q = down own behind alike.0 said (sym e ∙ alike.1) p in
-      l.never more own behind q.0 st e q.1;
+      (starts_after l.front rest more st) in
+      let q = down own remainder alike.0 said (sym e ∙ alike.1) p in
+      l.never more own remainder q.0 st e q.1;
 }
 
 module _ {A B C : Type 0} (together : A → B → C) (P : Phrase A) (Q : Phrase B) where
@@ -54,9 +54,9 @@ module _ {A B C : Type 0} (together : A → B → C) (P : Phrase A) (Q : Phrase 
   lost_first ts rest l = record {
     front = l.front;
     joined = l.joined;
-    never = λ more own behind said st e t.
-        l.never more t.front (t.back ++ behind) t.one st
-        (e ∙ ap (λ m. m ++ behind) t.joined ∙ append_assoc t.front t.back behind) t.first;
+    never = λ more own remainder said st e t.
+        l.never more t.front (t.back ++ remainder) t.one st
+        (e ∙ ap (λ m. m ++ remainder) t.joined ∙ append_assoc t.front t.back remainder) t.first;
   }
 
   -- the first phrase parses, and the second fails
@@ -65,11 +65,11 @@ module _ {A B C : Type 0} (together : A → B → C) (P : Phrase A) (Q : Phrase 
   lost_second firm ts between rest x f l = record {
     front = f.front ++ l.front;
     joined = f.joined ∙ ap (λ m. f.front ++ m) l.joined ∙ sym (append_assoc f.front l.front rest);
-    never = λ more own behind said st e t.
-        let one = firm f.front t.front (l.front ++ rest) (l.front ++ more) (t.back ++ behind) x t.one
-        (subst (λ m. P f.front x m) l.joined f.whole) (starts_behind l.front rest more st) t.first
-        (sym (append_assoc f.front l.front more) ∙ e ∙ ap (λ m. m ++ behind) t.joined ∙ append_assoc t.front t.back behind) in
-        l.never more t.back behind t.other st one.rest t.second;
+    never = λ more own remainder said st e t.
+        let one = firm f.front t.front (l.front ++ rest) (l.front ++ more) (t.back ++ remainder) x t.one
+        (subst (λ m. P f.front x m) l.joined f.whole) (starts_after l.front rest more st) t.first
+        (sym (append_assoc f.front l.front more) ∙ e ∙ ap (λ m. m ++ remainder) t.joined ∙ append_assoc t.front t.back remainder) in
+        l.never more t.back remainder t.other st one.rest t.second;
   }
 
   -- if each phrase is unique, so are both together
@@ -79,7 +79,7 @@ module _ {A B C : Type 0} (together : A → B → C) (P : Phrase A) (Q : Phrase 
       sym (append_assoc t.front t.back more) ∙ sym (ap (λ m. m ++ more) t.joined) ∙ e ∙ ap (λ m. m ++ q) u.joined
       ∙ append_assoc u.front u.back q in
       let one = firm_p t.front u.front (t.back ++ r) (t.back ++ more) (u.back ++ q) t.one u.one t.first
-      (starts_behind t.back r more st) u.first e' in
+      (starts_after t.back r more st) u.first e' in
       let other = firm_q t.back u.back r more q t.other u.other t.second st u.second one.rest in
       record {
         tokens = (let i = t.joined in let j = u.joined in let k = one.tokens in let l = other.tokens in cc);
@@ -89,35 +89,35 @@ module _ {A B C : Type 0} (together : A → B → C) (P : Phrase A) (Q : Phrase 
 
 -- a phrase between two tokens, as one list of tokens
 pub record Between {A : Type 0} (opens closes : TokenKind) (P : Phrase A) (own : List Token) (said : A)
-    (behind : List Token) : Type 0 where
+    (remainder : List Token) : Type 0 where
   pub left : Token
   pub inner : List Token
   pub right : Token
   pub joined : own ≡ left ∷ inner ++ right ∷ []
   pub begins : IsOfKind left opens
-  pub within : P inner said (right ∷ behind)
+  pub within : P inner said (right ∷ remainder)
   pub ends : IsOfKind right closes
 
 -- the phrase between two tokens, taken apart
-pub between : {A : Type 0} (opens closes : TokenKind) (P : Phrase A) (own behind : List Token) (said : A) →
-    Followed (Preceded opens P) closes own said behind → Between opens closes P own said behind
-between opens closes P own behind said t = record {
+pub between : {A : Type 0} (opens closes : TokenKind) (P : Phrase A) (own remainder : List Token) (said : A) →
+    Followed (Preceded opens P) closes own said remainder → Between opens closes P own said remainder
+between opens closes P own remainder said t = record {
   left = t.first.one;
   inner = t.first.back;
   right = t.other;
   joined = t.joined ∙ ap (λ m. m ++ t.back) (t.first.joined ∙ ap (λ m. m ++ t.first.back) t.first.first.joined) ∙ ap
       (λ m. (t.first.one ∷ t.first.back) ++ m) t.second.joined;
   begins = t.first.first.is;
-  within = subst (λ x. P t.first.back x (t.other ∷ behind)) (sym (t.same ∙ t.first.same))
-      (subst (λ m. P t.first.back t.first.other (m ++ behind)) t.second.joined t.first.second);
+  within = subst (λ x. P t.first.back x (t.other ∷ remainder)) (sym (t.same ∙ t.first.same))
+      (subst (λ m. P t.first.back t.first.other (m ++ remainder)) t.second.joined t.first.second);
   ends = t.second.is;
 }
 
 -- the phrase between two tokens, put together
-pub as_between : {A : Type 0} (opens closes : TokenKind) (P : Phrase A) (left right : Token) (inner behind : List Token) (said : A) →
-    IsOfKind left opens → P inner said (right ∷ behind) → IsOfKind right closes → Followed (Preceded opens P) closes
-    (left ∷ inner ++ right ∷ []) said behind
-as_between opens closes P left right inner behind said i p j = record {
+pub as_between : {A : Type 0} (opens closes : TokenKind) (P : Phrase A) (left right : Token) (inner remainder : List Token) (said : A) →
+    IsOfKind left opens → P inner said (right ∷ remainder) → IsOfKind right closes → Followed (Preceded opens P) closes
+    (left ∷ inner ++ right ∷ []) said remainder
+as_between opens closes P left right inner remainder said i p j = record {
   front = left ∷ inner;
   back = right ∷ [];
   one = said;

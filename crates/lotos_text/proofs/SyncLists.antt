@@ -13,7 +13,7 @@ use Rattle.lotos_text.specs.declared.token.Token.{Token}
 use Rattle.lotos_text.specs.declared.token.TokenKind.{TokenKind}
 use Rattle.lotos_text.specs.declared.token.TokenKind.TheVariants.{Identifier, Reserved, Sign}
 use Rattle.lotos_text.specs.declared.ast.Placed.{Placed}
-use Rattle.lotos_text.proofs.FirstToken.{head_same, tail_same, apart, is_first, not_first, starts_not, starts_behind}
+use Rattle.lotos_text.proofs.FirstToken.{head_same, tail_same, apart, is_first, not_first, starts_not, starts_after}
 use Rattle.lotos_text.proofs.NameLists.{firm_names}
 use Rattle.lotos_text.proofs.OneToken.{found_before, lost_unclosed, lost_within, firm_before}
 
@@ -63,29 +63,29 @@ module _ (text : List ℕ) where
     whole = record { operates = of_list i f.whole };
   }
     where
-      of_list : {n : Token} {own behind : List Token} {names : List Placed} → IsOfKind n (Sign s.LeftSync) →
-          SyncList text own names behind → IsOperator text parallel (n ∷ own) (synchronizes (t.gates names))
+      of_list : {n : Token} {own remainder : List Token} {names : List Placed} → IsOfKind n (Sign s.LeftSync) →
+          SyncList text own names remainder → IsOperator text parallel (n ∷ own) (synchronizes (t.gates names))
       of_list i (no_sync j k) = sync_on_none i j k
       of_list i (some_sync d j k) = sync_on i d j k
 
   -- what follows the `|[` of an operator
-  record Listed (more behind : List Token) : Type 0 where
+  record Listed (more remainder : List Token) : Type 0 where
     pub own : List Token
     pub names : List Placed
-    pub joined : more ≡ own ++ behind
-    pub list : SyncList text own names behind
+    pub joined : more ≡ own ++ remainder
+    pub list : SyncList text own names remainder
 
-  listed : {n : Token} {own more : List Token} {how : Operator} (behind : List Token) → IsOfKind n (Sign s.LeftSync) →
-      IsOperator text parallel own how → n ∷ more ≡ own ++ behind → Listed more behind
-  listed behind i (interleave_sign j) e = absurd (apart i j (head_same e) (λ e. cc))
-  listed behind i (full_sign j) e = absurd (apart i j (head_same e) (λ e. cc))
-  listed behind i (sync_on_none {right = right} {bar = bar} j k l) e = record {
+  listed : {n : Token} {own more : List Token} {how : Operator} (remainder : List Token) → IsOfKind n (Sign s.LeftSync) →
+      IsOperator text parallel own how → n ∷ more ≡ own ++ remainder → Listed more remainder
+  listed remainder i (interleave_sign j) e = absurd (apart i j (head_same e) (λ e. cc))
+  listed remainder i (full_sign j) e = absurd (apart i j (head_same e) (λ e. cc))
+  listed remainder i (sync_on_none {right = right} {bar = bar} j k l) e = record {
     own = right ∷ bar ∷ [];
     names = [];
     joined = tail_same e;
     list = no_sync k l;
   }
-  listed behind i (sync_on {right = right} {bar = bar} {ts = ts} {names = names} j d k l) e = record {
+  listed remainder i (sync_on {right = right} {bar = bar} {ts = ts} {names = names} j d k l) e = record {
     own = ts ++ right ∷ bar ∷ [];
     names = names;
     joined = tail_same e;
@@ -98,9 +98,9 @@ module _ (text : List ℕ) where
   lost_sync n ts rest i l = record {
     front = n ∷ l.front;
     joined = ap (λ m. n ∷ m) l.joined;
-    never = λ more own behind how st e p.
-        let b = listed behind i p.operates e in
-        l.never more b.own behind b.names st b.joined b.list;
+    never = λ more own remainder how st e p.
+        let b = listed remainder i p.operates e in
+        l.never more b.own remainder b.names st b.joined b.list;
   }
 
   -- the list itself
@@ -124,10 +124,10 @@ module _ (text : List ℕ) where
     whole = some_sync f.whole.names i j;
   }
 
-  names_begin : {n : Token} {own more : List Token} {names : List Placed} (behind : List Token) → Names text own names →
-      IsOfKind n (Sign s.RightBracket) → n ∷ more ≡ own ++ behind → ⊥
-  names_begin behind (one_name j) i e = apart i j (head_same e) (λ e. cc)
-  names_begin behind (more_names j k d) i e = apart i j (head_same e) (λ e. cc)
+  names_begin : {n : Token} {own more : List Token} {names : List Placed} (remainder : List Token) → Names text own names →
+      IsOfKind n (Sign s.RightBracket) → n ∷ more ≡ own ++ remainder → ⊥
+  names_begin remainder (one_name j) i e = apart i j (head_same e) (λ e. cc)
+  names_begin remainder (more_names j k d) i e = apart i j (head_same e) (λ e. cc)
 
   -- if `|` fails after `]`, so does the list
   pub lost_no_bar : (ts between rest : List Token) (right : Token) → ts ≡ right ∷ between → IsOfKind right (Sign s.RightBracket) →
@@ -135,18 +135,18 @@ module _ (text : List ℕ) where
   lost_no_bar ts between rest right e i l = record {
     front = right ∷ l.front;
     joined = e ∙ ap (λ m. right ∷ m) l.joined;
-    never = λ more own behind names st g p.
+    never = λ more own remainder names st g p.
         never right (l.front ++ more) i
         (λ bar ms h j. l.never more (bar ∷ []) ms bar st h (record { joined = refl; is = j })) g p;
   }
     where
-      never : (right : Token) (more : List Token) {own behind : List Token} {names : List Placed} →
+      never : (right : Token) (more : List Token) {own remainder : List Token} {names : List Placed} →
           IsOfKind right (Sign s.RightBracket) →
-          ((bar : Token) (ms : List Token) → more ≡ bar ∷ ms → IsOfKind bar (Sign s.Bar) → ⊥) → right ∷ more ≡ own ++ behind →
-          SyncList text own names behind → ⊥
-      never right more i none e (no_sync {bar = bar} {rest = behind} j k) = none bar behind (tail_same e) k
-      never right more i none e (some_sync {right = other} {bar = bar} {ts = ts} {rest = behind} d j k) =
-          names_begin (other ∷ bar ∷ behind) d i (e ∙ append_assoc ts (other ∷ bar ∷ []) behind)
+          ((bar : Token) (ms : List Token) → more ≡ bar ∷ ms → IsOfKind bar (Sign s.Bar) → ⊥) → right ∷ more ≡ own ++ remainder →
+          SyncList text own names remainder → ⊥
+      never right more i none e (no_sync {bar = bar} {rest = remainder} j k) = none bar remainder (tail_same e) k
+      never right more i none e (some_sync {right = other} {bar = bar} {ts = ts} {rest = remainder} d j k) =
+          names_begin (other ∷ bar ∷ remainder) d i (e ∙ append_assoc ts (other ∷ bar ∷ []) remainder)
 
   -- the three parts of a list that is not empty
 
@@ -160,20 +160,20 @@ module _ (text : List ℕ) where
   lost_barred ts rest without l = record {
     front = l.front;
     joined = l.joined;
-    never = λ more own behind names st g p.
+    never = λ more own remainder names st g p.
         let alike : StartsAlike ts (l.front ++ more) =
-        subst (λ m. StartsAlike m (l.front ++ more)) (sym l.joined) (starts_behind l.front rest more st) in
+        subst (λ m. StartsAlike m (l.front ++ more)) (sym l.joined) (starts_after l.front rest more st) in
         never (l.front ++ more) (starts_not _ ts (l.front ++ more) alike without)
-        (λ own behind names h b. l.never more own behind names st h b) g p;
+        (λ own remainder names h b. l.never more own remainder names st h b) g p;
   }
     where
-      never : (more : List Token) {own behind : List Token} {names : List Placed} → DoesNotStartWith (Sign s.RightBracket) more →
-          ((own behind : List Token) (names : List Placed) → more ≡ own ++ behind → Barred own names behind → ⊥) →
-          more ≡ own ++ behind → SyncList text own names behind → ⊥
-      never more without none e (no_sync {right = right} {bar = bar} {rest = behind} j k) =
-          not_first _ more (bar ∷ behind) without j e
-      never more without none e (some_sync {right = right} {bar = bar} {ts = ts} {rest = behind} {names = names} d j k) =
-          none (ts ++ right ∷ bar ∷ []) behind names e (record {
+      never : (more : List Token) {own remainder : List Token} {names : List Placed} → DoesNotStartWith (Sign s.RightBracket) more →
+          ((own remainder : List Token) (names : List Placed) → more ≡ own ++ remainder → Barred own names remainder → ⊥) →
+          more ≡ own ++ remainder → SyncList text own names remainder → ⊥
+      never more without none e (no_sync {right = right} {bar = bar} {rest = remainder} j k) =
+          not_first _ more (bar ∷ remainder) without j e
+      never more without none e (some_sync {right = right} {bar = bar} {ts = ts} {rest = remainder} {names = names} d j k) =
+          none (ts ++ right ∷ bar ∷ []) remainder names e (record {
             front = ts ++ right ∷ [];
             back = bar ∷ [];
             one = names;

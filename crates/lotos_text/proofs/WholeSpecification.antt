@@ -3,14 +3,14 @@ use Rattle.std.proofs.Common.{◌≡◌, ℕ, List, [], ◌∷◌, ◌++◌, Som
 use Rattle.std.proofs.lemmas.List.{append-nil}
 use Rattle.lotos_text.specs.Grammar.{IsOfKind, a_specification, SpellsSpecification}
 use Rattle.lotos_text.specs.ParserContracts.{Phrase, NestingLimit, IsNestingWithin, Parses, Fails}
-use Rattle.lotos_text.specs.Phrases.{OneToken, EndOfInput, DefinitionRest, ProcessDefinition, SpecificationPhrase}
+use Rattle.lotos_text.specs.Phrases.{OneToken, EndOfInput, DefinitionRest, CompleteDefinition, SpecificationPhrase}
 use Rattle.lotos_text.specs.AstView.{DefinitionView}
 use Rattle.lotos_text.specs.declared.token.Token.{Token}
 use Rattle.lotos_text.specs.declared.token.TokenKind.TheVariants.{Reserved}
 use Rattle.lotos_text.specs.declared.token.Word.TheVariants as w
 use Rattle.lotos_text.proofs.Definitions.{firm_definition, as_definition, from_definition}
 use Rattle.lotos_text.proofs.PhraseUniqueness.{lost_after}
-use Rattle.lotos_text.proofs.OneToken.{found_behind, lost_before, lost_behind, found_nothing}
+use Rattle.lotos_text.proofs.OneToken.{found_preceded, lost_before, lost_preceded, found_nothing}
 use Rattle.lotos_text.proofs.Sequences.{found_then, lost_first}
 use Rattle.lotos_text.proofs.ParseErrors.{Carries}
 
@@ -19,14 +19,14 @@ closed whole end = whole
 
 module _ (text : List ℕ) where
   abbrev Specification : NestingLimit → Phrase DefinitionView
-  Specification = ProcessDefinition text a_specification
+  Specification = CompleteDefinition text a_specification
 
   -- the first keyword and the rest of the definition, with nothing after them, are the specification
   pub found_whole : (limit : NestingLimit) (ts after rest : List Token) (n : Token) (whole : DefinitionView) → ts ≡ n ∷ after →
       IsOfKind n (Reserved w.SpecificationWord) → Parses (DefinitionRest text a_specification limit) after whole rest → rest ≡ [] →
       Parses (SpecificationPhrase text limit) ts whole []
   found_whole limit ts after rest n whole e i f h = found_then closed (Specification limit) EndOfInput ts rest [] whole tt whole
-      (found_behind _ (DefinitionRest text a_specification limit) ts after rest n whole e i f)
+      (found_preceded _ (DefinitionRest text a_specification limit) ts after rest n whole e i f)
       (subst (λ m. Parses EndOfInput m tt []) (sym h) found_nothing) refl
 
   -- if the first word fails, so does the whole
@@ -39,14 +39,14 @@ module _ (text : List ℕ) where
       IsOfKind n (Reserved w.SpecificationWord) →
       Fails (DefinitionRest text a_specification limit) after rest → Fails (SpecificationPhrase text limit) ts rest
   lost_contents limit ts after rest n e i l = lost_first closed (Specification limit) EndOfInput ts rest
-      (lost_behind _ (DefinitionRest text a_specification limit) ts after rest n e i l)
+      (lost_preceded _ (DefinitionRest text a_specification limit) ts after rest n e i l)
 
   -- an error inside the definition is an error of the specification
-  pub carries_contents : (room : ℕ) (ts after : List Token) (n : Token) → ts ≡ n ∷ after → IsOfKind n (Reserved w.SpecificationWord) →
-      Carries (DefinitionRest text a_specification) room after (SpecificationPhrase text) room ts
-  carries_contents room ts after n e i = record {
+  pub carries_contents : (nesting_left : ℕ) (ts after : List Token) (n : Token) → ts ≡ n ∷ after → IsOfKind n (Reserved w.SpecificationWord) →
+      Carries (DefinitionRest text a_specification) nesting_left after (SpecificationPhrase text) nesting_left ts
+  carries_contents nesting_left ts after n e i = record {
     free = λ rest l. lost_contents None ts after rest n e i l;
-    limited = λ rest l. lost_contents (Some room) ts after rest n e i l;
+    limited = λ rest l. lost_contents (Some nesting_left) ts after rest n e i l;
     before = n ∷ [];
     joined = e;
     crowds = omega arith;
@@ -58,7 +58,7 @@ module _ (text : List ℕ) where
       Fails EndOfInput between rest → Fails (SpecificationPhrase text limit) ts rest
   lost_more found limit ts after between rest n whole e i f l = lost_after closed Specification EndOfInput found limit
       (firm_definition text a_specification) ts between rest whole
-      (found_behind _ (DefinitionRest text a_specification found) ts after between n whole e i f) l
+      (found_preceded _ (DefinitionRest text a_specification found) ts after between n whole e i f) l
 
   -- each spelling of a specification whose nesting is within the limit is the whole
   pub as_whole : {n : ℕ} (limit : NestingLimit) (ts : List Token) (whole : DefinitionView) → SpellsSpecification text n ts whole → IsNestingWithin limit n →

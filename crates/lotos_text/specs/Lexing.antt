@@ -140,7 +140,7 @@ pub record FailsAtByte (text : List ℕ) (at : ℕ) : Type 0 where
   pub byte : ℕ
   pub rest : List ℕ
   pub lexes : LexesTo 0 text before at (byte ∷ rest)
-  pub strange : NoLexemeAt byte rest
+  pub no_lexeme : NoLexemeAt byte rest
 
 -- the bytes before the offset lex, and a comment that is not closed opens there
 pub record FailsAtComment (text : List ℕ) (at : ℕ) : Type 0 where

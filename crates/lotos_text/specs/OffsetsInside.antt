@@ -1,11 +1,22 @@
 -- Offsets inside a text of `n` bytes, or at its end.
-use Rattle.std.specs.Prelude.{ℕ, ◌≤◌, List}
+use Rattle.std.specs.Prelude.{ℕ, ◌≤◌, List, Option, Some, None}
 use Rattle.std.specs.List.{AllByRecursion}
 use Rattle.lotos_text.specs.AstView.{BehaviourView, SyncView, gates, all, stop, exit, prefix, choice, par, hide, enable, disable, call, DefinitionView, def, DefinitionListView, no_defs, more_defs}
 use Rattle.lotos_text.specs.declared.ast.Placed.{Placed}
 use Rattle.lotos_text.specs.declared.fault.TextFault.{TextFault}
 use Rattle.lotos_text.specs.declared.fault.TextFault.TheVariants.{E01, E02, E03, E04, E05, E06, E07, E99}
 use Rattle.lotos_text.specs.declared.ast.Action.TheVariants.{Internal, Gate}
+
+-- the offset of the fault; E03 and E99 have none
+abbrev pub text_offset : TextFault → Option ℕ
+text_offset (E01 at) = Some at
+text_offset (E02 at) = Some at
+text_offset E03 = None
+text_offset (E04 at) = Some at
+text_offset (E05 at) = Some at
+text_offset (E06 at) = Some at
+text_offset (E07 at) = Some at
+text_offset (E99 e) = None
 
 -- the offset of the fault is inside, if it has one
 abbrev pub IsFaultInside : ℕ → TextFault → Type 0

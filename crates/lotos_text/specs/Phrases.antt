@@ -128,9 +128,9 @@ DefinitionRest text what limit =
     (closing_word what)
 
 -- a complete definition
-abbrev pub ProcessDefinition : List ℕ → DefinitionKind → NestingLimit → Phrase DefinitionView
-ProcessDefinition text what limit = Preceded (opening_word what) (DefinitionRest text what limit)
+abbrev pub CompleteDefinition : List ℕ → DefinitionKind → NestingLimit → Phrase DefinitionView
+CompleteDefinition text what limit = Preceded (opening_word what) (DefinitionRest text what limit)
 
 -- a complete specification, and then the end of the input
 abbrev pub SpecificationPhrase : List ℕ → NestingLimit → Phrase DefinitionView
-SpecificationPhrase text limit = Sequence (λ whole end. whole) (ProcessDefinition text a_specification limit) EndOfInput
+SpecificationPhrase text limit = Sequence (λ whole end. whole) (CompleteDefinition text a_specification limit) EndOfInput

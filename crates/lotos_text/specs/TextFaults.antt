@@ -25,7 +25,7 @@ pub record IsOffsetOfToken (text : List ℕ) (at : ℕ) (before : List Token) (t
   pub after : List Token
   pub short : length text ≤ max_text_length
   pub lexes : Lexes text (before ++ token ∷ after)
-  pub place : token.at ≡ at
+  pub offset : token.at ≡ at
 
 -- the tokens up to and including the one at the offset begin no specification, and that one is no keyword of full LOTOS
 pub record IsE04 (text : List ℕ) (at : ℕ) : Type 0 where
@@ -50,7 +50,7 @@ pub record IsE06 (text : List ℕ) (at : ℕ) : Type 0 where
   pub tokens : List Token
   pub short : length text ≤ max_text_length
   pub lexes : Lexes text tokens
-  pub place : at ≡ length text
+  pub offset : at ≡ length text
   pub never : (nesting : ℕ) (whole : DefinitionView) → SpellsSpecification text nesting tokens whole → ⊥
 
 -- the tokens up to and including the one at the offset begin no specification, and that one is a keyword of full LOTOS

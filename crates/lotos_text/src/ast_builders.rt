@@ -17,47 +17,50 @@ pub(crate) enum BinaryOperator {
     Choose,
 }
 
+/// Puts a behaviour expression on the heap.
+pub(crate) fn box_behaviour(
+    alloc: Global,
+    behaviour: Behaviour,
+) -> Result<Box<Behaviour>, AllocError>
+    ensures { IfOk result (λ b. b.value ≡ behaviour) }
+{
+    Ok(Box::new(alloc, behaviour)?)
+}
+
 pub(crate) fn apply_operator(
     alloc: Global,
     how: BinaryOperator,
-    left: Behaviour,
-    right: Behaviour,
-) -> Result<Behaviour, AllocError>
-    ensures { IfOk result
-        (λ b. behaviour_view b ≡ apply (operator_view how) (behaviour_view left) (behaviour_view right)) }
+    left: Box<Behaviour>,
+    right: Box<Behaviour>,
+) -> Result<Box<Behaviour>, AllocError>
+    ensures { IfOk result (λ b. behaviour_view b.value ≡
+        apply (operator_view how) (behaviour_view left.value) (behaviour_view right.value)) }
 {
-    let left = Box::new(alloc, left)?;
-    let right = Box::new(alloc, right)?;
-    Ok(match how {
+    let whole = match how {
         BinaryOperator::Enable(at) => Behaviour::Enable { left, at, right },
         BinaryOperator::Disable => Behaviour::Disable { left, right },
         BinaryOperator::Synchronize(sync) => Behaviour::Par { left, sync, right },
         BinaryOperator::Choose => Behaviour::Choice { left, right },
-    })
+    };
+    box_behaviour(alloc, whole)
 }
 
 pub(crate) fn make_prefix(
     alloc: Global,
     action: Action,
-    body: Behaviour,
-) -> Result<Behaviour, AllocError>
-    ensures { IfOk result (λ b. behaviour_view b ≡ view.prefix action (behaviour_view body)) }
+    body: Box<Behaviour>,
+) -> Result<Box<Behaviour>, AllocError>
+    ensures { IfOk result (λ b. behaviour_view b.value ≡ view.prefix action (behaviour_view body.value)) }
 {
-    Ok(Behaviour::Prefix {
-        action,
-        body: Box::new(alloc, body)?,
-    })
+    box_behaviour(alloc, Behaviour::Prefix { action, body })
 }
 
 pub(crate) fn make_hide(
     alloc: Global,
     gates: Vec<Placed>,
-    body: Behaviour,
-) -> Result<Behaviour, AllocError>
-    ensures { IfOk result (λ b. behaviour_view b ≡ view.hide gates.items (behaviour_view body)) }
+    body: Box<Behaviour>,
+) -> Result<Box<Behaviour>, AllocError>
+    ensures { IfOk result (λ b. behaviour_view b.value ≡ view.hide gates.items (behaviour_view body.value)) }
 {
-    Ok(Behaviour::Hide {
-        gates,
-        body: Box::new(alloc, body)?,
-    })
+    box_behaviour(alloc, Behaviour::Hide { gates, body })
 }

@@ -15,7 +15,7 @@ ghost use Rattle.lotos_text.specs.declared.token.Sign.TheVariants.{LeftParenthes
 ghost use Rattle.lotos_text.specs.declared.token.Word.TheVariants.{HideWord, IWord};
 
 use crate::ast::{Action, Behaviour, Placed};
-use crate::ast_builders::{apply_operator, make_hide, make_prefix};
+use crate::ast_builders::{apply_operator, box_behaviour, make_hide, make_prefix};
 use crate::operators::{Level, next_tighter, operator_at, parse_operator};
 use crate::parse_primitives::{
     ParseError, eat, expect, locate_name, parse_gate_list, parse_names, split_first_token,
@@ -31,11 +31,11 @@ pub(crate) fn parse_behaviour<'a>(
     nesting_left: usize,
     level: Level,
     tokens: &'a [Token],
-) -> Result<(Behaviour, &'a [Token]), ParseError<'a>>
+) -> Result<(Box<Behaviour>, &'a [Token]), ParseError<'a>>
     requires { AreTokensIn text.now tokens.now }
     ensures parses { IfOk result
         (λ p. Parses (BehaviourPhrase text.now (level_view level) (Some nesting_left))
-        tokens.now (behaviour_view p.0) p.1.now) }
+        tokens.now (behaviour_view p.0.value) p.1.now) }
     ensures rest { IfOk result (λ p. AreTokensIn text.now p.1.now) }
     ensures shorter { IfOk result (λ p. length p.1.now < length tokens.now) }
     ensures fails { IfErr result
@@ -55,12 +55,12 @@ fn parse_hide<'a>(
     nesting_left: usize,
     first: Token,
     tokens: &'a [Token],
-) -> Result<(Behaviour, &'a [Token]), ParseError<'a>>
+) -> Result<(Box<Behaviour>, &'a [Token]), ParseError<'a>>
     requires opens { IsOfKind first (Reserved HideWord) }
     requires in_text { AreTokensIn text.now tokens.now }
     ensures parses { IfOk result (λ p. (level : AnyLevel) →
         Parses (BehaviourPhrase text.now level (Some nesting_left))
-        (first ∷ tokens.now) (behaviour_view p.0) p.1.now) }
+        (first ∷ tokens.now) (behaviour_view p.0.value) p.1.now) }
     ensures rest { IfOk result (λ p. AreTokensIn text.now p.1.now) }
     ensures shorter { IfOk result (λ p. length p.1.now < length tokens.now) }
     ensures fails { IfErr result (λ stop. (level : AnyLevel) →
@@ -84,12 +84,12 @@ fn parse_level<'a>(
     nesting_left: usize,
     level: Level,
     tokens: &'a [Token],
-) -> Result<(Behaviour, &'a [Token]), ParseError<'a>>
+) -> Result<(Box<Behaviour>, &'a [Token]), ParseError<'a>>
     requires no_hide { DoesNotStartWith (Reserved HideWord) tokens.now }
     requires in_text { AreTokensIn text.now tokens.now }
     ensures parses { IfOk result
         (λ p. Parses (BehaviourPhrase text.now (level_view level) (Some nesting_left))
-        tokens.now (behaviour_view p.0) p.1.now) }
+        tokens.now (behaviour_view p.0.value) p.1.now) }
     ensures rest { IfOk result (λ p. AreTokensIn text.now p.1.now) }
     ensures shorter { IfOk result (λ p. length p.1.now < length tokens.now) }
     ensures fails { IfErr result
@@ -111,13 +111,13 @@ fn parse_operation<'a>(
     level: Level,
     below: Level,
     tokens: &'a [Token],
-) -> Result<(Behaviour, &'a [Token]), ParseError<'a>>
+) -> Result<(Box<Behaviour>, &'a [Token]), ParseError<'a>>
     requires below { BindsTighter (level_view level) (level_view below) }
     requires no_hide { DoesNotStartWith (Reserved HideWord) tokens.now }
     requires in_text { AreTokensIn text.now tokens.now }
     ensures parses { IfOk result
         (λ p. Parses (BehaviourPhrase text.now (level_view level) (Some nesting_left))
-        tokens.now (behaviour_view p.0) p.1.now) }
+        tokens.now (behaviour_view p.0.value) p.1.now) }
     ensures rest { IfOk result (λ p. AreTokensIn text.now p.1.now) }
     ensures shorter { IfOk result (λ p. length p.1.now < length tokens.now) }
     ensures fails { IfErr result
@@ -143,12 +143,12 @@ fn parse_operand<'a>(
     text: &[u8],
     nesting_left: usize,
     tokens: &'a [Token],
-) -> Result<(Behaviour, &'a [Token]), ParseError<'a>>
+) -> Result<(Box<Behaviour>, &'a [Token]), ParseError<'a>>
     requires no_hide { DoesNotStartWith (Reserved HideWord) tokens.now }
     requires in_text { AreTokensIn text.now tokens.now }
     ensures parses { IfOk result
         (λ p. Parses (BehaviourPhrase text.now prefixing (Some nesting_left))
-        tokens.now (behaviour_view p.0) p.1.now) }
+        tokens.now (behaviour_view p.0.value) p.1.now) }
     ensures rest { IfOk result (λ p. AreTokensIn text.now p.1.now) }
     ensures shorter { IfOk result (λ p. length p.1.now < length tokens.now) }
     ensures fails { IfErr result (FailsWithin (BehaviourPhrase text.now prefixing) nesting_left tokens.now) }
@@ -159,11 +159,13 @@ fn parse_operand<'a>(
     match operand_start(first.kind) {
         OperandStart::Stop => {
             expect_operand_end(rest)?;
-            Ok((Behaviour::Stop, rest))
+            let whole = box_behaviour(alloc, Behaviour::Stop)?;
+            Ok((whole, rest))
         }
         OperandStart::Exit => {
             expect_operand_end(rest)?;
-            Ok((Behaviour::Exit, rest))
+            let whole = box_behaviour(alloc, Behaviour::Exit)?;
+            Ok((whole, rest))
         }
         OperandStart::Parenthesis => parse_parenthesized(alloc, text, nesting_left, first, rest),
         OperandStart::Internal => parse_prefix(
@@ -187,12 +189,12 @@ fn parse_parenthesized<'a>(
     nesting_left: usize,
     first: Token,
     tokens: &'a [Token],
-) -> Result<(Behaviour, &'a [Token]), ParseError<'a>>
+) -> Result<(Box<Behaviour>, &'a [Token]), ParseError<'a>>
     requires opens { IsOfKind first (of_sign LeftParenthesis) }
     requires in_text { AreTokensIn text.now tokens.now }
     ensures parses { IfOk result
         (λ p. Parses (BehaviourPhrase text.now prefixing (Some nesting_left))
-        (first ∷ tokens.now) (behaviour_view p.0) p.1.now) }
+        (first ∷ tokens.now) (behaviour_view p.0.value) p.1.now) }
     ensures rest { IfOk result (λ p. AreTokensIn text.now p.1.now) }
     ensures shorter { IfOk result (λ p. length p.1.now < length tokens.now) }
     ensures fails { IfErr result
@@ -215,13 +217,13 @@ fn parse_named<'a>(
     nesting_left: usize,
     first: Token,
     tokens: &'a [Token],
-) -> Result<(Behaviour, &'a [Token]), ParseError<'a>>
+) -> Result<(Box<Behaviour>, &'a [Token]), ParseError<'a>>
     requires named { IsOfKind first Identifier }
     requires token_in_text { IsTokenIn text.now first }
     requires in_text { AreTokensIn text.now tokens.now }
     ensures parses { IfOk result
         (λ p. Parses (BehaviourPhrase text.now prefixing (Some nesting_left))
-        (first ∷ tokens.now) (behaviour_view p.0) p.1.now) }
+        (first ∷ tokens.now) (behaviour_view p.0.value) p.1.now) }
     ensures rest { IfOk result (λ p. AreTokensIn text.now p.1.now) }
     ensures shorter { IfOk result (λ p. length p.1.now ≤ length tokens.now) }
     ensures fails { IfErr result
@@ -243,13 +245,13 @@ fn parse_prefix<'a>(
     first: Token,
     action: Action,
     tokens: &'a [Token],
-) -> Result<(Behaviour, &'a [Token]), ParseError<'a>>
+) -> Result<(Box<Behaviour>, &'a [Token]), ParseError<'a>>
     requires acts { IsAction text.now first action }
     requires begins { DoesNotStartWith (of_sign Semicolon) tokens.now → IsOfKind first (Reserved IWord) }
     requires in_text { AreTokensIn text.now tokens.now }
     ensures parses { IfOk result
         (λ p. Parses (BehaviourPhrase text.now prefixing (Some nesting_left))
-        (first ∷ tokens.now) (behaviour_view p.0) p.1.now) }
+        (first ∷ tokens.now) (behaviour_view p.0.value) p.1.now) }
     ensures rest { IfOk result (λ p. AreTokensIn text.now p.1.now) }
     ensures shorter { IfOk result (λ p. length p.1.now < length tokens.now) }
     ensures fails { IfErr result
@@ -271,7 +273,7 @@ fn parse_call<'a>(
     first: Token,
     name: Placed,
     tokens: &'a [Token],
-) -> Result<(Behaviour, &'a [Token]), ParseError<'a>>
+) -> Result<(Box<Behaviour>, &'a [Token]), ParseError<'a>>
     requires named { IsOfKind first Identifier }
     requires placed { name ≡ located_name text.now first }
     requires calls { DoesNotStartWith (of_sign Semicolon) tokens.now }
@@ -279,7 +281,7 @@ fn parse_call<'a>(
     ensures parses { IfOk result
         (λ p. (nesting_left : ℕ) →
         Parses (BehaviourPhrase text.now prefixing (Some nesting_left))
-        (first ∷ tokens.now) (behaviour_view p.0) p.1.now) }
+        (first ∷ tokens.now) (behaviour_view p.0.value) p.1.now) }
     ensures rest { IfOk result (λ p. AreTokensIn text.now p.1.now) }
     ensures shorter { IfOk result (λ p. length p.1.now ≤ length tokens.now) }
     ensures fails { IfErr result
@@ -287,7 +289,8 @@ fn parse_call<'a>(
 {
     let (gates, rest) = parse_gate_list(alloc, text, tokens)?;
     expect_operand_end(rest)?;
-    Ok((Behaviour::Call { name, gates }, rest))
+    let whole = box_behaviour(alloc, Behaviour::Call { name, gates })?;
+    Ok((whole, rest))
 }
 
 /// Succeeds if the operand before the tokens ends there: neither `[` nor `;` may follow one.

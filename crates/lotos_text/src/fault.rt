@@ -1,5 +1,6 @@
 //! Why a text spells no specification.
 ghost use Rattle.std.specs.Prelude.{◌≡◌, alloc_error};
+ghost use Rattle.lotos_text.specs.OffsetsInside.{text_offset};
 ghost use Rattle.lotos_text.specs.declared.fault.TextFault.TheVariants.{E99};
 
 use std::alloc::{AllocError, AllocFailed};
@@ -32,6 +33,23 @@ pub enum TextFault {
     /// Out of memory.
     #[error("E99 out of memory")]
     E99(AllocError),
+}
+
+impl TextFault {
+    /// The offset of the fault, in bytes from the start of the text; `None` for E03 and E99.
+    pub fn at(&self) -> Option<usize>
+        ensures { result ≡ text_offset self.now }
+    {
+        match self {
+            TextFault::E01(at)
+            | TextFault::E02(at)
+            | TextFault::E04(at)
+            | TextFault::E05(at)
+            | TextFault::E06(at)
+            | TextFault::E07(at) => Some(*at),
+            TextFault::E03 | TextFault::E99(_) => None,
+        }
+    }
 }
 
 impl From<AllocError> for TextFault {

@@ -8,7 +8,7 @@ ghost use Rattle.lotos_text.specs.declared.token.Token.{Token};
 /// A text lexes to at most one list of tokens, or fails at one offset at most, and never both.
 pub fn tokens_are_unique()
     ensures lexes { (text : List ℕ) (ts us : List Token) → Lexes text ts → Lexes text us → ts ≡ us }
-    ensures place { (text : List ℕ) (at other : ℕ) → LexingFailsAt text at → LexingFailsAt text other →
+    ensures offset { (text : List ℕ) (at other : ℕ) → LexingFailsAt text at → LexingFailsAt text other →
         at ≡ other }
     ensures whole { (text : List ℕ) (ts : List Token) (at : ℕ) → Lexes text ts → LexingFailsAt text at → ⊥ }
 {}

@@ -73,11 +73,11 @@ pub(crate) fn parse_names<'a>(
     let mut found = Vec::new(alloc);
     let mut rest = tokens;
     loop {
-        let (first, behind) = expect(rest, TokenKind::Identifier)?;
+        let (first, remainder) = expect(rest, TokenKind::Identifier)?;
         let name = locate_name(alloc, text, first)?;
         found.push(name)?;
-        let Some((_, after)) = eat(behind, TokenKind::Sign(Sign::Comma)) else {
-            return Ok((found, behind));
+        let Some((_, after)) = eat(remainder, TokenKind::Sign(Sign::Comma)) else {
+            return Ok((found, remainder));
         };
         rest = after;
     }

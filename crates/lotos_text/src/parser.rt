@@ -39,10 +39,10 @@ pub fn parse(alloc: Global, text: &[u8]) -> Result<Specification, TextFault>
     ensures spelled { IfOk result (λ found. Spelled text.now (definition_view found.whole)) }
     ensures only { IfOk result (λ found. (other : DefinitionView) → Spelled text.now other →
         other ≡ definition_view found.whole) }
-    ensures refused { IfErr result (IsFaultOfText text.now) }
+    ensures fault { IfErr result (IsFaultOfText text.now) }
     ensures nothing { IfErr result (SpellsNoSpecification text.now) }
     ensures fault_inside { IfErr result (IsFaultInside (length text.now)) }
-    ensures tree_inside { IfOk result
+    ensures ast_inside { IfOk result
         (λ found. IsInside (length text.now) (definition_view found.whole)) }
 {
     let cut = tokens(alloc, text)?;
@@ -142,7 +142,7 @@ fn parse_definition_rest<'a>(
         name: heading.name,
         formals: heading.formals,
         functionality: heading.functionality,
-        body,
+        body: Box::into_inner(body),
         inner,
     };
     Ok((whole, rest))
@@ -227,7 +227,7 @@ fn parse_definitions<'a>(
         if nesting_left == 0 {
             return Err(ParseError::TooDeep(word));
         }
-        let (one, behind) = parse_definition_rest(
+        let (one, remainder) = parse_definition_rest(
             alloc,
             text,
             nesting_left - 1,
@@ -235,9 +235,9 @@ fn parse_definitions<'a>(
             after,
         )?;
         found.push(one)?;
-        let Some(_) = eat(behind, TokenKind::Reserved(Word::ProcessWord)) else {
-            return Ok((found, behind));
+        let Some(_) = eat(remainder, TokenKind::Reserved(Word::ProcessWord)) else {
+            return Ok((found, remainder));
         };
-        rest = behind;
+        rest = remainder;
     }
 }

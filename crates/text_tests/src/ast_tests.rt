@@ -1,77 +1,12 @@
 //! Texts that spell a specification, and what they spell.
-use super::table_texts::{FRONT, write_behaviour, write_definition};
-use lotos_text::{Definition, Functionality, TextFault, parse};
+use super::table_texts::{FRONT, definition_text, joined};
+use lotos_text::TextFault;
 use std::alloc::Global;
+use std::process::Abort;
 use std::test::Fail;
 
-/// The specification that a text spells.
-fn definition(alloc: Global, text: &[u8]) -> Result<Definition, TextFault> {
-    let tree = parse(alloc, text)?;
-    Ok(tree.whole)
-}
-
-#[test]
-fn reads_every_field(rt: HostRuntime) -> Result<(), Fail> {
-    let text = b"specification S [a,b] : exit behaviour a; b; exit endspec";
-    let whole = definition(rt.alloc(), text)?;
-
-    assert_eq!(rt;
-        (whole.name.name.text(), whole.name.at),
-        ("S", 14),
-        "the name"
-    );
-    assert_eq!(rt;
-        whole.formals.len(),
-        2,
-        "as many gates as stand in the list"
-    );
-    let formals = whole.formals.as_slice();
-    assert_eq!(rt;
-        (formals[0].name.text(), formals[0].at),
-        ("A", 17),
-        "the first gate"
-    );
-    assert_eq!(rt;
-        (formals[1].name.text(), formals[1].at),
-        ("B", 19),
-        "the second gate"
-    );
-    assert_eq!(rt;
-        whole.functionality,
-        Functionality::Exit,
-        "the functionality"
-    );
-    assert_eq!(rt; whole.inner.len(), 0, "no definitions");
-
-    let mut body = String::new(rt.alloc());
-    write_behaviour(rt.alloc(), &mut body, &whole.body)?;
-    assert_eq!(rt;
-        body.as_str(),
-        "(A@39; (B@42; exit))",
-        "the behaviour expression"
-    );
-    Ok(())
-}
-
-#[test]
-fn reads_a_header_without_gates(rt: HostRuntime) -> Result<(), Fail> {
-    let whole = definition(
-        rt.alloc(),
-        b"SPECIFICATION x_1 : noexit BEHAVIOR stop EndSpec",
-    )?;
-
-    assert_eq!(rt;
-        (whole.name.name.text(), whole.name.at),
-        ("X_1", 14),
-        "the name"
-    );
-    assert_eq!(rt; whole.formals.len(), 0, "no gates");
-    assert_eq!(rt;
-        whole.functionality,
-        Functionality::NoExit,
-        "the functionality"
-    );
-    Ok(())
+fn assert_text(rt: &impl Abort, words: &str, found: &str, expected: &str) {
+    assert_eq!(rt; found, expected, "{}", words);
 }
 
 /// What is tested, a behaviour expression, and its form with every group in parentheses.
@@ -127,7 +62,7 @@ const BEHAVIOURS: &[(&str, &str, &str)] = &[
         "((A@35; exit) >>@43 ((B@46; stop) [> (C@57; stop)))",
     ),
     (
-        "`hide` behind a semicolon reaches to the end",
+        "`hide` after a semicolon reaches to the end",
         "a; hide b in b; stop [] c; stop",
         "(A@35; (hide B@43 in ((B@48; stop) [] (C@59; stop))))",
     ),
@@ -235,20 +170,51 @@ const BEHAVIOURS: &[(&str, &str, &str)] = &[
     ),
 ];
 
+/// The definition whose behaviour expression this is, as `definition_text` writes it.
+fn behaviour_text(alloc: Global, expression: &str) -> Result<String, TextFault> {
+    let text = joined(alloc, &[FRONT, expression, " endspec"])?;
+    definition_text(alloc, text.as_bytes())
+}
+
+/// What comes before the behaviour expression.
+const FRONT_TEXT: &str = "S@14 noexit := ";
+
+fn without_front(text: &str) -> &str {
+    text.strip_prefix(FRONT_TEXT).unwrap_or("")
+}
+
+fn assert_behaviour(
+    rt: &impl Abort,
+    alloc: Global,
+    words: &str,
+    expression: &str,
+    expected: &str,
+) -> Result<(), TextFault> {
+    let found = behaviour_text(alloc, expression)?;
+    assert_text(rt, words, without_front(found.as_str()), expected);
+    Ok(())
+}
+
 #[test]
 fn reads_behaviour_expressions(rt: HostRuntime) -> Result<(), Fail> {
     for (words, expression, expected) in BEHAVIOURS {
-        let text = format!(in rt.alloc(); "{FRONT}{expression} endspec")?;
-        let whole = definition(rt.alloc(), text.as_bytes())?;
-        let mut body = String::new(rt.alloc());
-        write_behaviour(rt.alloc(), &mut body, &whole.body)?;
-        assert_eq!(rt; body.as_str(), *expected, "{}", words);
+        assert_behaviour(&rt, rt.alloc(), words, expression, expected)?;
     }
     Ok(())
 }
 
 /// What is tested, a text, and its definitions as `write_definition` prints them.
 const DEFINITIONS: &[(&str, &str, &str)] = &[
+    (
+        "every field",
+        "specification S [a,b] : exit behaviour a; b; exit endspec",
+        "S@14[A@17,B@19] exit := (A@39; (B@42; exit))",
+    ),
+    (
+        "a header without gates",
+        "SPECIFICATION x_1 : noexit BEHAVIOR stop EndSpec",
+        "X_1@14 noexit := stop",
+    ),
     (
         "upper and lower case, and a comment",
         "SPECIFICATION s [A] : NoExit BEHAVIOR a (* ; *) ; Stop ENDSPEC",
@@ -265,7 +231,7 @@ const DEFINITIONS: &[(&str, &str, &str)] = &[
         "S@14 exit := P@33 {P@49 exit := exit}",
     ),
     (
-        "a process in a process, and one behind it",
+        "a process in a process, and one after it",
         "specification S [a] : noexit behaviour P[a] where process P [x] : noexit := Q[x] where process Q [y] : noexit := y; P[y] endproc endproc process Q [x,y] : exit := exit endproc endspec",
         "S@14[A@17] noexit := P@39[A@41] {P@58[X@61] noexit := Q@76[X@78] {Q@95[Y@98] noexit := (Y@113; P@116[Y@118])}} {Q@145[X@148,Y@150] exit := exit}",
     ),
@@ -276,13 +242,22 @@ const DEFINITIONS: &[(&str, &str, &str)] = &[
     ),
 ];
 
+fn assert_definition(
+    rt: &impl Abort,
+    alloc: Global,
+    words: &str,
+    text: &str,
+    expected: &str,
+) -> Result<(), TextFault> {
+    let found = definition_text(alloc, text.as_bytes())?;
+    assert_text(rt, words, found.as_str(), expected);
+    Ok(())
+}
+
 #[test]
 fn reads_definitions(rt: HostRuntime) -> Result<(), Fail> {
     for (words, text, expected) in DEFINITIONS {
-        let whole = definition(rt.alloc(), text.as_bytes())?;
-        let mut found = String::new(rt.alloc());
-        write_definition(rt.alloc(), &mut found, &whole)?;
-        assert_eq!(rt; found.as_str(), *expected, "{}", words);
+        assert_definition(&rt, rt.alloc(), words, text, expected)?;
     }
     Ok(())
 }

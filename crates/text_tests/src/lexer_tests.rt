@@ -1,9 +1,23 @@
 //! Tokens of texts with their offsets, and bytes that begin no token.
+use super::table_texts::assert_fault;
 use lotos_text::{Sign, TextFault, TokenKind, Word, tokens};
-use std::alloc::Global;
+use std::alloc::{AllocError, Global};
+use std::process::Abort;
 use std::test::Fail;
 
 const NAME: TokenKind = TokenKind::Identifier;
+
+const BAR: TokenKind = TokenKind::Sign(Sign::Bar);
+
+const LEFT: TokenKind = TokenKind::Sign(Sign::LeftBracket);
+
+const RIGHT: TokenKind = TokenKind::Sign(Sign::RightBracket);
+
+const SYNC: TokenKind = TokenKind::Sign(Sign::LeftSync);
+
+const FULL: TokenKind = TokenKind::Sign(Sign::Full);
+
+const INTERLEAVE: TokenKind = TokenKind::Sign(Sign::Interleave);
 
 const fn sign(sign: Sign) -> TokenKind {
     TokenKind::Sign(sign)
@@ -15,6 +29,19 @@ fn kinds(alloc: Global, text: &[u8]) -> Result<Vec<TokenKind>, TextFault> {
         kinds.push(token.kind)?;
     }
     Ok(kinds)
+}
+
+/// Asserts the kinds of the tokens of a text.
+fn assert_kinds(
+    rt: &impl Abort,
+    alloc: Global,
+    words: &str,
+    text: &[u8],
+    expected: &[TokenKind],
+) -> Result<(), TextFault> {
+    let found = kinds(alloc, text)?;
+    assert_eq!(rt; found.as_slice(), expected, "{}", words);
+    Ok(())
 }
 
 /// The text of each sign, and the sign.
@@ -39,64 +66,58 @@ const SIGNS: &[(&[u8], Sign)] = &[
 #[test]
 fn lexes_each_sign(rt: HostRuntime) -> Result<(), Fail> {
     for (text, want) in SIGNS {
-        let found = kinds(rt.alloc(), text)?;
-        assert_eq!(rt;
-            found.as_slice(),
-            [sign(*want)].as_slice(),
-            "the sign {want:?} alone"
-        );
+        let expected = [sign(*want)];
+        assert_kinds(&rt, rt.alloc(), str::from_utf8(text)?, text, &expected)?;
     }
     Ok(())
 }
 
+/// What is tested, a text, and its tokens.
+const LONGEST: &[(&str, &[u8], &[TokenKind])] = &[
+    ("four bars", b"||||", &[INTERLEAVE, BAR]),
+    ("three bars before a bracket", b"|||[", &[INTERLEAVE, LEFT]),
+    (
+        "disabling before enabling",
+        b"[>>>",
+        &[
+            TokenKind::Sign(Sign::Disable),
+            TokenKind::Sign(Sign::Enable),
+        ],
+    ),
+    (
+        "a colon before a definition",
+        b"::=",
+        &[TokenKind::Sign(Sign::Colon), TokenKind::Sign(Sign::Define)],
+    ),
+    (
+        "a bracket before a choice",
+        b"[[]",
+        &[LEFT, TokenKind::Sign(Sign::Choice)],
+    ),
+    ("an empty list of gates", b"|[]|", &[SYNC, RIGHT, BAR]),
+    (
+        "full synchronization without blanks",
+        b"P[A]||Q[A]",
+        &[NAME, LEFT, NAME, RIGHT, FULL, NAME, LEFT, NAME, RIGHT],
+    ),
+    (
+        "interleaving without blanks",
+        b"P[A]|||Q[B]",
+        &[NAME, LEFT, NAME, RIGHT, INTERLEAVE, NAME, LEFT, NAME, RIGHT],
+    ),
+    (
+        "synchronization without blanks",
+        b"P[A]|[B]|Q[B]",
+        &[
+            NAME, LEFT, NAME, RIGHT, SYNC, NAME, RIGHT, BAR, NAME, LEFT, NAME, RIGHT,
+        ],
+    ),
+];
+
 #[test]
 fn takes_the_longest_sign(rt: HostRuntime) -> Result<(), Fail> {
-    let bar = sign(Sign::Bar);
-    let left = sign(Sign::LeftBracket);
-    let right = sign(Sign::RightBracket);
-    let sync = sign(Sign::LeftSync);
-    let full = sign(Sign::Full);
-    let interleave = sign(Sign::Interleave);
-    let rows: [(&str, &[u8], &[TokenKind]); 9] = [
-        ("four bars", b"||||", &[interleave, bar]),
-        ("three bars before a bracket", b"|||[", &[interleave, left]),
-        (
-            "disabling before enabling",
-            b"[>>>",
-            &[sign(Sign::Disable), sign(Sign::Enable)],
-        ),
-        (
-            "a colon before a definition",
-            b"::=",
-            &[sign(Sign::Colon), sign(Sign::Define)],
-        ),
-        (
-            "a bracket before a choice",
-            b"[[]",
-            &[left, sign(Sign::Choice)],
-        ),
-        ("an empty list of gates", b"|[]|", &[sync, right, bar]),
-        (
-            "full synchronization without blanks",
-            b"P[A]||Q[A]",
-            &[NAME, left, NAME, right, full, NAME, left, NAME, right],
-        ),
-        (
-            "interleaving without blanks",
-            b"P[A]|||Q[B]",
-            &[NAME, left, NAME, right, interleave, NAME, left, NAME, right],
-        ),
-        (
-            "synchronization without blanks",
-            b"P[A]|[B]|Q[B]",
-            &[
-                NAME, left, NAME, right, sync, NAME, right, bar, NAME, left, NAME, right,
-            ],
-        ),
-    ];
-    for (row, text, want) in &rows {
-        let found = kinds(rt.alloc(), text)?;
-        assert_eq!(rt; found.as_slice(), *want, "{row}");
+    for (row, text, want) in LONGEST {
+        assert_kinds(&rt, rt.alloc(), row, text, want)?;
     }
     Ok(())
 }
@@ -141,14 +162,30 @@ const WORDS: &[(&[u8], TokenKind)] = &[
 #[test]
 fn knows_each_word(rt: HostRuntime) -> Result<(), Fail> {
     for (text, want) in WORDS {
-        let found = kinds(rt.alloc(), text)?;
-        assert_eq!(rt;
-            found.as_slice(),
-            [*want].as_slice(),
-            "the word {:?}",
-            str::from_utf8(text)?
-        );
+        let expected = [*want];
+        assert_kinds(&rt, rt.alloc(), str::from_utf8(text)?, text, &expected)?;
     }
+    Ok(())
+}
+
+/// The offsets of the beginning and the end of each token.
+fn places(alloc: Global, text: &[u8]) -> Result<Vec<(usize, usize)>, TextFault> {
+    let mut places = Vec::new(alloc);
+    for token in &tokens(alloc, text)? {
+        places.push((token.at, token.end))?;
+    }
+    Ok(places)
+}
+
+fn assert_places(
+    rt: &impl Abort,
+    alloc: Global,
+    words: &str,
+    text: &[u8],
+    expected: &[(usize, usize)],
+) -> Result<(), TextFault> {
+    let found = places(alloc, text)?;
+    assert_eq!(rt; found.as_slice(), expected, "{}", words);
     Ok(())
 }
 
@@ -172,67 +209,64 @@ const OFFSETS: &[(&str, &[u8], &[(usize, usize)])] = &[
 #[test]
 fn places_tokens(rt: HostRuntime) -> Result<(), Fail> {
     for (row, text, want) in OFFSETS {
-        let found = tokens(rt.alloc(), text)?;
-        let mut places = Vec::new(rt.alloc());
-        for token in &found {
-            places.push((token.at, token.end))?;
-        }
-        assert_eq!(rt; places.as_slice(), *want, "{row}");
+        assert_places(&rt, rt.alloc(), row, text, want)?;
     }
     Ok(())
 }
 
+/// What is tested, a text with comments, and its tokens.
+const COMMENTS: &[(&str, &[u8], &[TokenKind])] = &[
+    ("an empty comment", b"(**)", &[]),
+    ("stars alone", b"(****)", &[]),
+    ("a parenthesis after the opening", b"(*)*)", &[]),
+    ("parentheses around a star", b"(*(*)", &[]),
+    ("a comment at the end", b"a (* b *)", &[NAME]),
+    ("a comment between two letters", b"a(**)b", &[NAME, NAME]),
+    (
+        "a comment inside a reserved word",
+        b"st(**)op",
+        &[NAME, NAME],
+    ),
+    ("a comment inside a sign", b"[(**)]", &[LEFT, RIGHT]),
+    ("words and signs in a comment", b"(*stop;[]*)a", &[NAME]),
+    (
+        "a comment in parentheses",
+        b"((*a*))",
+        &[
+            TokenKind::Sign(Sign::LeftParenthesis),
+            TokenKind::Sign(Sign::RightParenthesis),
+        ],
+    ),
+    (
+        "a parenthesis after the closing",
+        b"(**))",
+        &[TokenKind::Sign(Sign::RightParenthesis)],
+    ),
+];
+
 #[test]
 fn separates_by_comments(rt: HostRuntime) -> Result<(), Fail> {
-    let left = sign(Sign::LeftBracket);
-    let right = sign(Sign::RightBracket);
-    let rows: [(&str, &[u8], &[TokenKind]); 11] = [
-        ("an empty comment", b"(**)", &[]),
-        ("stars alone", b"(****)", &[]),
-        ("a parenthesis behind the opening", b"(*)*)", &[]),
-        ("parentheses around a star", b"(*(*)", &[]),
-        ("a comment at the end", b"a (* b *)", &[NAME]),
-        ("a comment between two letters", b"a(**)b", &[NAME, NAME]),
-        (
-            "a comment inside a reserved word",
-            b"st(**)op",
-            &[NAME, NAME],
-        ),
-        ("a comment inside a sign", b"[(**)]", &[left, right]),
-        ("words and signs in a comment", b"(*stop;[]*)a", &[NAME]),
-        (
-            "a comment in parentheses",
-            b"((*a*))",
-            &[sign(Sign::LeftParenthesis), sign(Sign::RightParenthesis)],
-        ),
-        (
-            "a parenthesis behind the closing",
-            b"(**))",
-            &[sign(Sign::RightParenthesis)],
-        ),
-    ];
-    for (row, text, want) in &rows {
-        let found = kinds(rt.alloc(), text)?;
-        assert_eq!(rt; found.as_slice(), *want, "{row}");
+    for (row, text, want) in COMMENTS {
+        assert_kinds(&rt, rt.alloc(), row, text, want)?;
     }
     Ok(())
 }
 
 /// What is tested, a text with comments, and the offsets of the beginning and the end of each token.
 const OFFSETS_AFTER_COMMENTS: &[(&str, &[u8], &[(usize, usize)])] = &[
-    ("behind a comment", b"(*a*)b", &[(5, 6)]),
+    ("after a comment", b"(*a*)b", &[(5, 6)]),
     ("on each side", b"a(**)b", &[(0, 1), (5, 6)]),
-    ("behind two comments", b"(*a*)(*b*);", &[(10, 11)]),
+    ("after two comments", b"(*a*)(*b*);", &[(10, 11)]),
     (
         "between comments and blanks",
         b"(* a *) b (* c *) d",
         &[(8, 9), (18, 19)],
     ),
-    ("behind a line feed", b"(*\n*)a", &[(5, 6)]),
-    ("behind bytes of no text", b"(*\xff\x00*)a", &[(6, 7)]),
-    ("behind a second opening", b"a(* (* *)b", &[(0, 1), (9, 10)]),
+    ("after a line feed", b"(*\n*)a", &[(5, 6)]),
+    ("after bytes of no text", b"(*\xff\x00*)a", &[(6, 7)]),
+    ("after a second opening", b"a(* (* *)b", &[(0, 1), (9, 10)]),
     (
-        "behind a star before the closing",
+        "after a star before the closing",
         b"(***)a1;",
         &[(5, 7), (7, 8)],
     ),
@@ -241,14 +275,20 @@ const OFFSETS_AFTER_COMMENTS: &[(&str, &[u8], &[(usize, usize)])] = &[
 #[test]
 fn places_tokens_after_comments(rt: HostRuntime) -> Result<(), Fail> {
     for (row, text, want) in OFFSETS_AFTER_COMMENTS {
-        let found = tokens(rt.alloc(), text)?;
-        let mut places = Vec::new(rt.alloc());
-        for token in &found {
-            places.push((token.at, token.end))?;
-        }
-        assert_eq!(rt; places.as_slice(), *want, "{row}");
+        assert_places(&rt, rt.alloc(), row, text, want)?;
     }
     Ok(())
+}
+
+/// The number of a text's fault and its offset, 0 if it has none; two zeros if there is no fault.
+fn fault_of(alloc: Global, text: &[u8]) -> (u8, usize) {
+    match tokens(alloc, text) {
+        Err(TextFault::E01(at)) => (1, at),
+        Err(TextFault::E02(at)) => (2, at),
+        Err(TextFault::E03) => (3, 0),
+        Err(_) => (99, 0),
+        Ok(_) => (0, 0),
+    }
 }
 
 /// What is tested, a text, and the offset of the comment that is not closed.
@@ -259,93 +299,111 @@ const OPEN_COMMENTS: &[(&str, &[u8], usize)] = &[
     ("a star at the end", b"(* *", 0),
     ("a blank inside the closing", b"(* * )", 0),
     ("the closing's bytes in turn", b"(* )*", 0),
-    ("an opening behind a token", b"a (* b", 2),
+    ("an opening after a token", b"a (* b", 2),
     (
-        "a byte that begins no token behind the opening",
+        "a byte that begins no token after the opening",
         b"; (* ?",
         2,
     ),
-    ("a token behind the opening", b"(*)a", 0),
+    ("a token after the opening", b"(*)a", 0),
     ("the second of two", b"(**)(*", 4),
     ("the first of two", b"a(*(*", 1),
     ("an opening on the second line", b"(* a *)\n(* b", 8),
 ];
 
 #[test]
-fn refuses_a_comment_that_is_not_closed(rt: HostRuntime) {
+fn rejects_a_comment_that_is_not_closed(rt: HostRuntime) {
     for (row, text, want) in OPEN_COMMENTS {
-        match tokens(rt.alloc(), text) {
-            Err(TextFault::E02(at)) => assert_eq!(rt; at, *want, "{row}"),
-            _ => assert!(rt; false, "{row} is not refused with E02"),
-        }
+        assert_fault(&rt, row, fault_of(rt.alloc(), text), (2, *want));
     }
 }
 
 /// What is tested, a text, and the offset at which no token begins.
 const NO_TOKENS: &[(&str, &[u8], usize)] = &[
     ("an asterisk", b"*", 0),
-    ("an asterisk behind a parenthesis and a blank", b"( *", 2),
+    ("an asterisk after a parenthesis and a blank", b"( *", 2),
     ("an asterisk before an opening", b"* (*", 0),
     ("a closing alone", b"*)", 0),
     ("a second closing", b"(**)*)", 4),
     ("an outer closing", b"(*(*a*)b*)", 8),
-    ("a byte behind a comment", b"(* x *) ?", 8),
-    ("the end of a sign behind a comment", b":(**)=", 5),
-    ("the greatest byte behind a comment", b"(*\xff*)\xff", 5),
-    ("the least byte behind a comment", b"(*\x00*)\x00", 5),
+    ("a byte after a comment", b"(* x *) ?", 8),
+    ("the end of a sign after a comment", b":(**)=", 5),
+    ("the greatest byte after a comment", b"(*\xff*)\xff", 5),
+    ("the least byte after a comment", b"(*\x00*)\x00", 5),
     ("an arrow's head alone", b"a > b", 2),
     ("an odd arrow's head", b">>>", 2),
     ("an equals sign", b"=", 0),
-    ("an equals sign behind a definition", b":==", 2),
+    ("an equals sign after a definition", b":==", 2),
     ("a digit", b"a 1", 2),
     ("an underscore", b"stop _", 5),
     ("the greatest byte", b"a\xff", 1),
     ("the least byte", b"\x00", 0),
     ("the byte before the blanks", b"\x08", 0),
-    ("the byte behind the blanks of control", b"\x0e", 0),
+    ("the byte after the blanks of control", b"\x0e", 0),
     ("the byte before the blank", b"\x1f", 0),
     ("the byte before the letters in upper case", b"a@", 1),
-    ("the byte behind the small letters", b"{", 0),
-    ("a byte behind a name of other letters", b"caf\xc3\xa9", 3),
+    ("the byte after the small letters", b"{", 0),
+    ("a byte after a name of other letters", b"caf\xc3\xa9", 3),
     ("the first of two", b"; ? ;\n?", 2),
 ];
 
 #[test]
-fn refuses_what_begins_no_token(rt: HostRuntime) {
+fn rejects_what_begins_no_token(rt: HostRuntime) {
     for (row, text, want) in NO_TOKENS {
-        match tokens(rt.alloc(), text) {
-            Err(TextFault::E01(at)) => assert_eq!(rt; at, *want, "{row}"),
-            _ => assert!(rt; false, "{row} is not refused with E01"),
-        }
+        assert_fault(&rt, row, fault_of(rt.alloc(), text), (1, *want));
     }
 }
 
+/// A text with this beginning, filled with a byte up to this length.
+fn filled(alloc: Global, front: &[u8], byte: u8, length: usize) -> Result<Vec<u8>, AllocError> {
+    let mut text = Vec::from_slice(alloc, front)?;
+    for _ in front.len()..length {
+        text.push(byte)?;
+    }
+    Ok(text)
+}
+
+fn fault_of_filled(
+    alloc: Global,
+    front: &[u8],
+    byte: u8,
+    length: usize,
+) -> Result<(u8, usize), AllocError> {
+    let text = filled(alloc, front, byte, length)?;
+    Ok(fault_of(alloc, text.as_slice()))
+}
+
+/// What is tested, the beginning of a text, the byte that fills it, its length, and the number and the offset of its
+/// fault; two zeros if it has none.
+const LENGTHS: &[(&str, &[u8], u8, usize, u8, usize)] = &[
+    ("the longest text, of blanks", b"", b' ', 1_048_576, 0, 0),
+    (
+        "the longest text, of an opening and stars",
+        b"(*",
+        b'*',
+        1_048_576,
+        2,
+        0,
+    ),
+    ("a text one byte too long", b"", 255, 1_048_577, 3, 0),
+];
+
 #[test]
 fn limits_the_length(rt: HostRuntime) -> Result<(), Fail> {
-    let mut text = Vec::new(rt.alloc());
-    for _ in 0..1_048_576 {
-        text.push(b' ')?;
+    for (row, front, byte, length, number, at) in LENGTHS {
+        let found = fault_of_filled(rt.alloc(), front, *byte, *length)?;
+        assert_fault(&rt, row, found, (*number, *at));
     }
-    assert_eq!(rt;
-        tokens(rt.alloc(), &text)?.len(),
-        0,
-        "the longest text, of blanks"
-    );
-    text.clear();
-    text.extend_from_slice(b"(*")?;
-    for _ in 2..1_048_576 {
-        text.push(b'*')?;
-    }
-    match tokens(rt.alloc(), &text) {
-        Err(TextFault::E02(0)) => {}
-        _ => Err("the longest text, of an opening and stars, is not refused with E02")?,
-    }
-    text.clear();
-    for _ in 0..1_048_577 {
-        text.push(255)?;
-    }
-    match tokens(rt.alloc(), &text) {
-        Err(TextFault::E03) => Ok(()),
-        _ => Err("a text one byte too long is not refused with E03")?,
-    }
+    Ok(())
+}
+
+fn count_tokens(alloc: Global, length: usize) -> Result<usize, TextFault> {
+    let text = filled(alloc, b"", b' ', length)?;
+    Ok(tokens(alloc, text.as_slice())?.len())
+}
+
+#[test]
+fn finds_no_token_in_the_longest_text_of_blanks(rt: HostRuntime) -> Result<(), Fail> {
+    assert_eq!(rt; count_tokens(rt.alloc(), 1_048_576)?, 0);
+    Ok(())
 }

@@ -1,13 +1,18 @@
 //! Names, each parsed as that of a specification.
-use lotos_text::{Name, TextFault, parse};
+use super::table_texts::{accepted, joined};
+use lotos_text::{Name, TextFault};
 use std::alloc::Global;
 use std::cmp::Ordering;
+use std::process::Abort;
 use std::test::Fail;
 
 /// The name that a word spells.
 fn name_of(alloc: Global, word: &str) -> Result<Name, TextFault> {
-    let text = format!(in alloc; "specification {word} : noexit behaviour stop endspec")?;
-    let tree = parse(alloc, text.as_bytes())?;
+    let text = joined(
+        alloc,
+        &["specification ", word, " : noexit behaviour stop endspec"],
+    )?;
+    let tree = accepted(alloc, text.as_bytes())?;
     Ok(tree.whole.name.name.copy(alloc)?)
 }
 
@@ -23,28 +28,48 @@ const PAIRS: &[(&str, &str, Ordering)] = &[
     ("az", "a_", Ordering::Less),
 ];
 
-#[test]
-fn orders_names_as_their_texts(rt: HostRuntime) -> Result<(), Fail> {
-    for (left, right, expected) in PAIRS {
-        let row = *left;
-        let left = name_of(rt.alloc(), left)?;
-        let right = name_of(rt.alloc(), right)?;
-        assert_eq!(rt; left.cmp(&right), *expected, "the order of {}", row);
-        assert_eq!(rt;
-            left == right,
-            *expected == Ordering::Equal,
-            "equality of {}",
-            row
-        );
-    }
+/// How the names of two words compare, and whether they are equal.
+fn compared(alloc: Global, left: &str, right: &str) -> Result<(Ordering, bool), TextFault> {
+    let left = name_of(alloc, left)?;
+    let right = name_of(alloc, right)?;
+    Ok((left.cmp(&right), left == right))
+}
+
+fn assert_compared(
+    rt: &impl Abort,
+    alloc: Global,
+    left: &str,
+    right: &str,
+    expected: Ordering,
+) -> Result<(), TextFault> {
+    let found = compared(alloc, left, right)?;
+    assert_eq!(rt;
+        found,
+        (expected, expected == Ordering::Equal),
+        "{} and {}",
+        left,
+        right
+    );
     Ok(())
 }
 
 #[test]
+fn orders_names_as_their_texts(rt: HostRuntime) -> Result<(), Fail> {
+    for (left, right, expected) in PAIRS {
+        assert_compared(&rt, rt.alloc(), left, right, *expected)?;
+    }
+    Ok(())
+}
+
+/// Whether a copy of the name of a word has this text and is equal to it.
+fn is_copied(alloc: Global, word: &str, text: &str) -> Result<bool, TextFault> {
+    let name = name_of(alloc, word)?;
+    let copy = name.copy(alloc)?;
+    Ok(copy.text() == text && copy == name)
+}
+
+#[test]
 fn copies_a_name(rt: HostRuntime) -> Result<(), Fail> {
-    let name = name_of(rt.alloc(), "Gate_1")?;
-    let copy = name.copy(rt.alloc())?;
-    assert_eq!(rt; copy.text(), "GATE_1", "the text of a copy");
-    assert!(rt; copy == name, "a copy is equal");
+    assert!(rt; is_copied(rt.alloc(), "Gate_1", "GATE_1")?);
     Ok(())
 }

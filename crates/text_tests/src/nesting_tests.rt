@@ -1,6 +1,5 @@
 //! How deep constructs may nest.
-use super::table_texts::fault_of;
-use lotos_text::parse;
+use super::table_texts::{assert_fault, fault_of_text, joined};
 use std::alloc::{AllocError, Global};
 use std::test::Fail;
 
@@ -25,8 +24,22 @@ fn nested(
     count: usize,
 ) -> Result<String, AllocError> {
     let before = repeated(alloc, piece, count)?;
-    let behind = repeated(alloc, closing, count)?;
-    format!(in alloc; "{FRONT}{before}{middle}{behind} endspec")
+    let after = repeated(alloc, closing, count)?;
+    joined(
+        alloc,
+        &[FRONT, before.as_str(), middle, after.as_str(), " endspec"],
+    )
+}
+
+fn nested_fault(
+    alloc: Global,
+    piece: &str,
+    middle: &str,
+    closing: &str,
+    count: usize,
+) -> Result<(u8, usize), AllocError> {
+    let text = nested(alloc, piece, middle, closing, count)?;
+    Ok(fault_of_text(alloc, text.as_bytes()))
 }
 
 /// A construct, its opening, what it encloses, its closing, and the offset of the fault if 201 of it are nested.
@@ -55,20 +68,10 @@ const CONSTRUCTS: &[(&str, &str, &str, &str, usize)] = &[
 #[test]
 fn limits_each_construct(rt: HostRuntime) -> Result<(), Fail> {
     for (words, piece, middle, closing, at) in CONSTRUCTS {
-        let most = nested(rt.alloc(), piece, middle, closing, 200)?;
-        assert_eq!(rt;
-            fault_of(parse(rt.alloc(), most.as_bytes())),
-            (0, 0),
-            "200 of {}",
-            words
-        );
-        let over = nested(rt.alloc(), piece, middle, closing, 201)?;
-        assert_eq!(rt;
-            fault_of(parse(rt.alloc(), over.as_bytes())),
-            (5, *at),
-            "201 of {}",
-            words
-        );
+        let most = nested_fault(rt.alloc(), piece, middle, closing, 200)?;
+        assert_fault(&rt, words, most, (0, 0));
+        let over = nested_fault(rt.alloc(), piece, middle, closing, 201)?;
+        assert_fault(&rt, words, over, (5, *at));
     }
     Ok(())
 }
@@ -76,9 +79,9 @@ fn limits_each_construct(rt: HostRuntime) -> Result<(), Fail> {
 /// A behaviour expression inside 200 prefixes, and the number and the offset of the fault; 0 and 0 if it is accepted.
 const INSIDE: &[(&str, &str, u8, usize)] = &[
     ("a call with gates", "P[a]", 0, 0),
-    ("an operator behind all prefixes", "stop [] stop", 0, 0),
+    ("an operator after all prefixes", "stop [] stop", 0, 0),
     (
-        "a definition behind all prefixes",
+        "a definition after all prefixes",
         "stop where process P : noexit := stop endproc",
         0,
         0,
@@ -89,7 +92,7 @@ const INSIDE: &[(&str, &str, u8, usize)] = &[
     ("an internal action and no semicolon", "i stop", 4, 441),
     ("a sign of choice that fits nowhere", "[] stop", 4, 439),
     ("a semicolon that fits nowhere", "; stop", 4, 439),
-    ("a semicolon behind an operand", "stop ; stop", 4, 444),
+    ("a semicolon after an operand", "stop ; stop", 4, 444),
     ("`process` that fits nowhere", "process", 4, 439),
     ("a word of full LOTOS", "let", 7, 439),
 ];
@@ -98,13 +101,8 @@ const INSIDE: &[(&str, &str, u8, usize)] = &[
 #[test]
 fn limits_what_is_nested(rt: HostRuntime) -> Result<(), Fail> {
     for (words, inside, number, at) in INSIDE {
-        let text = nested(rt.alloc(), "a;", inside, "", 200)?;
-        assert_eq!(rt;
-            fault_of(parse(rt.alloc(), text.as_bytes())),
-            (*number, *at),
-            "{}",
-            words
-        );
+        let found = nested_fault(rt.alloc(), "a;", inside, "", 200)?;
+        assert_fault(&rt, words, found, (*number, *at));
     }
     Ok(())
 }
@@ -130,13 +128,8 @@ const MISFITS: &[(&str, &str, &str, usize)] = &[
 #[test]
 fn limits_openings_before_a_misfit(rt: HostRuntime) -> Result<(), Fail> {
     for (words, piece, middle, at) in MISFITS {
-        let text = nested(rt.alloc(), piece, middle, "", 200)?;
-        assert_eq!(rt;
-            fault_of(parse(rt.alloc(), text.as_bytes())),
-            (5, *at),
-            "{} before a misfit",
-            words
-        );
+        let found = nested_fault(rt.alloc(), piece, middle, "", 200)?;
+        assert_fault(&rt, words, found, (5, *at));
     }
     Ok(())
 }
@@ -190,19 +183,39 @@ const NESTED: &[(&str, &str, &str, u8, usize)] = &[
     ),
 ];
 
+/// A text with 199 pairs of parentheses.
+fn parenthesized(alloc: Global, before: &str, after: &str) -> Result<String, AllocError> {
+    let opened = repeated(alloc, "(", 199)?;
+    let closed = repeated(alloc, ")", 199)?;
+    joined(
+        alloc,
+        &[
+            FRONT,
+            before,
+            opened.as_str(),
+            "stop",
+            closed.as_str(),
+            after,
+            " endspec",
+        ],
+    )
+}
+
+fn parenthesized_fault(
+    alloc: Global,
+    before: &str,
+    after: &str,
+) -> Result<(u8, usize), AllocError> {
+    let text = parenthesized(alloc, before, after)?;
+    Ok(fault_of_text(alloc, text.as_bytes()))
+}
+
 /// How the constructs of a text add up.
 #[test]
 fn counts_nested_constructs(rt: HostRuntime) -> Result<(), Fail> {
-    let opened = repeated(rt.alloc(), "(", 199)?;
-    let closed = repeated(rt.alloc(), ")", 199)?;
-    for (words, before, behind, number, at) in NESTED {
-        let text = format!(in rt.alloc(); "{FRONT}{before}{opened}stop{closed}{behind} endspec")?;
-        assert_eq!(rt;
-            fault_of(parse(rt.alloc(), text.as_bytes())),
-            (*number, *at),
-            "{}",
-            words
-        );
+    for (words, before, after, number, at) in NESTED {
+        let found = parenthesized_fault(rt.alloc(), before, after)?;
+        assert_fault(&rt, words, found, (*number, *at));
     }
     Ok(())
 }

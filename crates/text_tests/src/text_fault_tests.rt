@@ -1,7 +1,17 @@
 //! Texts that are rejected, with the numbers and the offsets of their faults.
-use super::table_texts::{FRONT, fault_of};
-use lotos_text::{TEXT_LIMIT, parse};
+use super::table_texts::{FRONT, assert_fault, fault_of_text, joined};
+use lotos_text::TEXT_LIMIT;
+use std::alloc::{AllocError, Global};
 use std::test::Fail;
+
+/// A text up to the first process definition, which begins at offset 46.
+const WHERE: &str = "specification S : noexit behaviour stop where ";
+
+/// The fault of a text in two parts.
+fn joined_fault(alloc: Global, front: &str, rest: &str) -> Result<(u8, usize), AllocError> {
+    let text = joined(alloc, &[front, rest])?;
+    Ok(fault_of_text(alloc, text.as_bytes()))
+}
 
 /// What is wrong, the text after the header, and the number and the offset of the fault.
 const BEHAVIOURS: &[(&str, &str, u8, usize)] = &[
@@ -87,7 +97,7 @@ const BEHAVIOURS: &[(&str, &str, u8, usize)] = &[
     ("`where` before no behaviour", "where endspec", 4, 35),
     ("a word of full LOTOS", "choice endspec", 7, 35),
     (
-        "a word of full LOTOS behind an operand",
+        "a word of full LOTOS after an operand",
         "stop let endspec",
         7,
         40,
@@ -99,59 +109,59 @@ const BEHAVIOURS: &[(&str, &str, u8, usize)] = &[
         37,
     ),
     (
-        "a word of full LOTOS behind `where`",
+        "a word of full LOTOS after `where`",
         "stop where library endspec",
         7,
         46,
     ),
     (
-        "a word of full LOTOS behind the end",
+        "a word of full LOTOS after the end",
         "stop endspec par",
         7,
         48,
     ),
-    ("a token behind the end", "stop endspec endspec", 4, 48),
+    ("a token after the end", "stop endspec endspec", 4, 48),
     (
-        "a strange byte behind a token that is not expected",
+        "a byte that begins no token after a token that is not expected",
         "stop stop $ endspec",
         1,
         45,
     ),
-    ("a strange byte behind the end", "stop endspec #", 1, 48),
-    ("an open comment behind the end", "stop endspec (* *", 2, 48),
     (
-        "an open comment behind a token that is not expected",
+        "a byte that begins no token after the end",
+        "stop endspec #",
+        1,
+        48,
+    ),
+    ("an open comment after the end", "stop endspec (* *", 2, 48),
+    (
+        "an open comment after a token that is not expected",
         "stop stop (*",
         2,
         45,
     ),
     ("a text that ends before the operand", "", 6, 35),
-    ("a text that ends behind a name", "a", 6, 36),
-    ("a text that ends behind a semicolon", "a;", 6, 37),
-    ("a text that ends behind an operand", "stop", 6, 39),
-    ("a text that ends behind a choice", "stop []", 6, 42),
+    ("a text that ends after a name", "a", 6, 36),
+    ("a text that ends after a semicolon", "a;", 6, 37),
+    ("a text that ends after an operand", "stop", 6, 39),
+    ("a text that ends after a choice", "stop []", 6, 42),
     ("a text that ends in parentheses", "(stop ", 6, 41),
     ("a text that ends in a gate list", "P[a,", 6, 39),
-    ("a text that ends behind `hide`", "hide", 6, 39),
-    ("a text that ends behind a hidden gate", "hide a", 6, 41),
-    ("a text that ends behind `in`", "hide a in", 6, 44),
-    ("a text that ends behind `|[`", "stop |[", 6, 42),
-    ("a text that ends behind `|[` and a gate", "stop |[a", 6, 43),
-    ("a text that ends behind `|[` and `]`", "stop |[]", 6, 43),
-    ("a text that ends behind `where`", "stop where", 6, 45),
-    ("a text that ends behind a comment", "stop (* *)", 6, 45),
+    ("a text that ends after `hide`", "hide", 6, 39),
+    ("a text that ends after a hidden gate", "hide a", 6, 41),
+    ("a text that ends after `in`", "hide a in", 6, 44),
+    ("a text that ends after `|[`", "stop |[", 6, 42),
+    ("a text that ends after `|[` and a gate", "stop |[a", 6, 43),
+    ("a text that ends after `|[` and `]`", "stop |[]", 6, 43),
+    ("a text that ends after `where`", "stop where", 6, 45),
+    ("a text that ends after a comment", "stop (* *)", 6, 45),
 ];
 
 #[test]
-fn refuses_behaviour_expressions(rt: HostRuntime) -> Result<(), Fail> {
+fn rejects_behaviour_expressions(rt: HostRuntime) -> Result<(), Fail> {
     for (words, expression, number, at) in BEHAVIOURS {
-        let text = format!(in rt.alloc(); "{FRONT}{expression}")?;
-        assert_eq!(rt;
-            fault_of(parse(rt.alloc(), text.as_bytes())),
-            (*number, *at),
-            "{}",
-            words
-        );
+        let found = joined_fault(rt.alloc(), FRONT, expression)?;
+        assert_fault(&rt, words, found, (*number, *at));
     }
     Ok(())
 }
@@ -199,7 +209,7 @@ const DEFINITIONS: &[(&str, &str, u8, usize)] = &[
         73,
     ),
     (
-        "a name behind a process",
+        "a name after a process",
         "process P : noexit := stop endproc x endspec",
         4,
         81,
@@ -217,12 +227,12 @@ const DEFINITIONS: &[(&str, &str, u8, usize)] = &[
         81,
     ),
     (
-        "a word of full LOTOS behind a process",
+        "a word of full LOTOS after a process",
         "process P : noexit := stop endproc type",
         7,
         81,
     ),
-    ("a text that ends behind `process`", "process", 6, 53),
+    ("a text that ends after `process`", "process", 6, 53),
     (
         "a text that ends in the body",
         "process P : noexit := a;",
@@ -230,7 +240,7 @@ const DEFINITIONS: &[(&str, &str, u8, usize)] = &[
         70,
     ),
     (
-        "a text that ends behind a process",
+        "a text that ends after a process",
         "process P : noexit := stop endproc",
         6,
         80,
@@ -239,29 +249,19 @@ const DEFINITIONS: &[(&str, &str, u8, usize)] = &[
 
 /// What follows the keyword `where`. It begins at offset 46.
 #[test]
-fn refuses_definitions(rt: HostRuntime) -> Result<(), Fail> {
+fn rejects_definitions(rt: HostRuntime) -> Result<(), Fail> {
     for (words, definitions, number, at) in DEFINITIONS {
-        let text = format!(in rt.alloc(); "{FRONT}stop where {definitions}")?;
-        assert_eq!(rt;
-            fault_of(parse(rt.alloc(), text.as_bytes())),
-            (*number, *at),
-            "{}",
-            words
-        );
+        let found = joined_fault(rt.alloc(), WHERE, definitions)?;
+        assert_fault(&rt, words, found, (*number, *at));
     }
     Ok(())
 }
 
 #[test]
-fn refuses_words_of_full_lotos(rt: HostRuntime) -> Result<(), Fail> {
+fn rejects_words_of_full_lotos(rt: HostRuntime) -> Result<(), Fail> {
     for word in ["accept", "Choice", "LET", "pAr", "librarY", "Type"] {
-        let text = format!(in rt.alloc(); "{word} T is")?;
-        assert_eq!(rt;
-            fault_of(parse(rt.alloc(), text.as_bytes())),
-            (7, 0),
-            "{}",
-            word
-        );
+        let found = joined_fault(rt.alloc(), word, " T is")?;
+        assert_fault(&rt, word, found, (7, 0));
     }
     Ok(())
 }
@@ -284,7 +284,7 @@ const TEXTS: &[(&str, &str, u8, usize)] = &[
         43,
     ),
     (
-        "an end behind a semicolon",
+        "an end after a semicolon",
         "specification S [a] : noexit behaviour a;",
         6,
         41,
@@ -299,14 +299,10 @@ const TEXTS: &[(&str, &str, u8, usize)] = &[
 
 /// Complete texts: comments alone, and specifications.
 #[test]
-fn refuses_whole_texts(rt: HostRuntime) {
+fn rejects_whole_texts(rt: HostRuntime) {
     for (words, text, number, at) in TEXTS {
-        assert_eq!(rt;
-            fault_of(parse(rt.alloc(), text.as_bytes())),
-            (*number, *at),
-            "{}",
-            words
-        );
+        let found = fault_of_text(rt.alloc(), text.as_bytes());
+        assert_fault(&rt, words, found, (*number, *at));
     }
 }
 
@@ -399,9 +395,9 @@ const HEADERS: &[(&str, &str, u8, usize)] = &[
         25,
     ),
     ("an end in the gate list", "specification S [a", 6, 18),
-    ("an end behind a comma", "specification S [a, ", 6, 20),
+    ("an end after a comma", "specification S [a, ", 6, 20),
     (
-        "an end behind the semicolon",
+        "an end after the semicolon",
         "specification S [a] : noexit behaviour a;",
         6,
         41,
@@ -409,50 +405,45 @@ const HEADERS: &[(&str, &str, u8, usize)] = &[
 ];
 
 #[test]
-fn refuses_headers(rt: HostRuntime) {
+fn rejects_headers(rt: HostRuntime) {
     for (words, text, number, at) in HEADERS {
-        assert_eq!(rt;
-            fault_of(parse(rt.alloc(), text.as_bytes())),
-            (*number, *at),
-            "{}",
-            words
-        );
+        let found = fault_of_text(rt.alloc(), text.as_bytes());
+        assert_fault(&rt, words, found, (*number, *at));
+    }
+}
+
+/// A specification.
+const WHOLE: &[u8] = b"specification S [a,b] : exit behaviour a; b; exit endspec";
+
+/// The fault of its first bytes.
+fn beginning_fault(end: usize) -> (u8, usize) {
+    match end {
+        1..=12 => (4, 0),
+        25..=27 => (4, 24),
+        30..=37 => (4, 29),
+        51..=56 => (4, 50),
+        _ => (6, end),
     }
 }
 
 #[test]
-fn refuses_each_beginning(rt: HostRuntime) {
-    let text = b"specification S [a,b] : exit behaviour a; b; exit endspec";
-    for end in 0..text.len() {
-        let expected = match end {
-            1..=12 => (4, 0),
-            25..=27 => (4, 24),
-            30..=37 => (4, 29),
-            51..=56 => (4, 50),
-            _ => (6, end),
-        };
-        assert_eq!(rt;
-            fault_of(parse(rt.alloc(), &text[..end])),
-            expected,
-            "the first {} bytes",
-            end
-        );
+fn rejects_each_beginning(rt: HostRuntime) {
+    for end in 0..WHOLE.len() {
+        let found = fault_of_text(rt.alloc(), &WHOLE[..end]);
+        assert_fault(&rt, "a beginning", found, beginning_fault(end));
     }
 }
 
+fn fault_of_repeated(alloc: Global, byte: u8, count: usize) -> Result<(u8, usize), AllocError> {
+    let text = vec![in alloc; byte; count]?;
+    Ok(fault_of_text(alloc, text.as_slice()))
+}
+
 #[test]
-fn refuses_a_text_that_is_too_long(rt: HostRuntime) -> Result<(), Fail> {
-    let blanks = vec![in rt.alloc(); b' '; TEXT_LIMIT]?;
-    assert_eq!(rt;
-        fault_of(parse(rt.alloc(), blanks.as_slice())),
-        (6, TEXT_LIMIT),
-        "as long as a text may be"
-    );
-    let strange = vec![in rt.alloc(); 255; TEXT_LIMIT + 1]?;
-    assert_eq!(rt;
-        fault_of(parse(rt.alloc(), strange.as_slice())),
-        (3, 0),
-        "one byte too long"
-    );
+fn rejects_a_text_that_is_too_long(rt: HostRuntime) -> Result<(), Fail> {
+    let longest = fault_of_repeated(rt.alloc(), b' ', TEXT_LIMIT)?;
+    assert_fault(&rt, "as long as a text may be", longest, (6, TEXT_LIMIT));
+    let longer = fault_of_repeated(rt.alloc(), 255, TEXT_LIMIT + 1)?;
+    assert_fault(&rt, "one byte too long", longer, (3, 0));
     Ok(())
 }

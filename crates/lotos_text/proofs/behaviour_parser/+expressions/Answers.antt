@@ -7,7 +7,7 @@ use Rattle.lotos_text.proofs.Parenthesized.{found_closed, carries_inside, lost_o
 use Rattle.lotos_text.proofs.OperandEnds.{unended, found_stop, lost_stop, found_exit, lost_exit, lost_begun}
 use Rattle.lotos_text.proofs.FirstToken.{not_first}
 use Rattle.lotos_text.proofs.Hidings.{each_level, found_hidden, lost_hidden, lost_unentered, carries_hidden, deep_hide}
-use Rattle.lotos_text.proofs.Openings.{is_stop, is_exit, is_internal}
+use Rattle.lotos_text.proofs.OperandStarts.{is_stop, is_exit, is_internal}
 use Rattle.lotos_text.proofs.Operations.{marked, marked_found, marked_lost, found_alone, found_operation, carries_left, lost_operator, carries_right, deep_operation}
 use Rattle.lotos_text.proofs.Prefixes.{lost_not_first, found_body, lost_unseparated, carries_body, deep_prefix}
 use Rattle.lotos_text.proofs.ParseErrors.{carried_on, freed_on, missed_free}
@@ -200,14 +200,14 @@ parse_operand-returns-in_err-expect_operand_end-in-Exit-clause-fails t c =
     c.from_residual-in_err-expect_operand_end-in-Exit.result c.in_err-expect_operand_end-in-Exit.field-0.0 c.from_residual-in_err-expect_operand_end-in-Exit.ensures.1
     c.in_err-expect_operand_end-in-Exit.ensures.fails)
 
-pub parse_operand-returns-in_ok-expect_operand_end-in-Stop-clause-parses : goal.parse_operand-returns-in_ok-expect_operand_end-in-Stop-clause-parses
-parse_operand-returns-in_ok-expect_operand_end-in-Stop-clause-parses t c =
-    rw c.in-Some.ensures (found_stop c.args.text.now c.args.nesting_left c.in-Some.first c.in-Some.rest.now
+pub parse_operand-returns-in_ok-whole-in-Stop-clause-parses : goal.parse_operand-returns-in_ok-whole-in-Stop-clause-parses
+parse_operand-returns-in_ok-whole-in-Stop-clause-parses t c =
+    rw (c.in-Some.ensures, c.in_ok-whole-in-Stop.ensures) (found_stop c.args.text.now c.args.nesting_left c.in-Some.first c.in-Some.rest.now
     (is_stop c.in-Some.first (sym c.operand_start.ensures ∙ c.in-Stop.is)) c.in_ok-expect_operand_end-in-Stop.ensures.whole)
 
-pub parse_operand-returns-in_ok-expect_operand_end-in-Exit-clause-parses : goal.parse_operand-returns-in_ok-expect_operand_end-in-Exit-clause-parses
-parse_operand-returns-in_ok-expect_operand_end-in-Exit-clause-parses t c =
-    rw c.in-Some.ensures (found_exit c.args.text.now c.args.nesting_left c.in-Some.first c.in-Some.rest.now
+pub parse_operand-returns-in_ok-whole-in-Exit-clause-parses : goal.parse_operand-returns-in_ok-whole-in-Exit-clause-parses
+parse_operand-returns-in_ok-whole-in-Exit-clause-parses t c =
+    rw (c.in-Some.ensures, c.in_ok-whole-in-Exit.ensures) (found_exit c.args.text.now c.args.nesting_left c.in-Some.first c.in-Some.rest.now
     (is_exit c.in-Some.first (sym c.operand_start.ensures ∙ c.in-Exit.is)) c.in_ok-expect_operand_end-in-Exit.ensures.whole)
 
 pub parse_operand-returns-in-Nothing-clause-fails : goal.parse_operand-returns-in-Nothing-clause-fails

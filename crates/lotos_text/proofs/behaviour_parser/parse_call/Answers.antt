@@ -22,5 +22,5 @@ returns-in_err-expect_operand_end-clause-fails c =
 
 pub returns-clause-parses : goal.returns-clause-parses
 returns-clause-parses c =
-    λ room. found_call c.args.text.now room c.args.first c.args.tokens.now c.in_ok-gates.rest.now c.args.name _ c.requires.named
-    c.requires.placed c.in_ok-gates.ensures.parses c.in_ok-expect_operand_end.ensures.whole
+    λ nesting_left. rw c.in_ok-whole.ensures (found_call c.args.text.now nesting_left c.args.first c.args.tokens.now c.in_ok-gates.rest.now c.args.name _ c.requires.named
+    c.requires.placed c.in_ok-gates.ensures.parses c.in_ok-expect_operand_end.ensures.whole)

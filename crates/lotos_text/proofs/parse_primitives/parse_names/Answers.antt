@@ -19,9 +19,9 @@ returns-in_default-clause-parses c =
     let name = located_name c.args.text.now c.in_ok-first.first in
     let e : c.push.new.self.items ≡ c.loop-found.found.items ++ name ∷ [] =
     c.in_ok-push.ensures.items ∙ ap (λ (p : Placed). c.loop-found.found.items ++ p ∷ []) c.in_ok-name.ensures in
-    subst (λ names. Parses (NameList c.args.text.now) c.args.tokens.now names c.in_ok-first.behind.now) (sym e)
-    (c.loop-found.invariant.finds (name ∷ []) c.in_ok-first.behind.now
-    (found_last c.args.text.now c.loop-found.rest.now c.in_ok-first.behind.now c.in_ok-first.first
+    subst (λ names. Parses (NameList c.args.text.now) c.args.tokens.now names c.in_ok-first.remainder.now) (sym e)
+    (c.loop-found.invariant.finds (name ∷ []) c.in_ok-first.remainder.now
+    (found_last c.args.text.now c.loop-found.rest.now c.in_ok-first.remainder.now c.in_ok-first.first
     c.in_ok-first.ensures.parses.0 c.in_ok-first.ensures.parses.1 c.in_default.ensures.none))
 
 pub loop-found-preserved : goal.loop-found-preserved
@@ -29,18 +29,18 @@ loop-found-preserved c =
     let name = located_name c.args.text.now c.in_ok-first.first in
     record {
       stand = search rules;
-      finds = λ names behind f.
+      finds = λ names remainder f.
           let e : c.push.new.self.items ++ names ≡ c.loop-found.found.items ++ (name ∷ names) =
           ap (λ l. l ++ names) (c.in_ok-push.ensures.items ∙ ap (λ (p : Placed). c.loop-found.found.items ++ p ∷ [])
           c.in_ok-name.ensures)
           ∙ append_assoc c.loop-found.found.items (name ∷ []) names in
-          subst (λ l. Parses (NameList c.args.text.now) c.args.tokens.now l behind) (sym e)
-          (c.loop-found.invariant.finds (name ∷ names) behind
-          (found_more c.args.text.now c.loop-found.rest.now c.in_ok-first.behind.now c.in-Some.after.now behind
+          subst (λ l. Parses (NameList c.args.text.now) c.args.tokens.now l remainder) (sym e)
+          (c.loop-found.invariant.finds (name ∷ names) remainder
+          (found_more c.args.text.now c.loop-found.rest.now c.in_ok-first.remainder.now c.in-Some.after.now remainder
           c.in_ok-first.first c.in-Some.field-0-0 names
           c.in_ok-first.ensures.parses.0 c.in_ok-first.ensures.parses.1 c.in-Some.ensures.some.0 c.in-Some.ensures.some.1 f));
       loses = λ at l. c.loop-found.invariant.loses at
-          (lost_more c.args.text.now c.loop-found.rest.now c.in_ok-first.behind.now c.in-Some.after.now at c.in_ok-first.first
+          (lost_more c.args.text.now c.loop-found.rest.now c.in_ok-first.remainder.now c.in-Some.after.now at c.in_ok-first.first
           c.in-Some.field-0-0
           c.in_ok-first.ensures.parses.0 c.in-Some.ensures.some.0 c.in-Some.ensures.some.1 l);
     }

@@ -13,7 +13,7 @@ decreases-loop-found l = length l.rest
 abbrev pub invariant-loop-found : goal.invariant-loop-found
 invariant-loop-found l = record {
   stand : AreTokensIn l.text l.rest;
-  finds : (names : List Placed) (behind : List Token) → Parses (NameList l.text) l.rest names behind →
-      Parses (NameList l.text) l.fn.tokens (l.found.items ++ names) behind;
+  finds : (names : List Placed) (remainder : List Token) → Parses (NameList l.text) l.rest names remainder →
+      Parses (NameList l.text) l.fn.tokens (l.found.items ++ names) remainder;
   loses : (at : List Token) → Fails (NameList l.text) l.rest at → Fails (NameList l.text) l.fn.tokens at;
 }

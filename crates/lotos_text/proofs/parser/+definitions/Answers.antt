@@ -82,12 +82,12 @@ parse_definition_rest-returns-clause-parses t c =
     found_body c.args.text.now what (Some c.args.nesting_left) c.in_ok-heading.rest.now c.in_ok-rest.rest.now c.in_ok-body.rest.now
     c.in_ok-rest.field-0-0 _ c.in_ok-rest.ensures.parses.0
     (subst (λ k. IsOfKind c.in_ok-rest.field-0-0 k) c.defining_sign.ensures c.in_ok-rest.ensures.parses.1) c.in_ok-body.ensures.parses in
-    subst (λ d. Parses (DefinitionRest c.args.text.now what (Some c.args.nesting_left)) c.args.tokens.now d c.in_ok-rest-2.rest.now)
+    rw c.into_inner.ensures (subst (λ d. Parses (DefinitionRest c.args.text.now what (Some c.args.nesting_left)) c.args.tokens.now d c.in_ok-rest-2.rest.now)
     (sym (seen _))
     (found_contents c.args.text.now what (Some c.args.nesting_left) c.args.tokens.now c.in_ok-heading.rest.now c.in_ok-body.rest.now
     c.in_ok-inner.rest.now c.in_ok-rest-2.rest.now c.in_ok-rest-2.field-0-0 _ _ _ c.in_ok-heading.ensures.parses body
     c.in_ok-inner.ensures.parses c.in_ok-rest-2.ensures.parses.0
-    (subst (λ k. IsOfKind c.in_ok-rest-2.field-0-0 k) c.closing_word.ensures c.in_ok-rest-2.ensures.parses.1))
+    (subst (λ k. IsOfKind c.in_ok-rest-2.field-0-0 k) c.closing_word.ensures c.in_ok-rest-2.ensures.parses.1)))
 
 -- inner definitions
 
@@ -123,9 +123,9 @@ pub parse_definitions-loop-found-init : goal.parse_definitions-loop-found-init
 parse_definitions-loop-found-init t c = record {
   stand = c.requires;
   left = omega arith;
-  finds = λ ds behind f.
+  finds = λ ds remainder f.
       subst (λ (items : List Definition). Parses (DefinitionList c.args.text.now (Some c.args.nesting_left)) c.args.tokens.now
-      (definition_list_view (map definition_view items ++ ds)) behind) (sym c.new-found.ensures.items) f;
+      (definition_list_view (map definition_view items ++ ds)) remainder) (sym c.new-found.ensures.items) f;
   carries = carries_all c.args.text.now c.args.nesting_left c.args.tokens.now;
 }
 
@@ -164,11 +164,11 @@ parse_definitions-returns-in_err-one-clause-fails t c =
 
 pub parse_definitions-returns-in_default-clause-parses : goal.parse_definitions-returns-in_default-clause-parses
 parse_definitions-returns-in_default-clause-parses t c =
-    subst (λ (ds : DefinitionListView). Parses (DefinitionList c.args.text.now (Some c.args.nesting_left)) c.args.tokens.now ds c.in_ok-one.behind.now)
+    subst (λ (ds : DefinitionListView). Parses (DefinitionList c.args.text.now (Some c.args.nesting_left)) c.args.tokens.now ds c.in_ok-one.remainder.now)
     (sym (seen_row c.push.new.self.items c.loop-found.found.items c.in_ok-one.one c.in_ok-push.ensures.items))
-    (c.loop-found.invariant.finds (definition_view c.in_ok-one.one ∷ []) c.in_ok-one.behind.now
+    (c.loop-found.invariant.finds (definition_view c.in_ok-one.one ∷ []) c.in_ok-one.remainder.now
     (found_last_process c.args.text.now (c.args.nesting_left - 1) c.args.nesting_left c.loop-found.rest.now c.in_ok-word.after.now
-    c.in_ok-one.behind.now c.in_ok-word.word (definition_view c.in_ok-one.one) (let h = c.if-nesting_left-eq0.false in omega (arith, h))
+    c.in_ok-one.remainder.now c.in_ok-word.word (definition_view c.in_ok-one.one) (let h = c.if-nesting_left-eq0.false in omega (arith, h))
     c.in_ok-word.ensures.parses.0 c.in_ok-word.ensures.parses.1 c.in_ok-one.ensures.parses c.in_default.ensures.none))
 
 pub parse_definitions-returns-in_default-clause-shorter : goal.parse_definitions-returns-in_default-clause-shorter
@@ -192,18 +192,18 @@ parse_definitions-loop-found-preserved t c = record {
       let j = c.loop-found.invariant.left in
       let k = c.in_ok-one.ensures.shorter in
       omega (arith, i, j, k);
-  finds = λ ds behind f.
-      subst (λ (l : List DefinitionView). Parses (DefinitionList c.args.text.now (Some c.args.nesting_left)) c.args.tokens.now (definition_list_view l) behind)
+  finds = λ ds remainder f.
+      subst (λ (l : List DefinitionView). Parses (DefinitionList c.args.text.now (Some c.args.nesting_left)) c.args.tokens.now (definition_list_view l) remainder)
       (sym (seen_pushed c.push.new.self.items c.loop-found.found.items c.in_ok-one.one ds c.in_ok-push.ensures.items))
-      (c.loop-found.invariant.finds (definition_view c.in_ok-one.one ∷ ds) behind
+      (c.loop-found.invariant.finds (definition_view c.in_ok-one.one ∷ ds) remainder
       (found_more_processes c.args.text.now (c.args.nesting_left - 1) c.args.nesting_left c.loop-found.rest.now c.in_ok-word.after.now
-      c.in_ok-one.behind.now behind c.in_ok-word.word (definition_view c.in_ok-one.one) (definition_list_view ds)
+      c.in_ok-one.remainder.now remainder c.in_ok-word.word (definition_view c.in_ok-one.one) (definition_list_view ds)
       (let h = c.if-nesting_left-eq0.false in omega (arith, h)) c.in_ok-word.ensures.parses.0 c.in_ok-word.ensures.parses.1
       c.in_ok-one.ensures.parses f));
   carries = carries_further (DefinitionList c.args.text.now) (DefinitionList c.args.text.now) (DefinitionList c.args.text.now) c.args.nesting_left c.args.nesting_left c.args.nesting_left
-      c.in_ok-one.behind.now c.loop-found.rest.now c.args.tokens.now
+      c.in_ok-one.remainder.now c.loop-found.rest.now c.args.tokens.now
       (carries_more c.args.text.now (c.args.nesting_left - 1) c.args.nesting_left c.loop-found.rest.now c.in_ok-word.after.now
-      c.in_ok-one.behind.now c.in-Some.field-0.1.now c.in_ok-word.word c.in-Some.field-0.0 (definition_view c.in_ok-one.one)
+      c.in_ok-one.remainder.now c.in-Some.field-0.1.now c.in_ok-word.word c.in-Some.field-0.0 (definition_view c.in_ok-one.one)
       c.in_ok-word.ensures.parses.0 c.in_ok-word.ensures.parses.1 c.in_ok-one.ensures.parses c.in-Some.ensures.some.0
       c.in-Some.ensures.some.1)
       c.loop-found.invariant.carries;

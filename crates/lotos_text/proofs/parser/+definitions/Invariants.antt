@@ -22,10 +22,10 @@ abbrev pub invariant-parse_definitions-loop-found : goal.invariant-parse_definit
 invariant-parse_definitions-loop-found l = record {
   stand : AreTokensIn l.text l.rest;
   left : length l.rest ≤ length l.fn.tokens;
-  finds : (ds : List DefinitionView) (behind : List Token) →
-      Parses (DefinitionList l.text (Some l.nesting_left)) l.rest (definition_list_view ds) behind →
+  finds : (ds : List DefinitionView) (remainder : List Token) →
+      Parses (DefinitionList l.text (Some l.nesting_left)) l.rest (definition_list_view ds) remainder →
       Parses (DefinitionList l.text (Some l.nesting_left)) l.fn.tokens
-      (definition_list_view (map definition_view l.found.items ++ ds)) behind;
+      (definition_list_view (map definition_view l.found.items ++ ds)) remainder;
   carries : Carries (DefinitionList l.text) l.nesting_left l.rest
       (DefinitionList l.text) l.nesting_left l.fn.tokens;
 }

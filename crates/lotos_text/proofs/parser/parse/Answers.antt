@@ -25,8 +25,8 @@ returns-in-Ok-clause-only c other s =
     (subst (λ ts. Parses (SpecificationPhrase c.args.text.now (Some max_nesting)) ts (definition_view c.in-Ok.whole) []) c.as_slice.ensures.value
     c.in-Ok.ensures.parses) s
 
-pub returns-clause-refused : goal.returns-clause-refused
-returns-clause-refused c =
+pub returns-clause-fault : goal.returns-clause-fault
+returns-clause-fault c =
     lost_refused c.args.text.now c.in_ok-cut.cut.items c.in_ok-cut.ensures.short c.in_ok-cut.ensures.lexes c.in-Err.stop
     c.fault_of_error.result
     (subst (λ ts. FailsWithin (SpecificationPhrase c.args.text.now) max_nesting ts c.in-Err.stop) c.as_slice.ensures.value c.in-Err.ensures.fails)
@@ -43,8 +43,8 @@ pub returns-in_err-cut-clause-fault_inside : goal.returns-in_err-cut-clause-faul
 returns-in_err-cut-clause-fault_inside c =
     let h = stuck_fault_inside c.args.text.now c.in_err-cut.field-0.0 c.in_err-cut.ensures.fails in search rules
 
-pub returns-in-Ok-clause-tree_inside : goal.returns-in-Ok-clause-tree_inside
-returns-in-Ok-clause-tree_inside c = spelled_inside c.args.text.now (definition_view c.in-Ok.whole) (returns-in-Ok-clause-spelled c)
+pub returns-in-Ok-clause-ast_inside : goal.returns-in-Ok-clause-ast_inside
+returns-in-Ok-clause-ast_inside c = spelled_inside c.args.text.now (definition_view c.in-Ok.whole) (returns-in-Ok-clause-spelled c)
 
 pub returns-clause-fault_inside : goal.returns-clause-fault_inside
-returns-clause-fault_inside c = fault_inside c.args.text.now c.fault_of_error.result (returns-clause-refused c)
+returns-clause-fault_inside c = fault_inside c.args.text.now c.fault_of_error.result (returns-clause-fault c)
