@@ -1,5 +1,5 @@
 //! Names that are declared twice, and names that several lists declare once each.
-use super::table_texts::message;
+use super::table_texts::assert_message;
 use std::test::Fail;
 
 /// What is declared twice, a specification, and the message and the offset of its fault; no message and no offset if it
@@ -56,11 +56,9 @@ const DUPLICATES: &[(&str, &str, &str, Option<usize>)] = &[
 ];
 
 #[test]
-fn refuses_the_first_name_that_is_declared_twice(rt: HostRuntime) -> Result<(), Fail> {
+fn rejects_the_first_name_that_is_declared_twice(rt: HostRuntime) -> Result<(), Fail> {
     for (words, text, expected, at) in DUPLICATES {
-        let (told, place) = message(rt.alloc(), text)?;
-        assert_eq!(rt; told.as_str(), *expected, "the fault of {}", words);
-        assert_eq!(rt; place, *at, "the place of {}", words);
+        assert_message(&rt, rt.alloc(), words, text, expected, *at)?;
     }
     Ok(())
 }

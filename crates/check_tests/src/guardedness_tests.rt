@@ -1,6 +1,6 @@
 //! Processes that call each other, with their unguarded calls and their ranks.
-use lotos_check::{CheckFault, Checked, check};
-use lotos_text::parse;
+use super::table_texts::{checked, joined};
+use lotos_check::{CheckFault, Checked};
 use std::alloc::{AllocError, Global};
 use std::process::Abort;
 use std::test::Fail;
@@ -19,19 +19,31 @@ enum Place {
     RightOfDisable,
 }
 
+/// What stands before and after the call there, in a body.
+fn around(place: Place) -> (&'static str, &'static str) {
+    match place {
+        Place::Bare => ("", " [] exit"),
+        Place::AfterPrefix => ("i; ", ""),
+        Place::LeftOfEnable => ("", " >> exit"),
+        Place::RightOfEnable => ("exit >> ", ""),
+        Place::Hidden => ("hide a in ", ""),
+        Place::LeftOfPar => ("", " || exit"),
+        Place::RightOfPar => ("exit || ", ""),
+        Place::LeftOfDisable => ("", " [> exit"),
+        Place::RightOfDisable => ("exit [> ", ""),
+    }
+}
+
 /// A body that calls the process there.
 fn called(alloc: Global, place: Place, process: usize) -> Result<String, AllocError> {
-    match place {
-        Place::Bare => format!(in alloc; "P{process} [] exit"),
-        Place::AfterPrefix => format!(in alloc; "i; P{process}"),
-        Place::LeftOfEnable => format!(in alloc; "P{process} >> exit"),
-        Place::RightOfEnable => format!(in alloc; "exit >> P{process}"),
-        Place::Hidden => format!(in alloc; "hide a in P{process}"),
-        Place::LeftOfPar => format!(in alloc; "P{process} || exit"),
-        Place::RightOfPar => format!(in alloc; "exit || P{process}"),
-        Place::LeftOfDisable => format!(in alloc; "P{process} [> exit"),
-        Place::RightOfDisable => format!(in alloc; "exit [> P{process}"),
-    }
+    let (before, after) = around(place);
+    let process = process.to_string(alloc)?;
+    joined(alloc, &[before, "P", process.as_str(), after])
+}
+
+fn front_of(alloc: Global, number: usize) -> Result<String, AllocError> {
+    let number = number.to_string(alloc)?;
+    joined(alloc, &["process P", number.as_str(), " : exit := exit"])
 }
 
 /// The definition of the process with this number, whose body is a choice of its calls.
@@ -40,7 +52,7 @@ fn process(
     number: usize,
     calls: &[(usize, Place, usize)],
 ) -> Result<String, AllocError> {
-    let mut text = format!(in alloc; "process P{number} : exit := exit")?;
+    let mut text = front_of(alloc, number)?;
     for (caller, place, process) in calls {
         if *caller == number {
             let body = called(alloc, *place, *process)?;
@@ -83,10 +95,13 @@ enum Ranking {
 /// The ranking of `count` processes with these calls.
 fn ranked(alloc: Global, count: usize, calls: &[(usize, Place, usize)]) -> Result<Ranking, Fail> {
     let text = specification(alloc, count, calls)?;
-    let tree = parse(alloc, text.as_bytes())?;
-    match check(alloc, tree) {
-        Ok(system) => Ok(Ranking::Guarded(ranks_of(alloc, &system)?)),
-        Err(CheckFault::E27 { set, .. }) => Ok(Ranking::Unguarded(set)),
+    ranking_of(alloc, checked(alloc, text.as_str())?)
+}
+
+fn ranking_of(alloc: Global, found: Result<Checked, CheckFault>) -> Result<Ranking, Fail> {
+    match &found {
+        Ok(system) => Ok(Ranking::Guarded(ranks_of(alloc, system)?)),
+        Err(CheckFault::E27 { set, .. }) => Ok(Ranking::Unguarded(set.clone()?)),
         Err(_) => Err("another fault than E27")?,
     }
 }
@@ -122,12 +137,24 @@ const CALLS: &[(&str, Place, bool)] = &[
     ("right of `[>`", Place::RightOfDisable, true),
 ];
 
+/// Asserts the set of processes with unguarded calls into it, if the last of eight processes calls itself there.
+fn assert_unguarded(
+    rt: &impl Abort,
+    alloc: Global,
+    words: &str,
+    place: Place,
+    expected: &[usize],
+) -> Result<(), Fail> {
+    let found = ranked(alloc, 8, &[(7, place, 7)])?;
+    assert_eq!(rt; unguarded_of(&found), expected, "a call {}", words);
+    Ok(())
+}
+
 #[test]
 fn distinguishes_guarded_calls(rt: HostRuntime) -> Result<(), Fail> {
     for (words, place, unguarded) in CALLS {
-        let found = ranked(rt.alloc(), 8, &[(7, *place, 7)])?;
         let expected: &[usize] = if *unguarded { &[7] } else { &[] };
-        assert_eq!(rt; unguarded_of(&found), expected, "a call {}", words);
+        assert_unguarded(&rt, rt.alloc(), words, *place, expected)?;
     }
     Ok(())
 }
@@ -148,6 +175,20 @@ fn assert_ranking(
             assert_eq!(rt; set.as_slice(), unguarded, "the set of {}", words);
         }
     }
+}
+
+fn assert_ranked(
+    rt: &impl Abort,
+    alloc: Global,
+    words: &str,
+    count: usize,
+    calls: &[(usize, Place, usize)],
+    ranks: &[usize],
+    unguarded: &[usize],
+) -> Result<(), Fail> {
+    let found = ranked(alloc, count, calls)?;
+    assert_ranking(rt, words, &found, ranks, unguarded);
+    Ok(())
 }
 
 /// What is tested, the number of processes, the calls, and the ranks, or the set of processes with unguarded calls into
@@ -218,8 +259,7 @@ const RANKINGS: &[(&str, usize, &[(usize, Place, usize)], &[usize], &[usize])] =
 #[test]
 fn ranks_or_refuses(rt: HostRuntime) -> Result<(), Fail> {
     for (words, count, calls, ranks, unguarded) in RANKINGS {
-        let found = ranked(rt.alloc(), *count, calls)?;
-        assert_ranking(&rt, words, &found, ranks, unguarded);
+        assert_ranked(&rt, rt.alloc(), words, *count, calls, ranks, unguarded)?;
     }
     Ok(())
 }
@@ -227,24 +267,55 @@ fn ranks_or_refuses(rt: HostRuntime) -> Result<(), Fail> {
 /// The number of the last process of a long chain.
 const LAST: usize = 299;
 
-#[test]
-fn ranks_or_refuses_a_long_chain(rt: HostRuntime) -> Result<(), Fail> {
-    let mut calls = Vec::new(rt.alloc());
-    let mut falling = Vec::new(rt.alloc());
-    let mut all = Vec::new(rt.alloc());
+/// Each process but the last calls the next one, and the last one the first if it is a cycle.
+fn long_calls(alloc: Global, is_cycle: bool) -> Result<Vec<(usize, Place, usize)>, AllocError> {
+    let mut calls = Vec::new(alloc);
     for number in 0..LAST {
         calls.push((number, Place::Bare, number + 1))?;
-        falling.push(LAST - number)?;
-        all.push(number)?;
     }
-    falling.push(0)?;
-    all.push(LAST)?;
-    let chain = ranked(rt.alloc(), LAST + 1, calls.as_slice())?;
-    assert_ranking(&rt, "a chain of 300", &chain, falling.as_slice(), &[]);
-    calls.push((LAST, Place::Bare, 0))?;
-    let cycle = ranked(rt.alloc(), LAST + 1, calls.as_slice())?;
-    assert_ranking(&rt, "a cycle of 300", &cycle, &[], all.as_slice());
-    Ok(())
+    if is_cycle {
+        calls.push((LAST, Place::Bare, 0))?;
+    }
+    Ok(calls)
+}
+
+/// The numbers up to the last one, or from it down.
+fn numbers(alloc: Global, is_falling: bool) -> Result<Vec<usize>, AllocError> {
+    let mut numbers = Vec::new(alloc);
+    for number in 0..=LAST {
+        numbers.push(if is_falling { LAST - number } else { number })?;
+    }
+    Ok(numbers)
+}
+
+#[test]
+fn ranks_a_long_chain(rt: HostRuntime) -> Result<(), Fail> {
+    let calls = long_calls(rt.alloc(), false)?;
+    let falling = numbers(rt.alloc(), true)?;
+    assert_ranked(
+        &rt,
+        rt.alloc(),
+        "a chain of 300",
+        LAST + 1,
+        calls.as_slice(),
+        falling.as_slice(),
+        &[],
+    )
+}
+
+#[test]
+fn rejects_a_long_cycle(rt: HostRuntime) -> Result<(), Fail> {
+    let calls = long_calls(rt.alloc(), true)?;
+    let all = numbers(rt.alloc(), false)?;
+    assert_ranked(
+        &rt,
+        rt.alloc(),
+        "a cycle of 300",
+        LAST + 1,
+        calls.as_slice(),
+        &[],
+        all.as_slice(),
+    )
 }
 
 /// The processes that can be ranked: by rank if all can, otherwise by number.
@@ -320,12 +391,33 @@ const ORDERS: &[(&str, usize, &[(usize, Place, usize)], &[usize])] = &[
     ),
 ];
 
+/// The same of the ranking of these processes.
+fn ranked_order(
+    alloc: Global,
+    count: usize,
+    calls: &[(usize, Place, usize)],
+) -> Result<Vec<usize>, Fail> {
+    let found = ranked(alloc, count, calls)?;
+    Ok(order_of(alloc, count, &found)?)
+}
+
+fn assert_order(
+    rt: &impl Abort,
+    alloc: Global,
+    words: &str,
+    count: usize,
+    calls: &[(usize, Place, usize)],
+    expected: &[usize],
+) -> Result<(), Fail> {
+    let order = ranked_order(alloc, count, calls)?;
+    assert_eq!(rt; order.as_slice(), expected, "the order of {}", words);
+    Ok(())
+}
+
 #[test]
 fn orders_callers_after_their_calls(rt: HostRuntime) -> Result<(), Fail> {
     for (words, count, calls, expected) in ORDERS {
-        let found = ranked(rt.alloc(), *count, calls)?;
-        let order = order_of(rt.alloc(), *count, &found)?;
-        assert_eq!(rt; order.as_slice(), *expected, "the order of {}", words);
+        assert_order(&rt, rt.alloc(), words, *count, calls, expected)?;
     }
     Ok(())
 }

@@ -12,7 +12,7 @@ use Rattle.lotos_check.specs.NameLists.{Name}
 use Rattle.lotos_check.specs.Scope.{Scope, Where, Declares, here, later, Binds, nearest, outward, count}
 use Rattle.lotos_check.specs.ProcessScopes.{BindsAll, IsScopeStack}
 use Rattle.lotos_check.specs.declared.process_scope.Binding.{Binding}
-use Rattle.lotos_check.proofs.PassedDefinitions.{parts_seen}
+use Rattle.lotos_check.proofs.DistinctDefinitions.{parts_seen}
 
 -- a list of definitions has its first definition, those inside it and the others
 count_row : (d : DefinitionView) (ds : DefinitionListView) → count (more_defs d ds) ≡ 1 + count (inner_of d) + count ds

@@ -120,8 +120,8 @@ declared_at all scope k (more_defs (def name formals declared body inner) ds) st
     let this : ScopedDefinition = record { scope = own; definition = def name formals declared body inner } in
     let deep = definitions_in_scope own (k + 1) inner in
     let c = listed_count own (k + 1) inner in
-    let behind = stands_back all k this deep (definitions_in_scope scope (k + 1 + count inner) ds) stands (k + 1 + count inner) (omega arith) in
-    declared_at all scope (k + 1 + count inner) ds behind n q d x
+    let after = stands_back all k this deep (definitions_in_scope scope (k + 1 + count inner) ds) stands (k + 1 + count inner) (omega arith) in
+    declared_at all scope (k + 1 + count inner) ds after n q d x
 declared_at all scope k no_defs stands n q d x = elim x [ ]
 
 abbrev AllNumbered : List ScopedDefinition → Scope → Type 0
@@ -142,13 +142,13 @@ listed_numbered all scope k (more_defs (def name formals declared body inner) ds
     let rest = definitions_in_scope scope (k + 1 + count inner) ds in
     let c = listed_count own (k + 1) inner in
     let front = stands_front all k this deep rest stands in
-    let behind = stands_back all k this deep rest stands (k + 1 + count inner) (omega arith) in
+    let after = stands_back all k this deep rest stands (k + 1 + count inner) (omega arith) in
     let with_own = more_numbered all w scope (record { scope = own; located = front }) numbered in
     elim i [
       | inl e ↦ subst (λ t. AllNumbered all t.scope) e with_own
       | inr j ↦ elim (in_joined v deep rest j) [
         | inl d ↦ listed_numbered all own (k + 1) inner front with_own v d
-        | inr r ↦ listed_numbered all scope (k + 1 + count inner) ds behind numbered v r
+        | inr r ↦ listed_numbered all scope (k + 1 + count inner) ds after numbered v r
       ]
     ]
 
@@ -240,7 +240,7 @@ call_fits whole s a b body k gates h =
       given = refl;
       differ = differ;
     } in
-    let same : formal ≡ actual = same_unless formal actual (λ differ. a.typed.same_numbers c.name formal actual (unfit differ)) in
+    let same : formal ≡ actual = same_unless formal actual (λ differ. a.typed.same_counts c.name formal actual (unfit differ)) in
     let g = ap length c.given ∙ length-map c.actuals (λ p. p.name) in
     let f = ap length p.formals ∙ length-map (formals_of c.definition) (λ p. p.name) in
     (p.process, p.located, g ∙ sym same ∙ sym f)

@@ -137,7 +137,7 @@ pub faulty_refused : (whole : DefinitionView) (fault : CheckFault) → IsStaticF
 faulty_refused whole (E20 gate) h = λ system a. a.typed.distinct.gates gate h
 faulty_refused whole (E21 gate) h = λ system a. a.typed.known_gates gate h
 faulty_refused whole (E22 name) h = λ system a. a.typed.known_processes name h
-faulty_refused whole (E23 name formal actual) h = λ system a. a.typed.same_numbers name formal actual h
+faulty_refused whole (E23 name formal actual) h = λ system a. a.typed.same_counts name formal actual h
 faulty_refused whole (E24 name) h = λ system a. a.typed.distinct.processes name h
 faulty_refused whole (E25 name declared) h = λ system a. a.typed.as_declared name declared h
 faulty_refused whole (E26 at) h = λ system a. a.typed.left_exits at h

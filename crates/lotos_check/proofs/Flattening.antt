@@ -15,7 +15,7 @@ use Rattle.lotos_check.proofs.DefinitionOrder.{shown}
 -- a process is a definition with a code, if it has the definition's parts and that code
 pub made_of : (d : Definition) (found : ResolvedBody) (process : Process) → process.name ≡ (out-Definition d).name.name →
     process.formals.items ≡ texts (out-Definition d).formals.items → process.functionality ≡ (out-Definition d).functionality →
-    process.body ≡ found.code → IsProcessOfBody (definition_view d) found (process_of process)
+    process.body ≡ found.code.value → IsProcessOfBody (definition_view d) found (process_of process)
 made_of d found process n f g b = record {
   name = n ∙ sym (ap (λ t. (name_of t).name) (shown d));
   formals = f ∙ sym (ap (λ t. texts (formals_of t)) (shown d));
@@ -37,7 +37,7 @@ module _ (definitions : List DefinitionView) (found : List ResolvedBody) where
 
 -- the first becomes the behaviour
 pub flattens_first : (definitions : List DefinitionView) (found : List ResolvedBody) (one : ResolvedBody) (rest : List ResolvedBody) (start : Code) (processes : List Process) →
-    Flattens definitions found 0 (one ∷ rest) start processes → Flattens definitions found 1 rest one.code processes
+    Flattens definitions found 0 (one ∷ rest) start processes → Flattens definitions found 1 rest one.code.value processes
 flattens_first [] found one rest start processes h = absurd (let e = h.sized in omega arith)
 flattens_first (d ∷ ds) found one rest start processes h =
     let b = h.begin refl in
@@ -45,8 +45,8 @@ flattens_first (d ∷ ds) found one rest start processes h =
       sized = let e = h.sized in omega arith;
       begin = λ e. absurd (omega arith);
       more = λ _ others m.
-          subst (λ t. IsFlattened (d ∷ ds) t one.code (processes ++ others)) b.1
-          (subst (λ t. IsFlattened (d ∷ ds) (one ∷ rest) one.code (t ++ others)) (sym b.0) (flattens refl m));
+          subst (λ t. IsFlattened (d ∷ ds) t one.code.value (processes ++ others)) b.1
+          (subst (λ t. IsFlattened (d ∷ ds) (one ∷ rest) one.code.value (t ++ others)) (sym b.0) (flattens refl m));
     }
 
 -- each other one becomes a process
@@ -74,7 +74,7 @@ flattens_all definitions found (suc index) start processes p h =
 
 -- a step of the code at the first
 pub flattens_first_step : (definitions : List DefinitionView) (found : List ResolvedBody) (index : ℕ) (one : ResolvedBody) (all rest : List ResolvedBody) (start after : Code)
-    (processes others : List Process) → index ≡ 0 → all ≡ one ∷ rest → after ≡ one.code → others ≡ processes →
+    (processes others : List Process) → index ≡ 0 → all ≡ one ∷ rest → after ≡ one.code.value → others ≡ processes →
     Flattens definitions found index all start processes → Flattens definitions found (index + 1) rest after others
 flattens_first_step definitions found index one all rest start after processes others i a s p h =
     let k : Flattens definitions found 0 (one ∷ rest) start processes = rw (i, a) at h in

@@ -9,9 +9,9 @@ pub mod RankRounds
 pub mod SameFault
 pub mod JoinedLists
 pub mod NameTests
-pub mod VisibleNames
+pub mod VisitedNames
 pub mod Enclosed
-pub mod PassedDefinitions
+pub mod DistinctDefinitions
 pub mod DeclaredGates
 pub mod NameSets
 pub mod Bindings
@@ -35,3 +35,4 @@ pub mod DuplicateNames
 pub mod UsedGates
 pub mod RankedCalls
 pub mod CheckedInvariants
+pub mod AcceptedTexts

@@ -102,7 +102,7 @@ module _ (scope : Scope) (known : List Name) where
     -- the resolution of a call of a visible process with as many gates as its definition has, all of them in scope
     pub found_call : (text : Name) (process : ℕ) (definition : DefinitionView) (found : ResolvedBody) → text ≡ name.name →
         Binds scope text process definition → length (formals_of definition) ≡ length actuals →
-        ((gate : Placed) → In gate actuals → In gate.name known) → flat_of found.code ≡ r.call process (texts actuals) →
+        ((gate : Placed) → In gate actuals → In gate.name known) → flat_of found.code.value ≡ r.call process (texts actuals) →
         found.functionality ≡ declared_of definition → found.never_exits ≡ None → IsResolved scope known (call name actuals) found
     found_call text process definition found same means fits given c f n =
         let named : Binds scope name.name process definition = subst (λ s. Binds scope s process definition) same means in

@@ -42,7 +42,7 @@ module _ (scope : Scope) (known : List Name) where
   lefts_stop there left right at stands = elim stands [ ]
 
   -- what is found of `stop`
-  pub found_stop : (found : ResolvedBody) → flat_of found.code ≡ r.stop → found.functionality ≡ NoExit → found.never_exits ≡ None →
+  pub found_stop : (found : ResolvedBody) → flat_of found.code.value ≡ r.stop → found.functionality ≡ NoExit → found.never_exits ≡ None →
       IsResolved scope known t.stop found
   found_stop found c f n = record {
     code = rw c r.of_stop;
@@ -62,7 +62,7 @@ module _ (scope : Scope) (known : List Name) where
   lefts_exit there left right at stands = elim stands [ ]
 
   -- what is found of `exit`
-  pub found_exit : (found : ResolvedBody) → flat_of found.code ≡ r.exit → found.functionality ≡ Exit → found.never_exits ≡ None →
+  pub found_exit : (found : ResolvedBody) → flat_of found.code.value ≡ r.exit → found.functionality ≡ Exit → found.never_exits ≡ None →
       IsResolved scope known t.exit found
   found_exit found c f n = record {
     code = rw c r.of_exit;
@@ -75,7 +75,7 @@ module _ (scope : Scope) (known : List Name) where
   module _ (inner : List Name) (left right body : BehaviourView) (has : HasOperands inner known left right body)
       (first second found : ResolvedBody) (h : IsResolved scope inner left first) (k : IsResolved scope inner right second) where
     -- what is found of a behaviour that is no call, and no `>>` whose left operand has noexit
-    pub found_joined : Resolves scope body (flat_of found.code) → Func scope body found.functionality →
+    pub found_joined : Resolves scope body (flat_of found.code.value) → Func scope body found.functionality →
         found.never_exits ≡ option_or first.never_exits second.never_exits → ((gate : Placed) → UsesGate body gate → In gate.name known) →
         ((name : Placed) (actuals : List Placed) → body ≡ t.call name actuals → ⊥) →
         ((a b : BehaviourView) (at : ℕ) → body ≡ t.enable a at b → Func scope a Exit) → IsResolved scope known body found
@@ -94,7 +94,7 @@ module _ (scope : Scope) (known : List Name) where
 
   -- what is found of a prefix
   pub found_prefix : (action : Action) (body : BehaviourView) (inner found : ResolvedBody) → IsActionDeclared known action →
-      IsResolved scope known body inner → flat_of found.code ≡ r.prefix (action_of action) (flat_of inner.code) →
+      IsResolved scope known body inner → flat_of found.code.value ≡ r.prefix (action_of action) (flat_of inner.code.value) →
       found.functionality ≡ inner.functionality → found.never_exits ≡ inner.never_exits →
       IsResolved scope known (t.prefix action body) found
   found_prefix action body inner found given h c f n =
@@ -104,7 +104,7 @@ module _ (scope : Scope) (known : List Name) where
 
   -- what is found of a hide form
   pub found_hide : (list : List Placed) (set : List Name) (body : BehaviourView) (inner found : ResolvedBody) → IsSetOf set list →
-      IsResolved scope (texts list ++ known) body inner → flat_of found.code ≡ r.hide set (flat_of inner.code) →
+      IsResolved scope (texts list ++ known) body inner → flat_of found.code.value ≡ r.hide set (flat_of inner.code.value) →
       found.functionality ≡ inner.functionality → found.never_exits ≡ inner.never_exits →
       IsResolved scope known (t.hide list body) found
   found_hide list set body inner found is_set h c f n =
@@ -115,7 +115,7 @@ module _ (scope : Scope) (known : List Name) where
   module _ (left right : BehaviourView) (first second found : ResolvedBody) (h : IsResolved scope known left first)
       (k : IsResolved scope known right second) where
     -- what is found of a choice
-    pub found_choice : flat_of found.code ≡ r.choice (flat_of first.code) (flat_of second.code) →
+    pub found_choice : flat_of found.code.value ≡ r.choice (flat_of first.code.value) (flat_of second.code.value) →
         found.functionality ≡ either first.functionality second.functionality →
         found.never_exits ≡ option_or first.never_exits second.never_exits → IsResolved scope known (t.choice left right) found
     found_choice c f n =
@@ -124,7 +124,7 @@ module _ (scope : Scope) (known : List Name) where
         (λ name actuals e. cc) (λ a b at e. absurd cc)
 
     -- what is found of a `[>`
-    pub found_disable : flat_of found.code ≡ r.disable (flat_of first.code) (flat_of second.code) →
+    pub found_disable : flat_of found.code.value ≡ r.disable (flat_of first.code.value) (flat_of second.code.value) →
         found.functionality ≡ either first.functionality second.functionality →
         found.never_exits ≡ option_or first.never_exits second.never_exits → IsResolved scope known (t.disable left right) found
     found_disable c f n =
@@ -138,7 +138,7 @@ module _ (scope : Scope) (known : List Name) where
     uses_par all given gate uses = elim uses [ ]
 
     resolves_par : (set : Option (List Name)) (sync : SyncView) → IsSyncSet set sync →
-        Resolves scope (t.par left sync right) (r.par (flat_of first.code) set (flat_of second.code))
+        Resolves scope (t.par left sync right) (r.par (flat_of first.code.value) set (flat_of second.code.value))
     resolves_par None (gates list) is_set = absurd is_set
     resolves_par None all is_set = r.of_par_all h.code k.code
     resolves_par (Some set) (gates list) is_set = r.of_par h.code is_set k.code
@@ -146,7 +146,7 @@ module _ (scope : Scope) (known : List Name) where
 
     -- what is found of a parallel expression
     pub found_par : (set : Option (List Name)) (sync : SyncView) → IsSyncSet set sync → AreSyncGatesDeclared known sync →
-        flat_of found.code ≡ r.par (flat_of first.code) set (flat_of second.code) →
+        flat_of found.code.value ≡ r.par (flat_of first.code.value) set (flat_of second.code.value) →
         found.functionality ≡ both first.functionality second.functionality →
         found.never_exits ≡ option_or first.never_exits second.never_exits → IsResolved scope known (t.par left sync right) found
     found_par set sync is_set given c f n =
@@ -164,7 +164,7 @@ module _ (scope : Scope) (known : List Name) where
 
     -- what is found of a `>>` whose left operand has exit
     pub found_enable : (at : ℕ) → first.functionality ≡ Exit →
-        flat_of found.code ≡ r.enable (flat_of first.code) (flat_of second.code) →
+        flat_of found.code.value ≡ r.enable (flat_of first.code.value) (flat_of second.code.value) →
         found.functionality ≡ second.functionality →
         found.never_exits ≡ option_or (option_or first.never_exits None) second.never_exits → IsResolved scope known (t.enable left at right) found
     found_enable at exits c f n =
@@ -183,7 +183,7 @@ module _ (scope : Scope) (known : List Name) where
 
     -- what is found of a `>>` whose left operand has noexit
     pub found_halting : (at : ℕ) → first.functionality ≡ NoExit →
-        flat_of found.code ≡ r.enable (flat_of first.code) (flat_of second.code) →
+        flat_of found.code.value ≡ r.enable (flat_of first.code.value) (flat_of second.code.value) →
         found.functionality ≡ second.functionality →
         found.never_exits ≡ option_or (option_or first.never_exits (Some at)) second.never_exits →
         IsResolved scope known (t.enable left at right) found

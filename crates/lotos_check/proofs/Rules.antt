@@ -108,7 +108,7 @@ module _ (whole : DefinitionView) (found : List ResolvedBody) (distinct : IsDist
     distinct = distinct;
     known_gates = no_unknown_gate;
     known_processes = no_unseen_process;
-    same_numbers = no_unfit_call;
+    same_counts = no_unfit_call;
     as_declared = no_other_functionality;
     left_exits = no_stuck_enabling;
   }

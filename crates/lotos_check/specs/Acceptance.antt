@@ -64,7 +64,7 @@ pub record IsProcessOfBody (definition : DefinitionView) (found : ResolvedBody) 
   pub name : process.name ≡ (name_of definition).name
   pub formals : process.formals ≡ texts (formals_of definition)
   pub functionality : process.functionality ≡ declared_of definition
-  pub body : process.body ≡ flat_of found.code
+  pub body : process.body ≡ flat_of found.code.value
 
 -- the processes are the definitions with the code of their resolved bodies, one by one
 pub data AreProcessesOfBodies : List DefinitionView → List ResolvedBody → List Process → Type 0 where
@@ -75,4 +75,4 @@ pub data AreProcessesOfBodies : List DefinitionView → List ResolvedBody → Li
 -- the behaviour is the code of the first definition's body, and the processes are the other definitions
 pub data IsFlattened : List DefinitionView → List ResolvedBody → Code → List Process → Type 0 where
   flattens : {d : DefinitionView} {ds : List DefinitionView} {r : ResolvedBody} {rs : List ResolvedBody} {start : Code} {processes : List Process} →
-      flat_of start ≡ flat_of r.code → AreProcessesOfBodies ds rs processes → IsFlattened (d ∷ ds) (r ∷ rs) start processes
+      flat_of start ≡ flat_of r.code.value → AreProcessesOfBodies ds rs processes → IsFlattened (d ∷ ds) (r ∷ rs) start processes

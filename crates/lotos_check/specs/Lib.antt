@@ -12,6 +12,7 @@ pub mod Acceptance
 pub mod CheckedInvariant
 pub mod CheckedView
 pub mod FaultOffsets
+pub mod AcceptedText
 pub mod Resolution
 pub mod ProcessScopes
 pub mod RankingSteps

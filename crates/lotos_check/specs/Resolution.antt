@@ -41,7 +41,7 @@ pub record NeverExits (scope : Scope) (in_scope : List Name) (body : BehaviourVi
 
 -- what holds of a body that is resolved without a fault
 pub record IsResolved (scope : Scope) (in_scope : List Name) (body : BehaviourView) (found : ResolvedBody) : Type 0 where
-  pub code : Resolves scope body (flat_of found.code)
+  pub code : Resolves scope body (flat_of found.code.value)
   pub has : Func scope body found.functionality
   pub gates : GatesDeclared in_scope body
   pub calls : CallsFit scope in_scope body

@@ -89,6 +89,6 @@ pub record WellTyped (whole : DefinitionView) : Type 0 where
   pub distinct : IsDistinct whole
   pub known_gates : (p : Placed) → IsE21 whole p → ⊥
   pub known_processes : (p : Placed) → IsE22 whole p → ⊥
-  pub same_numbers : (p : Placed) (formal actual : ℕ) → IsE23 whole p formal actual → ⊥
+  pub same_counts : (p : Placed) (formal actual : ℕ) → IsE23 whole p formal actual → ⊥
   pub as_declared : (p : Placed) (f : Functionality) → IsE25 whole p f → ⊥
   pub left_exits : (at : ℕ) → IsE26 whole at → ⊥

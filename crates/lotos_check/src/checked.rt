@@ -11,11 +11,11 @@ use lotos_text::Name;
 #[derive(Debug, Drop)]
 pub struct Checked {
     pub(crate) gates: Vec<Name>,
-    pub(crate) start: Code,
+    pub(crate) start: Box<Code>,
     pub(crate) processes: Vec<Process>,
     pub(crate) ranks: Vec<usize>,
     ghost kept: { ∥ IsCheckedSystem
-        (record { formals = gates.items; start = flat_of start; processes = map process_of processes.items })
+        (record { formals = gates.items; start = flat_of start.value; processes = map process_of processes.items })
         ranks.items ∥₁ },
 }
 
@@ -47,7 +47,7 @@ impl Checked {
     /// The rank of the process with this number. Every unguarded call in its body goes to a process of smaller rank.
     pub fn rank(&self, process: usize) -> usize
         requires { process < length (system_of self.now).processes }
-        ensures place { slice_get (ranks_of self.now) process ≡ Some result }
+        ensures entry { slice_get (ranks_of self.now) process ≡ Some result }
         ensures kept { ∥ IsCheckedSystem (system_of self.now) (ranks_of self.now) ∥₁ }
     {
         self.ranks[process]

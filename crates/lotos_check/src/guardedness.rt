@@ -10,7 +10,7 @@ use crate::resolved::Process;
 use std::alloc::{AllocError, Global};
 
 /// Whether recursion is guarded.
-#[derive(Debug, Drop)]
+#[derive(Drop)]
 pub(crate) enum Ranking {
     /// A rank for each process; they decrease at every unguarded call.
     Guarded(Vec<usize>),

@@ -14,8 +14,8 @@ use crate::name_lists::{copy_names, name_set};
 use crate::process_scope::{Binding, find_binding};
 use crate::resolved::Code;
 use crate::resolved_body::{
-    ResolvedBody, make_choice, make_disable, make_enable, make_hide, make_leaf, make_parallel,
-    make_prefix,
+    ResolvedBody, box_code, make_choice, make_disable, make_enable, make_hide, make_leaf,
+    make_parallel, make_prefix,
 };
 use indexmap::{IndexMap, IndexSet};
 use lotos_text::{Action, Behaviour, Functionality, Name, Placed, SyncSet};
@@ -37,8 +37,8 @@ pub(crate) fn resolve<'a>(
     ensures declared { OnOk result (gates_in_scope.new.keys ≡ gates_in_scope.old.keys) }
 {
     match behaviour {
-        Behaviour::Stop => Ok(make_leaf(Code::Stop, Functionality::NoExit)),
-        Behaviour::Exit => Ok(make_leaf(Code::Exit, Functionality::Exit)),
+        Behaviour::Stop => Ok(make_leaf(alloc, Code::Stop, Functionality::NoExit)?),
+        Behaviour::Exit => Ok(make_leaf(alloc, Code::Exit, Functionality::Exit)?),
         Behaviour::Prefix { action, body } => {
             let name = resolve_action(alloc, gates_in_scope, action)?;
             let inner = resolve(alloc, scopes, gates_in_scope, body)?;
@@ -158,11 +158,11 @@ fn resolve_call<'a>(
         });
     }
     check_declared(alloc, gates_in_scope, actuals)?;
+    let gates = copy_names(alloc, actuals)?;
+    let process = binding.process;
+    let code = box_code(alloc, Code::Call { process, gates })?;
     Ok(ResolvedBody {
-        code: Code::Call {
-            process: binding.process,
-            gates: copy_names(alloc, actuals)?,
-        },
+        code,
         functionality: binding.definition.functionality,
         never_exits: None,
     })

@@ -16,24 +16,36 @@ use lotos_text::{Functionality, Name, Placed};
 use std::alloc::{AllocError, Global};
 
 /// A behaviour with calls by number, its functionality, and the offset of the first `>>` whose left operand has noexit.
-#[derive(Debug, Drop)]
+#[derive(Drop)]
 pub(crate) struct ResolvedBody {
-    pub code: Code,
+    pub code: Box<Code>,
     pub functionality: Functionality,
     pub never_exits: Option<usize>,
 }
 
 /// A form without parts, and so without `>>`.
-pub(crate) fn make_leaf(code: Code, functionality: Functionality) -> ResolvedBody
-    ensures code { flat_of result.code ≡ flat_of code }
-    ensures functionality { result.functionality ≡ functionality }
-    ensures never { result.never_exits ≡ None }
+pub(crate) fn make_leaf(
+    alloc: Global,
+    code: Code,
+    functionality: Functionality,
+) -> Result<ResolvedBody, AllocError>
+    ensures code { IfOk result (λ found. flat_of found.code.value ≡ flat_of code) }
+    ensures functionality { IfOk result (λ found. found.functionality ≡ functionality) }
+    ensures never { IfOk result (λ found. found.never_exits ≡ None) }
 {
-    ResolvedBody {
+    let code = box_code(alloc, code)?;
+    Ok(ResolvedBody {
         code,
         functionality,
         never_exits: None,
-    }
+    })
+}
+
+/// Puts code on the heap.
+pub(crate) fn box_code(alloc: Global, code: Code) -> Result<Box<Code>, AllocError>
+    ensures { IfOk result (λ b. b.value ≡ code) }
+{
+    Ok(Box::new(alloc, code)?)
 }
 
 /// A prefix, from its resolved behaviour.
@@ -47,11 +59,15 @@ pub(crate) fn make_prefix(
         name ≡ action_of action → IsActionDeclared gates action → IsResolved scope gates body inner →
         IsResolved scope gates (prefix action body) found) }
 {
-    Ok(ResolvedBody {
-        code: Code::Prefix {
+    let code = box_code(
+        alloc,
+        Code::Prefix {
             action: name,
-            body: Box::new(alloc, inner.code)?,
+            body: inner.code,
         },
+    )?;
+    Ok(ResolvedBody {
+        code,
         functionality: inner.functionality,
         never_exits: inner.never_exits,
     })
@@ -67,11 +83,15 @@ pub(crate) fn make_choice(
         IsResolved scope gates left first → IsResolved scope gates right second →
         IsResolved scope gates (choice left right) found) }
 {
-    Ok(ResolvedBody {
-        code: Code::Choice {
-            left: Box::new(alloc, first.code)?,
-            right: Box::new(alloc, second.code)?,
+    let code = box_code(
+        alloc,
+        Code::Choice {
+            left: first.code,
+            right: second.code,
         },
+    )?;
+    Ok(ResolvedBody {
+        code,
         functionality: exits_if_either(first.functionality, second.functionality),
         never_exits: first.never_exits.or(second.never_exits),
     })
@@ -90,12 +110,16 @@ pub(crate) fn make_parallel(
         IsResolved scope gates left first → IsResolved scope gates right second →
         IsResolved scope gates (par left sync right) found) }
 {
-    Ok(ResolvedBody {
-        code: Code::Par {
-            left: Box::new(alloc, first.code)?,
+    let code = box_code(
+        alloc,
+        Code::Par {
+            left: first.code,
             sync: set,
-            right: Box::new(alloc, second.code)?,
+            right: second.code,
         },
+    )?;
+    Ok(ResolvedBody {
+        code,
         functionality: exits_if_both(first.functionality, second.functionality),
         never_exits: first.never_exits.or(second.never_exits),
     })
@@ -111,11 +135,16 @@ pub(crate) fn make_hide(
         IsResolved scope (texts gates.now ++ gates_in_scope) body inner →
         IsResolved scope gates_in_scope (hide gates.now body) found) }
 {
-    Ok(ResolvedBody {
-        code: Code::Hide {
-            gates: name_set(alloc, gates)?,
-            body: Box::new(alloc, inner.code)?,
+    let gates = name_set(alloc, gates)?;
+    let code = box_code(
+        alloc,
+        Code::Hide {
+            gates,
+            body: inner.code,
         },
+    )?;
+    Ok(ResolvedBody {
+        code,
         functionality: inner.functionality,
         never_exits: inner.never_exits,
     })
@@ -136,11 +165,15 @@ pub(crate) fn make_enable(
         Functionality::Exit => None,
         Functionality::NoExit => Some(at),
     };
-    Ok(ResolvedBody {
-        code: Code::Enable {
-            left: Box::new(alloc, first.code)?,
-            right: Box::new(alloc, second.code)?,
+    let code = box_code(
+        alloc,
+        Code::Enable {
+            left: first.code,
+            right: second.code,
         },
+    )?;
+    Ok(ResolvedBody {
+        code,
         functionality: second.functionality,
         never_exits: first.never_exits.or(here).or(second.never_exits),
     })
@@ -156,11 +189,15 @@ pub(crate) fn make_disable(
         IsResolved scope gates left first → IsResolved scope gates right second →
         IsResolved scope gates (disable left right) found) }
 {
-    Ok(ResolvedBody {
-        code: Code::Disable {
-            left: Box::new(alloc, first.code)?,
-            right: Box::new(alloc, second.code)?,
+    let code = box_code(
+        alloc,
+        Code::Disable {
+            left: first.code,
+            right: second.code,
         },
+    )?;
+    Ok(ResolvedBody {
+        code,
         functionality: exits_if_either(first.functionality, second.functionality),
         never_exits: first.never_exits.or(second.never_exits),
     })

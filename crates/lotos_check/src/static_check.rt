@@ -2,9 +2,9 @@
 ghost use Rattle.std.specs.Prelude.{◌≡◌, ◌<◌, ℕ, IfErr, IfOk, length, map};
 ghost use Rattle.lotos_text.specs.OffsetsInside.{IsInside};
 ghost use Rattle.lotos_text.specs.AstOf.{definition_view};
-ghost use Rattle.lotos_check.specs.Acceptance.{AreRanks, IsAccepted, IsStaticFault, IsFlattened, IsNotAccepted};
+ghost use Rattle.lotos_check.specs.Acceptance.{AreRanks, IsAccepted, IsStaticFault, IsFlattened, IsNotAccepted, IsProcessOfBody};
 ghost use Rattle.lotos_check.specs.FaultOffsets.{IsOffsetWithin};
-ghost use Rattle.lotos_check.specs.CheckedView.{ranks_of, system_of};
+ghost use Rattle.lotos_check.specs.CheckedView.{process_of, ranks_of, system_of};
 
 use crate::body_resolution::resolve_bodies;
 use crate::checked::Checked;
@@ -15,7 +15,7 @@ use crate::functionality_check::check_functionality;
 use crate::guardedness::{Ranking, rank_processes};
 use crate::name_lists::copy_names;
 use crate::resolved::{Code, Process};
-use crate::resolved_body::ResolvedBody;
+use crate::resolved_body::{ResolvedBody, box_code};
 use lotos_text::{Definition, Specification};
 use std::alloc::{AllocError, Global};
 
@@ -25,22 +25,34 @@ use std::alloc::{AllocError, Global};
 ///
 /// Four passes are made, and the first that finds a fault returns the one that is first in the text: E20 and E24; E21
 /// to E23; E25 and E26; E27. E99 if an allocation fails.
-pub fn check(alloc: Global, tree: Specification) -> Result<Checked, CheckFault>
-    ensures faulty { IfErr result (IsStaticFault (definition_view tree.whole)) }
-    ensures refused { IfErr result (IsNotAccepted (definition_view tree.whole)) }
-    ensures inside { IfErr result (λ fault. (n : ℕ) → IsInside n (definition_view tree.whole) →
+pub fn check(alloc: Global, specification: Specification) -> Result<Checked, CheckFault>
+    ensures faulty { IfErr result (IsStaticFault (definition_view specification.whole)) }
+    ensures not_accepted { IfErr result (IsNotAccepted (definition_view specification.whole)) }
+    ensures inside { IfErr result (λ fault. (n : ℕ) → IsInside n (definition_view specification.whole) →
         IsOffsetWithin n fault) }
-    ensures accepted { IfOk result (λ c. IsAccepted (definition_view tree.whole) (system_of c)) }
+    ensures accepted { IfOk result (λ c. IsAccepted (definition_view specification.whole) (system_of c)) }
     ensures ranks { IfOk result (λ c. AreRanks (system_of c).processes (ranks_of c)) }
 {
-    check_distinct(alloc, &tree.whole)?;
+    check_definition(alloc, &specification.whole)
+}
+
+/// Checks the static rules of a specification, given as its outermost definition.
+fn check_definition(alloc: Global, whole: &Definition) -> Result<Checked, CheckFault>
+    ensures faulty { IfErr result (IsStaticFault (definition_view whole.now)) }
+    ensures not_accepted { IfErr result (IsNotAccepted (definition_view whole.now)) }
+    ensures inside { IfErr result (λ fault. (n : ℕ) → IsInside n (definition_view whole.now) →
+        IsOffsetWithin n fault) }
+    ensures accepted { IfOk result (λ c. IsAccepted (definition_view whole.now) (system_of c)) }
+    ensures ranks { IfOk result (λ c. AreRanks (system_of c).processes (ranks_of c)) }
+{
+    check_distinct(alloc, whole)?;
     let mut definitions = Vec::new(alloc);
-    add_definitions(&tree.whole, &mut definitions)?;
-    let mut tables = Vec::new(alloc);
+    add_definitions(whole, &mut definitions)?;
+    let mut scopes = Vec::new(alloc);
     let mut found = Vec::new(alloc);
-    resolve_bodies(alloc, &mut tables, &tree.whole, 0, &mut found)?;
+    resolve_bodies(alloc, &mut scopes, whole, 0, &mut found)?;
     check_functionality(alloc, definitions.as_slice(), found.as_slice())?;
-    let gates = copy_names(alloc, tree.whole.formals.as_slice())?;
+    let gates = copy_names(alloc, whole.formals.as_slice())?;
     let (start, processes) = flatten(alloc, definitions.as_slice(), found)?;
     match rank_processes(alloc, processes.as_slice())? {
         Ranking::Guarded(ranks) => Ok(Checked {
@@ -61,28 +73,41 @@ pub(crate) fn flatten(
     alloc: Global,
     definitions: &[&Definition],
     found: Vec<ResolvedBody>,
-) -> Result<(Code, Vec<Process>), AllocError>
+) -> Result<(Box<Code>, Vec<Process>), AllocError>
     requires some { 0 < length found.items }
     requires sized { length definitions.now ≡ length found.items }
     ensures { IfOk result
-        (λ p. IsFlattened (map (λ d. definition_view d.now) definitions.now) found.items p.0 p.1.items) }
+        (λ p. IsFlattened (map (λ d. definition_view d.now) definitions.now) found.items p.0.value p.1.items) }
 {
-    let mut start = Code::Stop;
+    let mut start = box_code(alloc, Code::Stop)?;
     let mut processes = Vec::new(alloc);
     let mut index = 0;
     for one in found {
         if index == 0 {
             start = one.code;
         } else {
-            let definition = definitions[index];
-            processes.push(Process {
-                name: definition.name.name.copy(alloc)?,
-                formals: copy_names(alloc, definition.formals.as_slice())?,
-                functionality: definition.functionality,
-                body: one.code,
-            })?;
+            processes.push(make_process(alloc, definitions[index], one)?)?;
         }
         index += 1;
     }
     Ok((start, processes))
+}
+
+/// The process of a definition, given the resolution of its body.
+fn make_process(
+    alloc: Global,
+    definition: &Definition,
+    found: ResolvedBody,
+) -> Result<Process, AllocError>
+    ensures { IfOk result (λ process.
+        IsProcessOfBody (definition_view definition.now) found (process_of process)) }
+{
+    let name = definition.name.name.copy(alloc)?;
+    let formals = copy_names(alloc, definition.formals.as_slice())?;
+    Ok(Process {
+        name,
+        formals,
+        functionality: definition.functionality,
+        body: Box::into_inner(found.code),
+    })
 }

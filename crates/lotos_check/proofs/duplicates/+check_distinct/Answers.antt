@@ -3,8 +3,8 @@ use Rattle.std.proofs.lemmas.List.{drop_all}
 use Rattle.lotos_text.specs.AstOf.{definition_view}
 use Rattle.lotos_check.specs.Acceptance.{IsDuplicateFault}
 use Rattle.lotos_check.proofs.SameFault.{passed_on}
-use Rattle.lotos_check.proofs.VisibleNames.{from_place}
-use Rattle.lotos_check.proofs.PassedDefinitions.{passed_none, passed_more, passed_again, passed_inside, passed_all, gate_again}
+use Rattle.lotos_check.proofs.VisitedNames.{from_place}
+use Rattle.lotos_check.proofs.DistinctDefinitions.{passed_none, passed_more, passed_again, passed_inside, passed_all, gate_again}
 use Rattle.lotos_check.proofs.duplicates.+check_distinct.Goals as goal
 
 pub returns-in-Some-clause-fails : goal.returns-in-Some-clause-fails

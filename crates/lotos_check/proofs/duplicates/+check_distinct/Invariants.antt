@@ -1,5 +1,5 @@
 use Rattle.std.proofs.Common.{drop}
-use Rattle.lotos_check.proofs.PassedDefinitions.{Passed}
+use Rattle.lotos_check.proofs.DistinctDefinitions.{Passed}
 use Rattle.lotos_check.proofs.duplicates.+check_distinct.Given as goal
 
 abbrev pub decreases-check_distinct : goal.decreases-check_distinct

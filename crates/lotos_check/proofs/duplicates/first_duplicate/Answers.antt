@@ -1,7 +1,7 @@
 use Rattle.std.proofs.Common.{◌<◌, ◌≤◌, length, sym, arith, subst, refl}
 use Rattle.std.proofs.lemmas.List.{drop_all}
 use Rattle.lotos_check.specs.NameLists.{IsDuplicate}
-use Rattle.lotos_check.proofs.VisibleNames.{seen_more, seen_again, seen_all, from_place}
+use Rattle.lotos_check.proofs.VisitedNames.{seen_more, seen_again, seen_all, from_place}
 use Rattle.lotos_check.proofs.duplicates.first_duplicate.Goals as goal
 
 pub returns-then-not-branch : goal.returns-then-not-branch

@@ -1,5 +1,5 @@
 use Rattle.std.proofs.Common.{drop, map}
-use Rattle.lotos_check.proofs.VisibleNames.{Seen}
+use Rattle.lotos_check.proofs.VisitedNames.{Seen}
 use Rattle.lotos_check.proofs.duplicates.first_duplicate.Given as goal
 
 abbrev pub invariant-loop-placed : goal.invariant-loop-placed

@@ -1,6 +1,6 @@
 use Rattle.std.proofs.Common.{◌<◌, ◌≤◌, length, arith, refl}
 use Rattle.std.proofs.lemmas.List.{drop_all}
-use Rattle.lotos_check.proofs.VisibleNames.{from_place}
+use Rattle.lotos_check.proofs.VisitedNames.{from_place}
 use Rattle.lotos_check.proofs.DeclaredGates.{added_more, added_all}
 use Rattle.lotos_check.proofs.gate_scope.add_gates.Goals as goal
 

@@ -1,6 +1,6 @@
 use Rattle.std.proofs.Common.{◌<◌, ◌≤◌, length, arith}
 use Rattle.std.proofs.lemmas.List.{drop_all}
-use Rattle.lotos_check.proofs.VisibleNames.{from_place}
+use Rattle.lotos_check.proofs.VisitedNames.{from_place}
 use Rattle.lotos_check.proofs.DeclaredGates.{found_more, found_unknown, found_all}
 use Rattle.lotos_check.proofs.gate_scope.check_declared.Goals as goal
 

@@ -2,7 +2,7 @@ use Rattle.std.proofs.Common.{◌<◌, ◌≤◌, arith, length, refl}
 use Rattle.std.proofs.lemmas.List.{drop_all}
 use Rattle.std.proofs.lemmas.Map.Text.{hash_map_updates_str}
 use Rattle.lotos_text.specs.AstOf.{definitions_view}
-use Rattle.lotos_check.proofs.VisibleNames.{from_place}
+use Rattle.lotos_check.proofs.VisitedNames.{from_place}
 use Rattle.lotos_check.proofs.Bindings.{built_with, built_all}
 use Rattle.lotos_check.proofs.process_scope.bind_definitions.Goals as goal
 

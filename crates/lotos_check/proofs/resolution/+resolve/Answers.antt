@@ -8,16 +8,16 @@ use Rattle.lotos_check.proofs.ResolvedForms.{carried, found_stop, found_exit}
 use Rattle.lotos_check.proofs.OwnFaults.{misnamed_action, misnamed_sync}
 use Rattle.lotos_check.proofs.resolution.+resolve.Goals as goal
 
-pub returns-in-Stop-clause-resolved : goal.returns-in-Stop-clause-resolved
-returns-in-Stop-clause-resolved t c = λ scope known shows knows. rw c.in-Stop.is (found_stop scope known _ c.make_leaf.ensures.code c.make_leaf.ensures.functionality c.make_leaf.ensures.never)
+pub returns-in_ok-make_leaf-in-Stop-clause-resolved : goal.returns-in_ok-make_leaf-in-Stop-clause-resolved
+returns-in_ok-make_leaf-in-Stop-clause-resolved t c = λ scope known shows knows. rw c.in-Stop.is (found_stop scope known _ c.in_ok-make_leaf-in-Stop.ensures.code c.in_ok-make_leaf-in-Stop.ensures.functionality c.in_ok-make_leaf-in-Stop.ensures.never)
 
-pub returns-in-Exit-clause-resolved : goal.returns-in-Exit-clause-resolved
-returns-in-Exit-clause-resolved t c = λ scope known shows knows. rw c.in-Exit.is (found_exit scope known _ c.make_leaf-in-Exit.ensures.code c.make_leaf-in-Exit.ensures.functionality c.make_leaf-in-Exit.ensures.never)
+pub returns-in_ok-make_leaf-in-Exit-clause-resolved : goal.returns-in_ok-make_leaf-in-Exit-clause-resolved
+returns-in_ok-make_leaf-in-Exit-clause-resolved t c = λ scope known shows knows. rw c.in-Exit.is (found_exit scope known _ c.in_ok-make_leaf-in-Exit.ensures.code c.in_ok-make_leaf-in-Exit.ensures.functionality c.in_ok-make_leaf-in-Exit.ensures.never)
 
 pub returns-in_err-name-in-Prefix-clause-resolved : goal.returns-in_err-name-in-Prefix-clause-resolved
 returns-in_err-name-in-Prefix-clause-resolved t c = λ scope known shows knows.
     let fault = c.in_err-name-in-Prefix.field-0.0 in
-    carried c.from_residual.result _ _ fault c.from_residual.ensures.1
+    carried c.from_residual-in_err-name-in-Prefix.result _ _ fault c.from_residual-in_err-name-in-Prefix.ensures.1
     (rw c.in-Prefix.is (misnamed_action scope known c.in-Prefix.action (behaviour_view c.in-Prefix.body.value) fault
     (c.in_err-name-in-Prefix.ensures.undeclared known knows)))
 

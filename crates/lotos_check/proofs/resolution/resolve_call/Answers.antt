@@ -32,5 +32,5 @@ returns c = λ scope known shows knows.
     found_call scope known c.args.name.now c.args.actuals.now c.text.result.now c.in-Some.binding.process (definition_view of) _
     c.text.ensures.bytes (c.in-Some.ensures scope shows)
     (sym (ap length (c.as_slice-formals.ensures.value ∙ formals_shown of)) ∙ c.if-formal-actuals.false)
-    (c.in_ok-check_declared.ensures.declared known knows) (ap (call c.in-Some.binding.process) c.in_ok-copy_names.ensures)
+    (c.in_ok-check_declared.ensures.declared known knows) (rw c.in_ok-code.ensures (ap (call c.in-Some.binding.process) c.in_ok-gates.ensures))
     (declared_shown of) refl

@@ -5,4 +5,4 @@ use Rattle.lotos_check.proofs.resolved_body.make_disable.Goals as goal
 pub returns : goal.returns
 returns c = λ scope gates left right h k.
     found_disable scope gates left right c.args.first c.args.second _ h k
-    (rw (c.in_ok-new.ensures.ok, c.in_ok-new-2.ensures.ok) refl) c.exits_if_either.ensures c.or.ensures
+    (rw c.in_ok-code.ensures refl) c.exits_if_either.ensures c.or.ensures

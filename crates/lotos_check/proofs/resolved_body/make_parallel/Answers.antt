@@ -6,4 +6,4 @@ use Rattle.lotos_check.proofs.resolved_body.make_parallel.Goals as goal
 pub returns : goal.returns
 returns c = λ scope gates left right sync is_set given h k.
     found_par scope gates left right c.args.first c.args.second _ h k (option_map (λ v. v.items) c.args.set) sync is_set given
-    (rw (c.in_ok-new.ensures.ok, c.in_ok-new-2.ensures.ok) refl) c.exits_if_both.ensures c.or.ensures
+    (rw c.in_ok-code.ensures refl) c.exits_if_both.ensures c.or.ensures

@@ -8,7 +8,7 @@ use Rattle.lotos_check.specs.declared.resolved.Process.{Process}
 use Rattle.lotos_check.proofs.Pairs.{drop_seen}
 use Rattle.lotos_check.proofs.Flattening.{flattens_none, flattens_first_step, flattens_more_step, flattens_all, made_of}
 use Rattle.lotos_check.proofs.static_check.flatten.Goals as goal
-use Rattle.lotos_check.proofs.static_check.flatten.Goals.{then-index-eq0, else-index-eq0+in_ok-copy+in_ok-copy_names+in_ok-push}
+use Rattle.lotos_check.proofs.static_check.flatten.Goals.{then-index-eq0, else-index-eq0+in_ok-make_process+in_ok-push}
 
 nothing_left : {X : Type 0} (xs : List X) → length xs ≡ 0 → xs ≡ []
 nothing_left [] e = refl
@@ -40,23 +40,17 @@ loop-one-preserved c =
       left = (let s = ap length steps.0 in let n = steps.1 in omega arith);
       makes = elim c.if-index-eq0.branch [
         | then-index-eq0 w ↦
-            flattens_first_step definitions found i one all rest c.loop-one.start c.if-index-eq0.start c.loop-one.processes.items
-            c.if-index-eq0.processes.items w.if-index-eq0.true steps.0 w.start-is (ap (λ v. v.items) w.processes-is) makes
-        | else-index-eq0+in_ok-copy+in_ok-copy_names+in_ok-push w ↦
+            flattens_first_step definitions found i one all rest c.loop-one.start.value c.if-index-eq0.start.value c.loop-one.processes.items
+            c.if-index-eq0.processes.items w.if-index-eq0.true steps.0 (ap (λ b. b.value) w.start-is) (ap (λ v. v.items) w.processes-is) makes
+        | else-index-eq0+in_ok-make_process+in_ok-push w ↦
             let d = w.index-definitions-index.result in
-            let process : Process = record {
-              name = w.in_ok-copy.field-0;
-              formals = w.in_ok-copy_names.field-0;
-              functionality = (out-Definition d.now).functionality;
-              body = one.code;
-            } in
             let h : i < length c.args.definitions.now =
             (let s = makes.sized in let e = ap length steps.0 in let n = length-map c.args.definitions.now (λ d. definition_view d.now) in omega arith) in
-            flattens_more_step definitions found i one all rest c.loop-one.start c.if-index-eq0.start c.loop-one.processes.items
-            c.if-index-eq0.processes.items (definition_view d.now) process w.if-index-eq0.false steps.0 w.start-is
+            flattens_more_step definitions found i one all rest c.loop-one.start.value c.if-index-eq0.start.value c.loop-one.processes.items
+            c.if-index-eq0.processes.items (definition_view d.now) _ w.if-index-eq0.false steps.0 (ap (λ b. b.value) w.start-is)
             (ap (λ v. v.items) w.processes-is ∙ w.in_ok-push.ensures.items)
             (drop_seen (λ d. definition_view d.now) c.args.definitions.now i d h w.index-definitions-index.is)
-            (made_of d.now one process w.in_ok-copy.ensures (w.in_ok-copy_names.ensures ∙ ap texts w.as_slice.ensures.value) refl refl) makes
+            w.in_ok-make_process.ensures makes
       ];
     }
 
@@ -66,4 +60,4 @@ returns c =
     let gives = c.into_iter-one-iterator.ensures.into_iter_gives in
     let none = nothing_left (into_iter_items c.loop-one.one-iterator) (sym c.loop-one.invariant.left ∙ c.in-None.ensures.steps.0) in
     let makes = rw (none, gives.0) at c.loop-one.invariant.makes in
-    flattens_all definitions c.args.found.items c.loop-one.index c.loop-one.start c.loop-one.processes.items c.requires.some makes
+    flattens_all definitions c.args.found.items c.loop-one.index c.loop-one.start.value c.loop-one.processes.items c.requires.some makes

@@ -9,5 +9,5 @@ invariant-loop-one l = record {
   left : into_iter_len l.one-iterator ≡ length (into_iter_items l.one-iterator);
   makes : Flattens (map (λ d. definition_view d.now) l.definitions)
       (into_iter_items l.initial.one-iterator) l.index
-      (into_iter_items l.one-iterator) l.start l.processes.items;
+      (into_iter_items l.one-iterator) l.start.value l.processes.items;
 }

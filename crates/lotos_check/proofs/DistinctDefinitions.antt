@@ -13,7 +13,7 @@ use Rattle.lotos_check.specs.StaticFaults.{IsDistinct}
 use Rattle.lotos_check.specs.Acceptance.{IsDuplicateFault}
 use Rattle.lotos_check.specs.declared.fault.CheckFault.{CheckFault}
 use Rattle.lotos_check.specs.declared.fault.CheckFault.TheVariants.{E20, E24}
-use Rattle.lotos_check.proofs.VisibleNames.{Seen, seen_none, seen_more, seen_again, seen_all}
+use Rattle.lotos_check.proofs.VisitedNames.{Seen, seen_none, seen_more, seen_again, seen_all}
 use Rattle.lotos_check.proofs.Enclosed.{Among, repeat_inside, repeats_gate, repeats_process, distinct_whole}
 
 -- the view of a definition has its parts
