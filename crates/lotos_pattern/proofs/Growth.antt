@@ -12,26 +12,26 @@ use Rattle.lotos_pattern.specs.ElementView.{CanOccur, IsPattern, element_of, ele
 use Rattle.lotos_pattern.specs.WordKinds.{CanBeFollowed, IsAppendFault, ParsesAt}
 use Rattle.lotos_pattern.specs.declared.element.Element.{Element as CodeElement}
 use Rattle.lotos_pattern.specs.declared.fault.PatternFault.{PatternFault}
-use Rattle.lotos_pattern.proofs.InitialPlaces.{full_cause, full_nothing}
+use Rattle.lotos_pattern.proofs.SpellingFaults.{full_cause, full_nothing}
 use Rattle.lotos_pattern.proofs.Words.{take_at, within_texts}
 
 module _ (strong : Bool) where
-  module _ (words : List Text) (place : ℕ) (first : Text) (stands : slice_get words place ≡ Some first) where
-    pub spelled_by_one : (e : Element) → Spelling strong e (first ∷ []) → ParsesAt strong words place e (place + 1)
-    spelled_by_one e spelling = let there = slice_get_within words place first stands in record {
+  module _ (words : List Text) (index : ℕ) (first : Text) (stands : slice_get words index ≡ Some first) where
+    pub spelled_by_one : (e : Element) → Spelling strong e (first ∷ []) → ParsesAt strong words index e (index + 1)
+    spelled_by_one e spelling = let there = slice_get_within words index first stands in record {
       own = first ∷ [];
       spelling = spelling;
-      located = take_at words place first stands;
+      located = take_at words index first stands;
       further = omega arith;
       within = omega arith;
     }
 
-    pub spelled_by_two : (second : Text) (e : Element) → slice_get words (place + 1) ≡ Some second → Spelling strong e (first ∷ second ∷ []) → ParsesAt strong words place e (place + 1 + 1)
-    spelled_by_two second e follows spelling = let there = slice_get_within words (place + 1) second follows in record {
+    pub spelled_by_two : (second : Text) (e : Element) → slice_get words (index + 1) ≡ Some second → Spelling strong e (first ∷ second ∷ []) → ParsesAt strong words index e (index + 1 + 1)
+    spelled_by_two second e follows spelling = let there = slice_get_within words (index + 1) second follows in record {
       own = first ∷ second ∷ [];
       spelling = spelling;
-      located = take_at words (place + 1) second follows ∙ ap (λ front. front ++ second ∷ []) (take_at words place first stands) ∙
-          append_assoc (take place words) (first ∷ []) (second ∷ []);
+      located = take_at words (index + 1) second follows ∙ ap (λ front. front ++ second ∷ []) (take_at words index first stands) ∙
+          append_assoc (take index words) (first ∷ []) (second ∷ []);
       further = omega arith;
       within = omega arith;
     }
@@ -47,15 +47,15 @@ module _ (strong : Bool) where
   ends_last_more (f ∷ g ∷ p) e last goes_on = (last.0, ends_last_more (g ∷ p) e last.1 goes_on)
 
   -- below the limit of elements, one element more makes a pattern
-  one_more : (words : List Text) (place behind : ℕ) (p : List Element) (e : Element) → PatternOf strong (take place words) (pattern_of strong p) → CanBeFollowed p →
-      ParsesAt strong words place e behind → PatternOf strong (take behind words) (pattern_of strong (p ++ e ∷ []))
-  one_more words place behind p e spelled has next = record {
+  one_more : (words : List Text) (index end : ℕ) (p : List Element) (e : Element) → PatternOf strong (take index words) (pattern_of strong p) → CanBeFollowed p →
+      ParsesAt strong words index e end → PatternOf strong (take end words) (pattern_of strong (p ++ e ∷ []))
+  one_more words index end p e spelled has next = record {
     shows = refl;
-    spelled = subst (IsJoin (Spelling strong) (p ++ e ∷ [])) (sym next.located) (joined_more p e (take place words) next.own spelled.spelled next.spelling);
+    spelled = subst (IsJoin (Spelling strong) (p ++ e ∷ [])) (sym next.located) (joined_more p e (take index words) next.own spelled.spelled next.spelling);
     short =
         let long : length (p ++ e ∷ []) ≡ length p + 1 = length-append p (e ∷ []) in
         let short = spelled.short in
-        let room = has.room in
+        let below_limit = has.below_limit in
         omega arith;
     ends_last = ends_last_more p e spelled.ends_last has.goes_on;
   }
@@ -78,30 +78,30 @@ module _ (strong : Bool) where
   is_pattern words p spelled = record { ends_last = spelled.ends_last; observable = all_occur p words spelled.spelled; short = spelled.short }
 
   -- the invariant of the loop: the words before the index spell the elements so far
-  module _ (words : List (Bor Text)) (place : ℕ) (kept lent : List CodeElement) (there : place < length words)
-      (spelled : PatternOf strong (take place (texts_of words)) (pattern_of strong (elements_of kept))) (same : lent ≡ kept) where
-    stands : IsAfterPattern strong (texts_of words) (place + 1) (pattern_of strong (elements_of kept))
-    stands = record { before = place; counted = refl; there = within_texts words place there; spelled = spelled }
+  module _ (words : List (Bor Text)) (index : ℕ) (kept lent : List CodeElement) (there : index < length words)
+      (spelled : PatternOf strong (take index (texts_of words)) (pattern_of strong (elements_of kept))) (same : lent ≡ kept) where
+    stands : IsAfterPattern strong (texts_of words) (index + 1) (pattern_of strong (elements_of kept))
+    stands = record { before = index; counted = refl; there = within_texts words index there; spelled = spelled }
 
     -- where no element may follow them, the fault has its cause
-    pub full_here : (fault : PatternFault) → IsAppendFault (elements_of lent) (place + 1) fault → IsCause strong (texts_of words) fault × SpellsNone strong (texts_of words) fault
+    pub full_here : (fault : PatternFault) → IsAppendFault (elements_of lent) (index + 1) fault → IsCause strong (texts_of words) fault × SpellsNone strong (texts_of words) fault
     full_here fault full =
-        let own = subst (λ elements. IsAppendFault (elements_of elements) (place + 1) fault) same full in
+        let own = subst (λ elements. IsAppendFault (elements_of elements) (index + 1) fault) same full in
         let p = pattern_of strong (elements_of kept) in
-        (full_cause strong (texts_of words) place p stands fault own, full_nothing strong (texts_of words) place p stands fault own)
+        (full_cause strong (texts_of words) index p stands fault own, full_nothing strong (texts_of words) index p stands fault own)
 
     -- if one may follow, it begins at the index
-    pub begins_here : CanBeFollowed (elements_of lent) → BeginsElement strong (texts_of words) (place + 1)
-    begins_here room =
-        let own : CanBeFollowed (elements_of kept) = subst (λ elements. CanBeFollowed (elements_of elements)) same room in
+    pub begins_here : CanBeFollowed (elements_of lent) → BeginsElement strong (texts_of words) (index + 1)
+    begins_here below_limit =
+        let own : CanBeFollowed (elements_of kept) = subst (λ elements. CanBeFollowed (elements_of elements)) same below_limit in
         let short = spelled.short in
-        let unfilled = own.room in
-        record { pattern = pattern_of strong (elements_of kept); is_after = stands; goes_on = own.goes_on; room = omega arith }
+        let unfilled = own.below_limit in
+        record { pattern = pattern_of strong (elements_of kept); is_after = stands; goes_on = own.goes_on; below_limit = omega arith }
 
-    pub grown_here : (behind : ℕ) (e : CodeElement) (more : List CodeElement) → CanBeFollowed (elements_of lent) → ParsesAt strong (texts_of words) place (element_of e) behind → more ≡ kept ++ e ∷ [] →
-        PatternOf strong (take behind (texts_of words)) (pattern_of strong (elements_of more))
-    grown_here behind e more room next grown =
-        let own : CanBeFollowed (elements_of kept) = subst (λ elements. CanBeFollowed (elements_of elements)) same room in
+    pub grown_here : (end : ℕ) (e : CodeElement) (more : List CodeElement) → CanBeFollowed (elements_of lent) → ParsesAt strong (texts_of words) index (element_of e) end → more ≡ kept ++ e ∷ [] →
+        PatternOf strong (take end (texts_of words)) (pattern_of strong (elements_of more))
+    grown_here end e more below_limit next grown =
+        let own : CanBeFollowed (elements_of kept) = subst (λ elements. CanBeFollowed (elements_of elements)) same below_limit in
         let shown : elements_of more ≡ elements_of kept ++ element_of e ∷ [] = ap elements_of grown ∙ map-append element_of kept (e ∷ []) in
-        subst (λ p. PatternOf strong (take behind (texts_of words)) (pattern_of strong p)) (sym shown)
-        (one_more (texts_of words) place behind (elements_of kept) (element_of e) spelled own next)
+        subst (λ p. PatternOf strong (take end (texts_of words)) (pattern_of strong p)) (sym shown)
+        (one_more (texts_of words) index end (elements_of kept) (element_of e) spelled own next)

@@ -8,5 +8,5 @@ pub mod PlacesOfPrefixes
 pub mod Spellings
 pub mod Ends
 pub mod AcceptingPlaces
-pub mod InitialPlaces
+pub mod SpellingFaults
 pub mod Growth

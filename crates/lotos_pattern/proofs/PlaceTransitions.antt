@@ -14,7 +14,7 @@ use Rattle.lotos_pattern.specs.declared.element.Transition.TheVariants.{Reject, 
 -- how a sequence with a label begins: the element takes nothing, or a segment that begins with the label
 data Split (e : Element) (p : List Element) (l : Label) (s : List Label) : Type 0 where
   passed_over : Segment e [] → IsJoin Segment p (l ∷ s) → Split e p l s
-  begun : (front behind : List Label) → Segment e (l ∷ front) → IsJoin Segment p behind → s ≡ front ++ behind → Split e p l s
+  begun : (front remainder : List Label) → Segment e (l ∷ front) → IsJoin Segment p remainder → s ≡ front ++ remainder → Split e p l s
 
 split : (e : Element) (p : List Element) (l : Label) (s : List Label) → IsJoin Segment (e ∷ p) (l ∷ s) → Split e p l s
 split e p l s ([], rest, segment, j, cut) = passed_over segment (subst (IsJoin Segment p) (sym cut) j)
@@ -28,18 +28,18 @@ After Advance e p s = IsJoin Segment p s
 After Stay e p s = IsJoin Segment (e ∷ p) s
 After Reject e p s = ⊥
 
-taken : (t : Transition) (e : Element) (p : List Element) (l : Label) (s front behind : List Label) → IsTransition e l t → Segment e (l ∷ front) → IsJoin Segment p behind → s ≡ front ++ behind → After t e p s
+taken : (t : Transition) (e : Element) (p : List Element) (l : Label) (s front remainder : List Label) → IsTransition e l t → Segment e (l ∷ front) → IsJoin Segment p remainder → s ≡ front ++ remainder → After t e p s
 unfolding IsTransition
-taken Advance e p l s front behind takes segment j cut =
+taken Advance e p l s front remainder takes segment j cut =
     let none : front ≡ [] = (takes front).0 segment in
-    subst (IsJoin Segment p) (sym (cut ∙ ap (λ f. f ++ behind) none)) j
-taken Stay e p l s front behind takes segment j cut = (front, behind, (takes front).0 segment, j, cut)
-taken Reject e p l s front behind takes segment j cut = takes front segment
+    subst (IsJoin Segment p) (sym (cut ∙ ap (λ f. f ++ remainder) none)) j
+taken Stay e p l s front remainder takes segment j cut = (front, remainder, (takes front).0 segment, j, cut)
+taken Reject e p l s front remainder takes segment j cut = takes front segment
 
 untaken : (t : Transition) (e : Element) (p : List Element) (l : Label) (s : List Label) → IsTransition e l t → After t e p s → IsJoin Segment (e ∷ p) (l ∷ s)
 unfolding IsTransition
 untaken Advance e p l s takes j = (l ∷ [], s, (takes []).1 refl, j, refl)
-untaken Stay e p l s takes (front, behind, segment, j, cut) = (l ∷ front, behind, (takes front).1 segment, j, ap (λ rest. l ∷ rest) cut)
+untaken Stay e p l s takes (front, remainder, segment, j, cut) = (l ∷ front, remainder, (takes front).1 segment, j, ap (λ rest. l ∷ rest) cut)
 untaken Reject e p l s takes j = absurd j
 
 -- the place has the states to which the label leads from those before `k`, which is reached if there is an element
@@ -63,12 +63,12 @@ pub passing_begins : (p : List Element) (from : Place) (l : Label) (onward : Pla
     MatchOption first ((k : ℕ) → 0 ≤ k → HasState from k → ⊥) (IsFirstState from 0) → IsPassing p from l (unwrap_or first end) onward
 passing_begins p from l onward None end long none nowhere = record {
   reachable = λ h. absurd (omega arith);
-  sound = λ s m. absurd (none m.position m.has);
+  sound = λ s m. absurd (none m.state m.has);
   complete = λ s j has m. absurd (nowhere j (omega arith) has);
 }
 passing_begins p from l onward (Some k) end long none first = record {
-  reachable = λ h s m. record { position = k; has = first.has; joined = m };
-  sound = λ s m. absurd (none m.position m.has);
+  reachable = λ h s m. record { state = k; has = first.has; joined = m };
+  sound = λ s m. absurd (none m.state m.has);
   complete = λ s j has m. elim (cases_lt j k) [
     | inl h ↦ absurd (first.none_before j (omega arith) h has)
     | inr far ↦ inr (elim (later k j far) [ inl same ↦ inl (subst (λ i. IsJoin Segment (drop i p) (l ∷ s)) same m) | inr h ↦ inr (omega arith) ])
@@ -79,10 +79,10 @@ passing_begins p from l onward (Some k) end long none first = record {
 pub passing_ends : (p : List Element) (from : Place) (l : Label) (k : ℕ) (onward : Place) → length p ≤ k → IsPassing p from l k onward → IsSuccessorPlace p from l onward
 passing_ends p from l k onward past i s =
     let none : (j : ℕ) → k ≤ j → IsJoin Segment (drop j p) (l ∷ s) → ⊥ = λ j far m. no_label l s (subst (λ q. IsJoin Segment q (l ∷ s)) (drop_all j p (omega arith)) m) in (
-      λ m. elim (i.complete s m.position m.has m.joined) [
+      λ m. elim (i.complete s m.state m.has m.joined) [
         | inl done ↦ done
         | inr (inl rest) ↦ absurd (none k (omega arith) rest)
-        | inr (inr far) ↦ absurd (none m.position (omega arith) m.joined)
+        | inr (inr far) ↦ absurd (none m.state (omega arith) m.joined)
       ],
       i.sound s,
     )
@@ -95,25 +95,25 @@ record Marked (t : Transition) (p : List Element) (k : ℕ) (e : Element) (old n
 
 marked : (t : Transition) (p : List Element) (k : ℕ) (e : Element) (old new : Place) → drop k p ≡ e ∷ drop (k + 1) p → HasTransition t k old new → Marked t p k e old new
 marked Advance p k e old new here marks = record {
-  keeps = λ s m. record { position = m.position; has = (marks m.position).1 (inl m.has); joined = m.joined };
-  adds = λ s j. record { position = k + 1; has = (marks (k + 1)).1 (inr refl); joined = j };
-  only = λ s m. elim ((marks m.position).0 m.has) [
-    | inl h ↦ inl (record { position = m.position; has = h; joined = m.joined })
+  keeps = λ s m. record { state = m.state; has = (marks m.state).1 (inl m.has); joined = m.joined };
+  adds = λ s j. record { state = k + 1; has = (marks (k + 1)).1 (inr refl); joined = j };
+  only = λ s m. elim ((marks m.state).0 m.has) [
+    | inl h ↦ inl (record { state = m.state; has = h; joined = m.joined })
     | inr same ↦ inr (subst (λ i. IsJoin Segment (drop i p) s) same m.joined)
   ];
 }
 marked Stay p k e old new here marks = record {
-  keeps = λ s m. record { position = m.position; has = (marks m.position).1 (inl m.has); joined = m.joined };
-  adds = λ s j. record { position = k; has = (marks k).1 (inr refl); joined = subst (λ q. IsJoin Segment q s) (sym here) j };
-  only = λ s m. elim ((marks m.position).0 m.has) [
-    | inl h ↦ inl (record { position = m.position; has = h; joined = m.joined })
+  keeps = λ s m. record { state = m.state; has = (marks m.state).1 (inl m.has); joined = m.joined };
+  adds = λ s j. record { state = k; has = (marks k).1 (inr refl); joined = subst (λ q. IsJoin Segment q s) (sym here) j };
+  only = λ s m. elim ((marks m.state).0 m.has) [
+    | inl h ↦ inl (record { state = m.state; has = h; joined = m.joined })
     | inr same ↦ inr (subst (λ q. IsJoin Segment q s) here (subst (λ i. IsJoin Segment (drop i p) s) same m.joined))
   ];
 }
 marked Reject p k e old new here marks = record {
-  keeps = λ s m. record { position = m.position; has = (marks m.position).1 m.has; joined = m.joined };
+  keeps = λ s m. record { state = m.state; has = (marks m.state).1 m.has; joined = m.joined };
   adds = λ s j. absurd j;
-  only = λ s m. inl (record { position = m.position; has = (marks m.position).0 m.has; joined = m.joined });
+  only = λ s m. inl (record { state = m.state; has = (marks m.state).0 m.has; joined = m.joined });
 }
 
 module _ (p : List Element) (from : Place) (l : Label) (k : ℕ) (e : Element) (here : drop k p ≡ e ∷ drop (k + 1) p) where
@@ -125,7 +125,7 @@ module _ (p : List Element) (from : Place) (l : Label) (k : ℕ) (e : Element) (
       let on : (s : List Label) → IsJoin Segment (e ∷ drop (k + 1) p) s → CanContinue p from s = λ s j. i.reachable within s (subst (λ q. IsJoin Segment q s) (sym here) j) in record {
         reachable = λ h s j. elim (next.reached (omega arith)) [
           | inl (empty, same) ↦ on s ([], s, empty, subst (λ i. IsJoin Segment (drop i p) s) same j, refl)
-          | inr has ↦ record { position = n; has = has; joined = j }
+          | inr has ↦ record { state = n; has = has; joined = j }
         ];
         sound = λ s to. elim (m.only s to) [
           | inl before ↦ i.sound s before
@@ -135,7 +135,7 @@ module _ (p : List Element) (from : Place) (l : Label) (k : ℕ) (e : Element) (
           | inl done ↦ inl (m.keeps s done)
           | inr (inl rest) ↦ elim (split e (drop (k + 1) p) l s (subst (λ q. IsJoin Segment q (l ∷ s)) here rest)) [
             | passed_over none others ↦ inr (inl (subst (λ i. IsJoin Segment (drop i p) (l ∷ s)) (sym (next.passes none)) others))
-            | begun front behind segment others cut ↦ inl (m.adds s (taken t e (drop (k + 1) p) l s front behind takes segment others cut))
+            | begun front remainder segment others cut ↦ inl (m.adds s (taken t e (drop (k + 1) p) l s front remainder takes segment others cut))
           ]
           | inr (inr far) ↦ inr (elim (later n j (next.skips_none j far has)) [
             | inl same ↦ inl (subst (λ i. IsJoin Segment (drop i p) (l ∷ s)) same to)
@@ -162,7 +162,7 @@ reached_next e from k end None within needed none = record {
   passes = λ empty. absurd (needed empty);
   skips_none = λ j far has. absurd (none j (omega arith) has);
 }
-reached_next e from k end (Some n) within needed first = let behind = first.at_least in record {
+reached_next e from k end (Some n) within needed first = let remainder = first.at_least in record {
   onward = omega arith;
   reached = λ h. inr first.has;
   passes = λ empty. absurd (needed empty);

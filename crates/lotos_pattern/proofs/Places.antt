@@ -10,37 +10,37 @@ use Rattle.std.proofs.lemmas.Nat.Bits.{bit_at-trailing_zeros, bit_at-zero, bit_a
 use Rattle.lotos_pattern.specs.NfaStates.{HasState, IsFirstState, Place}
 
 -- a word that is 0 has no state
-no_bit : (place : Place) (k : ℕ) → get_or place.words (k / 64) 0 ≡ 0 → HasState place k → ⊥
+no_bit : (place : Place) (k : ℕ) → get_or place.bits (k / 64) 0 ≡ 0 → HasState place k → ⊥
 no_bit place k none has = let off = ap (λ word. bit_at word (k % 64)) none ∙ bit_at-zero (k % 64) in omega (arith, off, has)
 
 -- words that are all 0 have none
-pub bare : (n k : ℕ) → HasState (record { words = replicate n 0 }) k → ⊥
+pub bare : (n k : ℕ) → HasState (record { bits = replicate n 0 }) k → ⊥
 bare n k =
     let words : List ℕ = replicate n 0 in
     let long : length words ≡ n = length-replicate n 0 in
-    no_bit (record { words = words }) k (elim (cases_lt (k / 64) n) [
+    no_bit (record { bits = words }) k (elim (cases_lt (k / 64) n) [
       | inl within ↦ get_or-replicate n (k / 64) 0 0 within
       | inr past ↦ get_or_past words (k / 64) 0 (omega arith)
     ])
 
 -- after the words there is no state; if there is none before them either, there is none
-pub none_past : (place : Place) (from n : ℕ) → length place.words ≤ n → ((j : ℕ) → from ≤ j → j < n * 64 → HasState place j → ⊥) → (k : ℕ) → from ≤ k → HasState place k → ⊥
+pub none_past : (place : Place) (from n : ℕ) → length place.bits ≤ n → ((j : ℕ) → from ≤ j → j < n * 64 → HasState place j → ⊥) → (k : ℕ) → from ≤ k → HasState place k → ⊥
 none_past place from n past before k behind has = elim (cases_lt k (n * 64)) [
   | inl h ↦ before k behind h has
-  | inr h ↦ no_bit place k (get_or_past place.words (k / 64) 0 (omega arith)) has
+  | inr h ↦ no_bit place k (get_or_past place.bits (k / 64) 0 (omega arith)) has
 ]
 
 -- a bit more in a word is a state more
 pub added : (words : List ℕ) (n : ℕ) → n / 64 < length words → (k : ℕ) →
     let new = slice_set words (n / 64) (bit_or (get_or words (n / 64) 0) (1 * 2 ^ (n % 64) % 2 ^ 64)) in
-    HasState (record { words = new }) k ↔ (HasState (record { words = words }) k ⊎ (k ≡ n))
+    HasState (record { bits = new }) k ↔ (HasState (record { bits = words }) k ⊎ (k ≡ n))
 added words n within k =
     let old = get_or words (n / 64) 0 in
     let new = bit_or old (1 * 2 ^ (n % 64) % 2 ^ 64) in
-    let whole : Place = record { words = slice_set words (n / 64) new } in
+    let whole : Place = record { bits = slice_set words (n / 64) new } in
     elim (cases_eq (k / 64) (n / 64)) [
       | inl word ↦
-          let here : get_or whole.words (k / 64) 0 ≡ new = ap (λ i. get_or whole.words i 0) word ∙ get_or-set_same words (n / 64) new 0 within in
+          let here : get_or whole.bits (k / 64) 0 ≡ new = ap (λ i. get_or whole.bits i 0) word ∙ get_or-set_same words (n / 64) new 0 within in
           let was : get_or words (k / 64) 0 ≡ old = ap (λ i. get_or words i 0) word in
           elim (cases_eq (k % 64) (n % 64)) [
             | inl bit ↦
@@ -53,7 +53,7 @@ added words n within k =
                 )
           ]
       | inr word ↦
-          let kept : get_or whole.words (k / 64) 0 ≡ get_or words (k / 64) 0 = get_or-set_other words (n / 64) (k / 64) new 0 word in (
+          let kept : get_or whole.bits (k / 64) 0 ≡ get_or words (k / 64) 0 = get_or-set_other words (n / 64) (k / 64) new 0 word in (
             λ h. inl (rw kept at h),
             λ h. elim h [ inl h ↦ rw kept h | inr same ↦ absurd (word (ap (λ i. i / 64) same)) ],
           )
@@ -61,21 +61,21 @@ added words n within k =
 
 module _ (place : Place) (n : ℕ) where
   -- the states from `n` on that are in its word
-  shifted : (k : ℕ) → n ≤ k → k / 64 ≡ n / 64 → bit_at (get_or place.words (k / 64) 0) (k % 64) ≡ bit_at (get_or place.words (n / 64) 0 / 2 ^ (n % 64)) (k - n)
+  shifted : (k : ℕ) → n ≤ k → k / 64 ≡ n / 64 → bit_at (get_or place.bits (k / 64) 0) (k % 64) ≡ bit_at (get_or place.bits (n / 64) 0 / 2 ^ (n % 64)) (k - n)
   shifted k from same =
-      let word = get_or place.words (n / 64) 0 in
-      let at : get_or place.words (k / 64) 0 ≡ word = ap (λ i. get_or place.words i 0) same in
+      let word = get_or place.bits (n / 64) 0 in
+      let at : get_or place.bits (k / 64) 0 ≡ word = ap (λ i. get_or place.bits i 0) same in
       let further : n % 64 + (k - n) ≡ k % 64 = omega arith in
       let cut : word / 2 ^ (n % 64) / 2 ^ (k - n) ≡ word / 2 ^ (k % 64) = shr-shr word (n % 64) (k - n) ∙ ap (λ i. word / 2 ^ i) further in
       ap (λ x. bit_at x (k % 64)) at ∙ ap (λ x. x % 2) (sym cut)
 
-  pub no_more : get_or place.words (n / 64) 0 / 2 ^ (n % 64) ≡ 0 → (k : ℕ) → n ≤ k → k / 64 ≡ n / 64 → HasState place k → ⊥
+  pub no_more : get_or place.bits (n / 64) 0 / 2 ^ (n % 64) ≡ 0 → (k : ℕ) → n ≤ k → k / 64 ≡ n / 64 → HasState place k → ⊥
   no_more none k from same has = let off = shifted k from same ∙ ap (λ word. bit_at word (k - n)) none ∙ bit_at-zero (k - n) in omega (arith, off, has)
 
-  pub first_here : get_or place.words (n / 64) 0 < 2 ^ 64 → 0 < get_or place.words (n / 64) 0 / 2 ^ (n % 64) →
-      IsFirstState place n (n + trailing_zeros w64 (get_or place.words (n / 64) 0 / 2 ^ (n % 64)))
+  pub first_here : get_or place.bits (n / 64) 0 < 2 ^ 64 → 0 < get_or place.bits (n / 64) 0 / 2 ^ (n % 64) →
+      IsFirstState place n (n + trailing_zeros w64 (get_or place.bits (n / 64) 0 / 2 ^ (n % 64)))
   first_here small some =
-      let word = get_or place.words (n / 64) 0 in
+      let word = get_or place.bits (n / 64) 0 in
       let rest = word / 2 ^ (n % 64) in
       let less : rest ≤ word = div-le_self word (2 ^ (n % 64)) in
       let lowest = bit_at-trailing_zeros w64 rest some (omega arith) in

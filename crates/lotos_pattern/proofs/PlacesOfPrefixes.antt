@@ -27,18 +27,18 @@ some_matched p h = let some = some_sequence p p.elements h in (some.0, record { 
 
 -- what follows at a place is where it leads, of labels that can be observed
 follows : (p : Pattern) (place : Place) (s : List Label) → CanContinue p.elements place s → All (IsObservable p.strong) s → CanFollow p place s
-follows p place s m o = record { position = m.position; has = m.has; matched = record { joined = m.joined; observable = o } }
+follows p place s m o = record { state = m.state; has = m.has; matched = record { joined = m.joined; observable = o } }
 
 leads : (p : Pattern) (place : Place) (s : List Label) → CanFollow p place s → CanContinue p.elements place s
-leads p place s m = record { position = m.position; has = m.has; joined = m.matched.joined }
+leads p place s m = record { state = m.state; has = m.has; joined = m.matched.joined }
 
 -- the place before any label
 pub begins : (p : Pattern) (none place : Place) → ((k : ℕ) → HasState none k → ⊥) → ((k : ℕ) → HasState place k ↔ (HasState none k ⊎ (k ≡ 0))) → IsPlaceOf p [] place
 unfolding IsPlaceOf
 begins p none place bare has s = (
-  λ m. record { position = 0; has = (has 0).1 (inr refl); matched = record { joined = m.joined; observable = m.observable } },
-  λ m. elim ((has m.position).0 m.has) [
-    | inl h ↦ absurd (bare m.position h)
+  λ m. record { state = 0; has = (has 0).1 (inr refl); matched = record { joined = m.joined; observable = m.observable } },
+  λ m. elim ((has m.state).0 m.has) [
+    | inl h ↦ absurd (bare m.state h)
     | inr first ↦ record { joined = subst (λ k. IsJoin Segment (drop k p.elements) s) first m.matched.joined; observable = m.matched.observable }
   ],
 )
@@ -62,7 +62,7 @@ module _ (p : Pattern) (r : List Label) (l : Label) (place onward : Place) where
   unfolding IsPlaceOf
   alive occur k has stands =
       let some = some_sequence p (drop k p.elements) (All-drop (CanOccur p.strong) k p.elements occur) in
-      (some.0, (stands some.0).1 (record { position = k; has = has; matched = record { joined = some.1; observable = some.2 } }))
+      (some.0, (stands some.0).1 (record { state = k; has = has; matched = record { joined = some.1; observable = some.2 } }))
 
   -- if the label leads to a place with a state, the longer prefix can still match, and that place is its place
   pub goes_on : All (CanOccur p.strong) p.elements → IsObservable p.strong l → IsSuccessorPlace p.elements place l onward → (k : ℕ) × HasState onward k → IsPlaceOf p r place →
@@ -75,7 +75,7 @@ module _ (p : Pattern) (r : List Label) (l : Label) (place onward : Place) where
   stuck leads_on none stands (s, m) =
       let before = (stands (l ∷ s)).0 (subst (Matches p) (append_assoc r (l ∷ []) s) m) in
       let after = (leads_on s).0 (leads p place (l ∷ s) before) in
-      none after.position after.has
+      none after.state after.has
 
 -- if all labels can be observed, so can those after others
 last_seen : (strong : Bool) (r : List Label) (l : Label) (s : List Label) → All (IsObservable strong) (r ++ l ∷ s) → IsObservable strong l

@@ -107,13 +107,13 @@ module _ (strong : Bool) where
   goes_on [] q own rest words cut none spelled =
       let same : words ≡ rest = cut ∙ ap (λ front. front ++ rest) none in
       record { more = q; whole = refl; spelled = subst (IsJoin (Spelling strong) q) same spelled }
-  goes_on (e ∷ p) [] own rest words cut (front, behind, spelling, others, joined) none =
-      let empty : front ++ (behind ++ rest) ≡ [] = sym (append_assoc front behind rest) ∙ ap (λ l. l ++ rest) (sym joined) ∙ sym cut ∙ none in
-      absurd (spelled_some e front (behind ++ rest) spelling empty)
-  goes_on (e ∷ p) (f ∷ q) own rest words cut (front, behind, spelling, others, joined) (first, second, spelling_too, others_too, joined_too) =
-      let both : front ++ (behind ++ rest) ≡ first ++ second = sym (append_assoc front behind rest) ∙ ap (λ l. l ++ rest) (sym joined) ∙ sym cut ∙ joined_too in
-      let h = once e f front first (behind ++ rest) second spelling spelling_too both in
-      let further = goes_on p q behind rest second (sym h.rest) others others_too in
+  goes_on (e ∷ p) [] own rest words cut (front, remainder, spelling, others, joined) none =
+      let empty : front ++ (remainder ++ rest) ≡ [] = sym (append_assoc front remainder rest) ∙ ap (λ l. l ++ rest) (sym joined) ∙ sym cut ∙ none in
+      absurd (spelled_some e front (remainder ++ rest) spelling empty)
+  goes_on (e ∷ p) (f ∷ q) own rest words cut (front, remainder, spelling, others, joined) (first, second, spelling_too, others_too, joined_too) =
+      let both : front ++ (remainder ++ rest) ≡ first ++ second = sym (append_assoc front remainder rest) ∙ ap (λ l. l ++ rest) (sym joined) ∙ sym cut ∙ joined_too in
+      let h = once e f front first (remainder ++ rest) second spelling spelling_too both in
+      let further = goes_on p q remainder rest second (sym h.rest) others others_too in
       record {
         more = further.more;
         whole = let first_same = h.element in let rest_same = further.whole in cc;

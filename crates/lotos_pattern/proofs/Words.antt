@@ -84,23 +84,23 @@ pub names_internal : (word : Text) → EqualsIgnoringCase word internal → Name
 names_internal word is = record { spelled = internal_spelled word is; named = inside is; observable = tt }
 
 -- the text of the word at an index
-pub word_at : (words : List (Bor Text)) (place : ℕ) (other : Bor Text) → place < length words → slice_get (texts_of words) place ≡ Some (get_or words place other).now
-word_at [] place other within = absurd (omega arith)
+pub word_at : (words : List (Bor Text)) (index : ℕ) (other : Bor Text) → index < length words → slice_get (texts_of words) index ≡ Some (get_or words index other).now
+word_at [] index other within = absurd (omega arith)
 word_at (w ∷ ws) zero other within = refl
-word_at (w ∷ ws) (suc place) other within = word_at ws place other (omega arith)
+word_at (w ∷ ws) (suc index) other within = word_at ws index other (omega arith)
 
-pub within_texts : (words : List (Bor Text)) (place : ℕ) → place < length words → place < length (texts_of words)
-within_texts words place within = let h = length-map words (λ word. word.now) in omega arith
+pub within_texts : (words : List (Bor Text)) (index : ℕ) → index < length words → index < length (texts_of words)
+within_texts words index within = let h = length-map words (λ word. word.now) in omega arith
 
 -- the words from an index on
-pub drop_at : (words : List Text) (place : ℕ) (word : Text) → slice_get words place ≡ Some word → drop place words ≡ word ∷ drop (place + 1) words
-drop_at words place word is =
-    drop_more words place word (slice_get_within words place word is) ∙ ap (λ w. w ∷ drop (place + 1) words) (get_or_from_slice_get words place word word is)
+pub drop_at : (words : List Text) (index : ℕ) (word : Text) → slice_get words index ≡ Some word → drop index words ≡ word ∷ drop (index + 1) words
+drop_at words index word is =
+    drop_more words index word (slice_get_within words index word is) ∙ ap (λ w. w ∷ drop (index + 1) words) (get_or_from_slice_get words index word word is)
 
 -- the words up to and including the one at an index
-pub take_at : (words : List Text) (place : ℕ) (word : Text) → slice_get words place ≡ Some word → take (place + 1) words ≡ take place words ++ word ∷ []
-take_at words place word is =
-    take_more words place word (slice_get_within words place word is) ∙ ap (λ w. take place words ++ w ∷ []) (get_or_from_slice_get words place word word is)
+pub take_at : (words : List Text) (index : ℕ) (word : Text) → slice_get words index ≡ Some word → take (index + 1) words ≡ take index words ++ word ∷ []
+take_at words index word is =
+    take_more words index word (slice_get_within words index word is) ∙ ap (λ w. take index words ++ w ∷ []) (get_or_from_slice_get words index word word is)
 
 -- what an answer gives has what follows from what it has
 pub if_ok : {A E : Type 0} (P Q : A → Type 0) → ((a : A) → P a → Q a) → (r : Result A E) → IfOk r P → IfOk r Q

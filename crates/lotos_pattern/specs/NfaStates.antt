@@ -6,16 +6,16 @@ use Rattle.lotos_pattern.specs.Patterns.{Matches, Pattern}
 
 -- a place: a bit for each state, in words of 64 bits
 pub record Place : Type 0 where
-  pub words : List ℕ
+  pub bits : List ℕ
 
 -- the place is one that the program has: five words of 64 bits
 pub record IsPlaceValue (place : Place) : Type 0 where
-  pub count : length place.words ≡ 5
-  pub bounded : All (λ word. word < 2 ^ 64) place.words
+  pub count : length place.bits ≡ 5
+  pub bounded : All (λ word. word < 2 ^ 64) place.bits
 
 -- the state is in the place: `k` elements are done
 abbrev pub HasState : Place → ℕ → Type 0
-HasState place k = bit_at (slice_index place.words (k / 64)) (k % 64) ≡ 1
+HasState place k = bit_at (slice_index place.bits (k / 64)) (k % 64) ≡ 1
 
 -- the first state of the place from `from` on
 pub record IsFirstState (place : Place) (from k : ℕ) : Type 0 where
@@ -29,6 +29,6 @@ remaining_elements p k = record { elements = drop k p.elements; strong = p.stron
 
 -- at some state of the place, the rest of the pattern matches what follows
 pub record CanFollow (p : Pattern) (place : Place) (s : List Label) : Type 0 where
-  pub position : ℕ
-  pub has : HasState place position
-  pub matched : Matches (remaining_elements p position) s
+  pub state : ℕ
+  pub has : HasState place state
+  pub matched : Matches (remaining_elements p state) s

@@ -39,7 +39,7 @@ module _ (strong : Bool) where
     pub pattern : Pattern
     pub is_after : IsAfterPattern words n pattern
     pub goes_on : DemandsDeadlock pattern → ⊥
-    pub room : length pattern.elements < 256
+    pub below_limit : length pattern.elements < 256
 
   -- the word names a label
   abbrev pub IsLabel : Text → Type 0

@@ -8,9 +8,9 @@ use Rattle.lotos_pattern.specs.declared.element.Transition.TheVariants as transi
 
 -- at some state of the place, what follows has a segment for each of the elements left
 pub record CanContinue (p : List Element) (place : Place) (s : List Label) : Type 0 where
-  pub position : ℕ
-  pub has : HasState place position
-  pub joined : IsJoin Segment (drop position p) s
+  pub state : ℕ
+  pub has : HasState place state
+  pub joined : IsJoin Segment (drop state p) s
 
 -- what may follow the label at a place is what may follow at the next place
 abbrev pub IsSuccessorPlace : List Element → Place → Label → Place → Type 0

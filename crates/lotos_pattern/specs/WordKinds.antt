@@ -22,7 +22,7 @@ IsKindOfWord strong word word_kind.Unknown = BeginsNoElement strong word
 -- another element may follow these
 pub record CanBeFollowed (p : List Element) : Type 0 where
   pub goes_on : LastDemandsDeadlock p → ⊥
-  pub room : length p ≢ 256
+  pub below_limit : length p ≢ 256
 
 -- why no element may follow these, at the word with this number
 abbrev pub IsAppendFault : List Element → ℕ → PatternFault → Type 0
@@ -34,14 +34,14 @@ IsAppendFault p n (E45 m) = ⊥
 IsAppendFault p n (E48 m) = ⊥
 IsAppendFault p n (E99 e) = ⊥
 
--- the words from index `place` up to index `behind` spell the element
-pub record ParsesAt (strong : Bool) (words : List Text) (place : ℕ) (e : Element) (behind : ℕ) : Type 0 where
+-- the words from index `index` up to index `end` spell the element
+pub record ParsesAt (strong : Bool) (words : List Text) (index : ℕ) (e : Element) (end : ℕ) : Type 0 where
   pub own : List Text
   pub spelling : Spelling strong e own
-  pub located : take behind words ≡ take place words ++ own
-  pub further : place < behind
-  pub within : behind ≤ length words
+  pub located : take end words ≡ take index words ++ own
+  pub further : index < end
+  pub within : end ≤ length words
 
 -- if an element begins at this index, the fault has its cause and the words spell no pattern
 abbrev pub IsFaultAt : (strong : Bool) → List Text → ℕ → PatternFault → Type 0
-IsFaultAt strong words place fault = BeginsElement strong words (place + 1) → IsCause strong words fault × SpellsNone strong words fault
+IsFaultAt strong words index fault = BeginsElement strong words (index + 1) → IsCause strong words fault × SpellsNone strong words fault

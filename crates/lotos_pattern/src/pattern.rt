@@ -67,7 +67,7 @@ impl Pattern {
         ensures begins { IsPlaceOf self.now [] result }
         ensures viable { Viable self.now [] }
         ensures states { HasStatesAfter self.now [] result }
-        ensures words { IsPlaceValue result }
+        ensures place_value { IsPlaceValue result }
     {
         // Reading a field brings in the invariant of patterns.
         let _ = &self.elements;
@@ -84,7 +84,7 @@ impl Pattern {
             (λ q. Viable self.now (r ++ label.now ∷ []) × IsPlaceOf self.now (r ++ label.now ∷ []) q) }
         ensures states { (r : List Label) → HasStatesAfter self.now r place →
             IfSome result (HasStatesAfter self.now (r ++ label.now ∷ [])) }
-        ensures words { IfSome result IsPlaceValue }
+        ensures place_value { IfSome result IsPlaceValue }
     {
         if is_unobservable(self.strong, label) {
             return None;
@@ -111,7 +111,7 @@ impl Pattern {
         ensures follows { IsSuccessorPlace self.now.elements place.now label.now result }
         ensures states { (k : ℕ) → HasState result k ↔
             ((j : ℕ) × HasState place.now j × Leads self.now.elements label.now j k) }
-        ensures words { IsPlaceValue result }
+        ensures place_value { IsPlaceValue result }
     {
         let elements = self.elements.as_slice();
         let end = elements.len();
@@ -158,7 +158,7 @@ fn skip_empty_elements(element: &Element, place: &Place, state: usize, end: usiz
 fn apply_transition(place: &mut Place, transition: Transition, state: usize)
     requires { state < 256 }
     ensures states { HasTransition transition state place.old place.new }
-    ensures words { IsPlaceValue place.old → IsPlaceValue place.new }
+    ensures place_value { IsPlaceValue place.old → IsPlaceValue place.new }
 {
     match transition {
         Transition::Advance => place.add(state + 1),
@@ -166,6 +166,3 @@ fn apply_transition(place: &mut Place, transition: Transition, state: usize)
         Transition::Reject => {}
     }
 }
-
-#[cfg(test)]
-mod tests;

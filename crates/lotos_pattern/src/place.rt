@@ -13,7 +13,7 @@ const BITS: usize = 64;
 #[derive(Clone, Copy, Debug, PartialEq, Eq, Hash)]
 pub struct Place {
     /// For each state a bit, from the lowest of the first word on. State `k` means that `k` elements are done.
-    words: [u64; WORDS],
+    bits: [u64; WORDS],
 }
 
 impl Model for Place {
@@ -21,9 +21,9 @@ impl Model for Place {
 
     ghost Value = { Place };
 
-    ghost view = { λ p. record { words = p.words } };
+    ghost view = { λ p. record { bits = p.bits } };
 
-    ghost inverse = { λ v. record { words = v.words } };
+    ghost inverse = { λ v. record { bits = v.bits } };
 }
 
 impl Place {
@@ -33,18 +33,18 @@ impl Place {
     /// The empty set.
     pub(crate) fn empty() -> Place
         ensures none { (k : ℕ) → HasState result k → ⊥ }
-        ensures words { IsPlaceValue result }
+        ensures place_value { IsPlaceValue result }
     {
-        Place { words: [0; WORDS] }
+        Place { bits: [0; WORDS] }
     }
 
     /// Adds a state.
     pub(crate) fn add(&mut self, state: usize)
         requires { state < 257 }
         ensures states { (k : ℕ) → HasState self.new k ↔ (HasState self.old k ⊎ (k ≡ state)) }
-        ensures words { IsPlaceValue self.new }
+        ensures place_value { IsPlaceValue self.new }
     {
-        self.words[state / BITS] |= 1 << (state % BITS);
+        self.bits[state / BITS] |= 1 << (state % BITS);
     }
 
     /// The first state from this one on, if there is one.
@@ -52,16 +52,16 @@ impl Place {
         ensures { MatchOption result ((k : ℕ) → state ≤ k → HasState self.now k → ⊥)
             (IsFirstState self.now state) }
     {
-        let words = self.words.as_slice();
+        let bits = self.bits.as_slice();
         let number = state / BITS;
-        if number >= words.len() {
+        if number >= bits.len() {
             return None;
         }
         let first = self.first_state_in_word(state);
         if first.is_some() {
             return first;
         }
-        for later in number + 1..words.len() {
+        for later in number + 1..bits.len() {
             let first = self.first_state_in_word(later * BITS);
             if first.is_some() {
                 return first;
@@ -76,7 +76,7 @@ impl Place {
         ensures { MatchOption result ((k : ℕ) → state ≤ k → k / 64 ≡ state / 64 → HasState self.now k → ⊥)
             (IsFirstState self.now state) }
     {
-        let rest = self.words[state / BITS] >> (state % BITS);
+        let rest = self.bits[state / BITS] >> (state % BITS);
         if rest == 0 {
             return None;
         }

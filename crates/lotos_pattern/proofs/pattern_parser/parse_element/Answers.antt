@@ -1,7 +1,7 @@
 use Rattle.std.proofs.Common.{refl}
 use Rattle.lotos_pattern.specs.Patterns.{any, deadlock, one}
 use Rattle.lotos_pattern.specs.Spelling.{texts_of}
-use Rattle.lotos_pattern.proofs.InitialPlaces.{fault_internal, fault_nothing}
+use Rattle.lotos_pattern.proofs.SpellingFaults.{fault_internal, fault_nothing}
 use Rattle.lotos_pattern.proofs.Growth.{spelled_by_one}
 use Rattle.lotos_pattern.proofs.Words.{word_at}
 use Rattle.lotos_pattern.proofs.pattern_parser.parse_element.Goals as goal

@@ -3,7 +3,7 @@ use Rattle.std.proofs.lemmas.List.{length-map}
 use Rattle.lotos_pattern.specs.Patterns.{until, until_deadlock}
 use Rattle.lotos_pattern.specs.Spelling.{texts_of}
 use Rattle.lotos_pattern.specs.PatternFaults.{IsUntil}
-use Rattle.lotos_pattern.proofs.InitialPlaces.{any_ends_none, fault_until_alone, fault_until_internal, fault_until_none, nothing_ends_none, numbered, until_ends_none, while_ends_none}
+use Rattle.lotos_pattern.proofs.SpellingFaults.{any_ends_none, fault_until_alone, fault_until_internal, fault_until_none, nothing_ends_none, numbered, until_ends_none, while_ends_none}
 use Rattle.lotos_pattern.proofs.Growth.{spelled_by_two}
 use Rattle.lotos_pattern.proofs.Words.{word_at}
 use Rattle.lotos_pattern.proofs.pattern_parser.parse_until.Goals as goal

@@ -3,7 +3,7 @@ use Rattle.std.proofs.lemmas.List.{length-map}
 use Rattle.lotos_pattern.specs.Patterns.{while, while_any}
 use Rattle.lotos_pattern.specs.Spelling.{texts_of}
 use Rattle.lotos_pattern.specs.PatternFaults.{IsWhile}
-use Rattle.lotos_pattern.proofs.InitialPlaces.{deadlock_repeats_none, fault_while_alone, fault_while_internal, fault_while_none, nothing_repeats_none, numbered, until_repeats_none, while_repeats_none}
+use Rattle.lotos_pattern.proofs.SpellingFaults.{deadlock_repeats_none, fault_while_alone, fault_while_internal, fault_while_none, nothing_repeats_none, numbered, until_repeats_none, while_repeats_none}
 use Rattle.lotos_pattern.proofs.Growth.{spelled_by_two}
 use Rattle.lotos_pattern.proofs.Words.{word_at}
 use Rattle.lotos_pattern.proofs.pattern_parser.parse_while.Goals as goal

@@ -11,7 +11,7 @@ loop-state-init c =
     let long = as_long _ _ shown in (
       rw c.unwrap_or-state.ensures (passing_begins c.args.self.now.elements _ _ _ c.first_state_from.result _ (omega arith) c.empty-next.ensures.none c.first_state_from.ensures),
       rw c.unwrap_or-state.ensures (walk_begins c.args.self.now.elements _ _ _ c.first_state_from.result _ (omega arith) c.empty-next.ensures.none c.first_state_from.ensures),
-      c.empty-next.ensures.words,
+      c.empty-next.ensures.place_value,
     )
 
 pub loop-state-preserved : goal.loop-state-preserved
@@ -26,7 +26,7 @@ loop-state-preserved c =
           c.apply_transition.ensures.states c.skip_empty_elements-state.ensures,
       walked p c.args.place.now c.args.label.now c.loop-state.state _ element c.transition_on.result _ _ _ _ (omega arith) (omega arith) c.loop-state.invariant.1 c.transition_on.ensures
           c.apply_transition.ensures.states c.skip_empty_elements-state.ensures,
-      c.apply_transition.ensures.words c.loop-state.invariant.2,
+      c.apply_transition.ensures.place_value c.loop-state.invariant.2,
     )
 
 pub loop-state-smaller : goal.loop-state-smaller

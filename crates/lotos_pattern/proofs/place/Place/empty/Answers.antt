@@ -5,5 +5,5 @@ use Rattle.lotos_pattern.proofs.place.Place.empty.Goals as goal
 pub returns-clause-none : goal.returns-clause-none
 returns-clause-none c k = bare 5 k
 
-pub returns-clause-words : goal.returns-clause-words
-returns-clause-words c = bare_value
+pub returns-clause-place_value : goal.returns-clause-place_value
+returns-clause-place_value c = bare_value

@@ -4,5 +4,5 @@ use Rattle.lotos_pattern.proofs.place.Place.first_state_from.Goals as goal
 
 pub returns : goal.returns
 returns c =
-    let long = ap length c.as_slice-words.ensures ∙ ap (λ p. length p.words) c.self.view_is in
+    let long = ap length c.as_slice-bits.ensures ∙ ap (λ p. length p.bits) c.self.view_is in
     none_past c.args.self.now c.args.state c.loop-later.later (omega arith) c.loop-later.invariant

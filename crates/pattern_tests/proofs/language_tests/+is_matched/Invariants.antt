@@ -1,5 +1,5 @@
 use Rattle.std.proofs.Common.{◌<◌, length}
-use Rattle.lotos_pattern.proofs.pattern.tests.+is_matched.Given as goal
+use Rattle.pattern_tests.proofs.language_tests.+is_matched.Given as goal
 
 abbrev pub decreases-is_matched : goal.decreases-is_matched
 decreases-is_matched l = length l.parts.now

@@ -1,8 +1,8 @@
 //! Words that spell patterns, and words that do not.
-use super::parse_elements;
-use crate::element::Element;
-use crate::fault::PatternFault;
+use super::sequence_ends::{assert_text, joined};
+use lotos_pattern::{Pattern, PatternFault};
 use std::alloc::{AllocError, Global};
+use std::process::Abort;
 use std::test::Fail;
 
 /// What is tried, whether internal steps are observed, the words, and the elements that they spell.
@@ -89,7 +89,7 @@ const SPELLED: &[(&str, bool, &[&str], &str)] = &[
         "while exit;",
     ),
     (
-        "the internal action, shown",
+        "the internal action, observed",
         true,
         &["i", "I", "A"],
         "i; i; A;",
@@ -107,7 +107,7 @@ const SPELLED: &[(&str, bool, &[&str], &str)] = &[
         "while i;",
     ),
     (
-        "all kinds, shown",
+        "all kinds, observed",
         true,
         &["a", "<any>", "<while>", "i", "<until>", "<deadlock>"],
         "A; any; while i; until deadlock;",
@@ -120,7 +120,7 @@ const REFUSED: &[(&str, bool, &[&str], PatternFault)] = &[
     ("an underscore first", false, &["_a"], PatternFault::E41(1)),
     ("an empty word", false, &[""], PatternFault::E41(1)),
     (
-        "an empty word behind a label",
+        "an empty word after a label",
         false,
         &["a", ""],
         PatternFault::E41(2),
@@ -132,7 +132,7 @@ const REFUSED: &[(&str, bool, &[&str], PatternFault)] = &[
         PatternFault::E41(1),
     ),
     (
-        "such a letter behind another",
+        "such a letter after another",
         false,
         &["aé"],
         PatternFault::E41(1),
@@ -180,31 +180,31 @@ const REFUSED: &[(&str, bool, &[&str], PatternFault)] = &[
         PatternFault::E45(2),
     ),
     (
-        "a label behind an end",
+        "a label after an end",
         false,
         &["<deadlock>", "A"],
         PatternFault::E43(2),
     ),
     (
-        "an end behind an end",
+        "an end after an end",
         false,
         &["<deadlock>", "<deadlock>"],
         PatternFault::E43(2),
     ),
     (
-        "a label behind any labels before an end",
+        "a label after any labels before an end",
         false,
         &["<until>", "<deadlock>", "A"],
         PatternFault::E43(3),
     ),
     (
-        "`i` behind an end",
+        "`i` after an end",
         false,
         &["<deadlock>", "i"],
         PatternFault::E43(2),
     ),
     (
-        "what means nothing behind an end",
+        "what means nothing after an end",
         false,
         &["<deadlock>", "1"],
         PatternFault::E43(2),
@@ -258,7 +258,7 @@ const REFUSED: &[(&str, bool, &[&str], PatternFault)] = &[
         PatternFault::E42(1),
     ),
     (
-        "`<while>` behind an end",
+        "`<while>` after an end",
         false,
         &["<deadlock>", "<while>", "A"],
         PatternFault::E43(2),
@@ -270,7 +270,7 @@ const REFUSED: &[(&str, bool, &[&str], PatternFault)] = &[
         PatternFault::E42(2),
     ),
     (
-        "`i` with a letter behind it, shown",
+        "`i` with a letter after it, observed",
         true,
         &["i-"],
         PatternFault::E41(1),
@@ -318,7 +318,7 @@ const LONG: &[(&str, &[&str], usize, &[&str], Option<PatternFault>)] = &[
         None,
     ),
     (
-        "a word behind 256 elements, an end the last",
+        "a word after 256 elements, an end the last",
         &["A"],
         255,
         &["<deadlock>", "A"],
@@ -332,14 +332,14 @@ const LONG: &[(&str, &[&str], usize, &[&str], Option<PatternFault>)] = &[
         Some(PatternFault::E44(257)),
     ),
     (
-        "`i` behind 256 elements",
+        "`i` after 256 elements",
         &["A"],
         256,
         &["i"],
         Some(PatternFault::E44(257)),
     ),
     (
-        "what means nothing behind 256 elements",
+        "what means nothing after 256 elements",
         &["A"],
         256,
         &["1"],
@@ -354,7 +354,7 @@ const LONG: &[(&str, &[&str], usize, &[&str], Option<PatternFault>)] = &[
     ),
 ];
 
-const TOLD: &[(PatternFault, &str)] = &[
+const PRINTED: &[(PatternFault, &str)] = &[
     (
         PatternFault::E41(3),
         "E41 word 3 is neither a label nor an element",
@@ -376,86 +376,158 @@ const TOLD: &[(PatternFault, &str)] = &[
     (PatternFault::E99(AllocError), "E99 out of memory"),
 ];
 
+/// An element of the table, as `Debug` writes it.
+fn element_text(alloc: Global, element: &str) -> Result<String, AllocError> {
+    match element {
+        "any" => joined(alloc, &["Any"]),
+        "while any" => joined(alloc, &["WhileAny"]),
+        "deadlock" => joined(alloc, &["Deadlock"]),
+        "until deadlock" => joined(alloc, &["UntilDeadlock"]),
+        _ => label_element_text(alloc, element),
+    }
+}
+
+fn label_element_text(alloc: Global, element: &str) -> Result<String, AllocError> {
+    if let Some(label) = element.strip_prefix("until ") {
+        joined(alloc, &["Until(\"", label, "\")"])
+    } else if let Some(label) = element.strip_prefix("while ") {
+        joined(alloc, &["While(\"", label, "\")"])
+    } else {
+        joined(alloc, &["Label(\"", element, "\")"])
+    }
+}
+
+/// Appends the elements of the table, as `Debug` writes them.
+fn write_elements(alloc: Global, text: &mut String, spelled: &str) -> Result<(), AllocError> {
+    let mut is_first = true;
+    for element in spelled.split_terminator(';') {
+        if !is_first {
+            text.push_str(", ")?;
+        }
+        text.push_str(element_text(alloc, element.trim())?.as_str())?;
+        is_first = false;
+    }
+    Ok(())
+}
+
+/// A pattern with the elements of the table, as `Debug` writes it.
+fn pattern_text(alloc: Global, spelled: &str, strong: bool) -> Result<String, AllocError> {
+    let mut text = String::from_str(alloc, "Pattern { elements: [")?;
+    write_elements(alloc, &mut text, spelled)?;
+    text.push_str(if strong {
+        "], strong: true }"
+    } else {
+        "], strong: false }"
+    })?;
+    Ok(text)
+}
+
+/// The pattern of the words, as `Debug` writes it.
+fn text_of(alloc: Global, words: &[&str], strong: bool) -> Result<String, PatternFault> {
+    let pattern = Pattern::read(alloc, words, strong)?;
+    Ok(format!(in alloc; "{pattern:?}")?)
+}
+
+fn assert_spelled(
+    rt: &impl Abort,
+    alloc: Global,
+    name: &str,
+    words: &[&str],
+    strong: bool,
+    spelled: &str,
+) -> Result<(), PatternFault> {
+    let found = text_of(alloc, words, strong)?;
+    let expected = pattern_text(alloc, spelled, strong)?;
+    assert_text(rt, name, found.as_str(), expected.as_str());
+    Ok(())
+}
+
 #[test]
 fn reads_patterns(rt: HostRuntime) -> Result<(), Fail> {
     for (name, strong, words, spelled) in SPELLED {
-        let elements = parse_elements(rt.alloc(), words, *strong)?;
-        let shown = shown(rt.alloc(), elements.as_slice())?;
-        assert_eq!(rt; shown.as_str(), *spelled, "{}", name);
-    }
-    Ok(())
-}
-
-#[test]
-fn refuses_words(rt: HostRuntime) {
-    for (name, strong, words, fault) in REFUSED {
-        assert_eq!(rt;
-            fault_of(rt.alloc(), words, *strong),
-            Some(*fault),
-            "{}",
-            name
-        );
-    }
-}
-
-#[test]
-fn limits_the_elements(rt: HostRuntime) -> Result<(), Fail> {
-    for (name, words, count, behind, fault) in LONG {
-        let mut all = Vec::new(rt.alloc());
-        for _ in 0..*count {
-            all.extend_from_slice(words)?;
-        }
-        all.extend_from_slice(behind)?;
-        assert_eq!(rt;
-            fault_of(rt.alloc(), all.as_slice(), false),
-            *fault,
-            "{}",
-            name
-        );
-    }
-    Ok(())
-}
-
-#[test]
-fn tells_faults(rt: HostRuntime) -> Result<(), Fail> {
-    for (fault, told) in TOLD {
-        let text = fault.to_string(rt.alloc())?;
-        assert_eq!(rt; text.as_str(), *told, "{:?}", fault);
+        assert_spelled(&rt, rt.alloc(), name, words, *strong, spelled)?;
     }
     Ok(())
 }
 
 /// The fault of the words, if they have one.
 fn fault_of(alloc: Global, words: &[&str], strong: bool) -> Option<PatternFault> {
-    match parse_elements(alloc, words, strong) {
+    match Pattern::read(alloc, words, strong) {
         Ok(_) => None,
         Err(fault) => Some(fault),
     }
 }
 
-/// The elements, each followed by a semicolon.
-fn shown(alloc: Global, elements: &[Element]) -> Result<String, AllocError> {
-    let mut text = String::new(alloc);
-    for element in elements {
-        if !text.is_empty() {
-            text.push(' ')?;
-        }
-        match element {
-            Element::Label(label) => text.push_str(label.as_str())?,
-            Element::Any => text.push_str("any")?,
-            Element::Until(label) => {
-                text.push_str("until ")?;
-                text.push_str(label.as_str())?;
-            }
-            Element::While(label) => {
-                text.push_str("while ")?;
-                text.push_str(label.as_str())?;
-            }
-            Element::WhileAny => text.push_str("while any")?,
-            Element::Deadlock => text.push_str("deadlock")?,
-            Element::UntilDeadlock => text.push_str("until deadlock")?,
-        }
-        text.push(';')?;
+fn assert_fault(
+    rt: &impl Abort,
+    name: &str,
+    found: Option<PatternFault>,
+    expected: Option<PatternFault>,
+) {
+    assert_eq!(rt; found, expected, "{}", name);
+}
+
+#[test]
+fn rejects_words(rt: HostRuntime) {
+    for (name, strong, words, fault) in REFUSED {
+        assert_fault(
+            &rt,
+            name,
+            fault_of(rt.alloc(), words, *strong),
+            Some(*fault),
+        );
     }
-    Ok(text)
+}
+
+/// The words, repeated a number of times, with the words after them.
+fn repeated(
+    alloc: Global,
+    words: &[&'static str],
+    count: usize,
+    after: &[&'static str],
+) -> Result<Vec<&'static str>, AllocError> {
+    let mut all = Vec::new(alloc);
+    for _ in 0..count {
+        all.extend_from_slice(words)?;
+    }
+    all.extend_from_slice(after)?;
+    Ok(all)
+}
+
+fn fault_of_repeated(
+    alloc: Global,
+    words: &[&'static str],
+    count: usize,
+    after: &[&'static str],
+) -> Result<Option<PatternFault>, AllocError> {
+    let all = repeated(alloc, words, count, after)?;
+    Ok(fault_of(alloc, all.as_slice(), false))
+}
+
+#[test]
+fn limits_the_elements(rt: HostRuntime) -> Result<(), Fail> {
+    for (name, words, count, after, fault) in LONG {
+        let found = fault_of_repeated(rt.alloc(), words, *count, after)?;
+        assert_fault(&rt, name, found, *fault);
+    }
+    Ok(())
+}
+
+fn assert_printed(
+    rt: &impl Abort,
+    alloc: Global,
+    fault: PatternFault,
+    printed: &str,
+) -> Result<(), AllocError> {
+    let text = fault.to_string(alloc)?;
+    assert_text(rt, printed, text.as_str(), printed);
+    Ok(())
+}
+
+#[test]
+fn prints_faults(rt: HostRuntime) -> Result<(), Fail> {
+    for (fault, printed) in PRINTED {
+        assert_printed(&rt, rt.alloc(), *fault, printed)?;
+    }
+    Ok(())
 }
