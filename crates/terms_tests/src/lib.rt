@@ -1,7 +1,8 @@
-//! Tests of the steps of terms through their crate's public items: worked rows, and the steps of a table against an
-//! oracle, a slow reading of the inference rules over terms of its own.
+//! Tests of terms through the public items of `lotos_terms`: worked rows, the steps of a table against an oracle, a slow
+//! reading of the inference rules over terms of its own, and how soon normal forms recur.
 //!
-//! They are a crate of their own, because a crate with tests inside is proved twice.
+//! They are a crate of their own, because a crate with tests inside is proved twice, and one crate, because each that
+//! runs tests is linked with all libraries below.
 #![tactic(auto)]
 
 #[cfg(test)]
@@ -9,11 +10,15 @@ mod accepted_text;
 #[cfg(test)]
 mod explored_table;
 #[cfg(test)]
+mod form_step_tests;
+#[cfg(test)]
 mod gate_names;
 #[cfg(test)]
 mod graph;
 #[cfg(test)]
 mod large_terms;
+#[cfg(test)]
+mod normal_step_tests;
 #[cfg(test)]
 mod operator_tests;
 #[cfg(test)]
@@ -21,9 +26,17 @@ mod oracle;
 #[cfg(test)]
 mod oracle_comparison;
 #[cfg(test)]
+mod protocols;
+#[cfg(test)]
+mod recurrence_tests;
+#[cfg(test)]
 mod step_tests;
 #[cfg(test)]
 mod term_equality;
+#[cfg(test)]
+mod term_list;
+#[cfg(test)]
+mod term_list_error;
 #[cfg(test)]
 mod texts;
 #[cfg(test)]
