@@ -1,6 +1,7 @@
 //! Calls after the end and after a halt, and the order of sequences.
-use super::listing_run::{Question, begin};
-use lotos_search::{Halt, compare};
+use super::listing_run::{Question, assert_text, begin};
+use lotos_search::{Halt, Search, compare};
+use std::alloc::{AllocError, Global};
 use std::test::Fail;
 
 const QUESTION: Question = Question {
@@ -12,38 +13,53 @@ const QUESTION: Question = Question {
     terms: 2,
 };
 
-#[test]
-fn gives_nothing_behind_the_end(rt: HostRuntime) -> Result<(), Fail> {
-    let mut search = begin(rt.alloc(), QUESTION)?;
-    for _ in 0..2 {
-        assert!(rt; matches!(search.next(), Ok(Some(_))), "two items");
+/// What one call returns.
+fn name_of_next(search: &mut Search) -> &'static str {
+    match search.next() {
+        Ok(Some(_)) => "item ",
+        Ok(None) => "end ",
+        Err(Halt::OverTerms(_)) => "over ",
+        Err(Halt::Failed) => "failed ",
+        Err(Halt::Memory) => "memory ",
     }
-    for _ in 0..3 {
-        assert!(rt; matches!(search.next(), Ok(None)), "the end");
+}
+
+fn names_of_calls(alloc: Global, search: &mut Search, calls: usize) -> Result<String, AllocError> {
+    let mut names = String::new(alloc);
+    for _ in 0..calls {
+        names.push_str(name_of_next(search))?;
     }
-    Ok(())
+    Ok(names)
+}
+
+/// What the first calls return.
+fn first_calls(alloc: Global, question: Question, calls: usize) -> Result<String, Fail> {
+    let mut search = begin(alloc, question)?;
+    Ok(names_of_calls(alloc, &mut search, calls)?)
 }
 
 #[test]
-fn fails_behind_a_halt(rt: HostRuntime) -> Result<(), Fail> {
-    let mut search = begin(
-        rt.alloc(),
-        Question {
-            terms: 1,
-            ..QUESTION
-        },
-    )?;
-    assert!(rt; matches!(search.next(), Ok(Some(_))), "one item");
-    assert!(rt;
-        matches!(search.next(), Err(Halt::OverTerms(_))),
-        "the halt"
+fn returns_nothing_after_the_end(rt: HostRuntime) -> Result<(), Fail> {
+    let found = first_calls(rt.alloc(), QUESTION, 5)?;
+    assert_text(&rt, QUESTION, found.as_str(), "item item end end end ");
+    Ok(())
+}
+
+/// The question with a bound that the second prefix exceeds.
+const BOUNDED: Question = Question {
+    terms: 1,
+    ..QUESTION
+};
+
+#[test]
+fn fails_after_a_halt(rt: HostRuntime) -> Result<(), Fail> {
+    let found = first_calls(rt.alloc(), BOUNDED, 5)?;
+    assert_text(
+        &rt,
+        BOUNDED,
+        found.as_str(),
+        "item over failed failed failed ",
     );
-    for _ in 0..3 {
-        assert!(rt;
-            matches!(search.next(), Err(Halt::Failed)),
-            "behind the halt"
-        );
-    }
     Ok(())
 }
 

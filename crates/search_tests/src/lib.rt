@@ -1,13 +1,18 @@
-//! Tests of the search through its crate's public items: tables of listings, marks, and small specifications
-//! against two oracles.
+//! Tests of searches through public items: tables of listings, marks, small specifications against two oracles, first
+//! matches, and the examples of `uses`.
 //!
-//! They are a crate of their own, because a crate with tests inside is proved twice.
+//! They are a crate of their own, because a crate with tests inside is proved twice, and one crate, because each that
+//! runs tests is linked with all libraries below.
 #![tactic(auto)]
 
+#[cfg(test)]
+mod accepted_text;
 #[cfg(test)]
 mod call_tests;
 #[cfg(test)]
 mod derivation_oracle;
+#[cfg(test)]
+mod fault_position_tests;
 #[cfg(test)]
 mod graph;
 #[cfg(test)]
@@ -19,6 +24,14 @@ mod listing_tables;
 #[cfg(test)]
 mod mark_tests;
 #[cfg(test)]
+mod match_tests;
+#[cfg(test)]
 mod oracle_comparison;
 #[cfg(test)]
+mod pattern_matching_tests;
+#[cfg(test)]
+mod resumed_listing_tests;
+#[cfg(test)]
 mod samples;
+#[cfg(test)]
+mod term_run_tests;

@@ -1,15 +1,16 @@
 //! A search and all that it returns.
+ghost use Rattle.std.specs.Prelude.{◌≤◌};
 ghost use Rattle.lotos_check.specs.NameLists.{In};
 ghost use Rattle.lotos_terms.specs.TableView.{IsPrintedAs};
 ghost use Rattle.lotos_terms.specs.declared.label.Label.{Label as TermLabel};
 ghost use Rattle.lotos_search.specs.Order.{Label as Text};
 
-use lotos_check::check;
+use super::accepted_text::{joined, table_of_text};
 use lotos_pattern::Pattern;
 use lotos_search::{Halt, Mark, Search};
 use lotos_terms::{Label, Table};
-use lotos_text::parse;
 use std::alloc::{AllocError, Global};
+use std::process::Abort;
 use std::test::Fail;
 
 /// All labels of the specifications here, in order.
@@ -54,33 +55,99 @@ pub struct Listing {
 
 /// The table of a specification, given by its functionality and its behaviour.
 pub fn table_of(alloc: Global, behaviour: &str) -> Result<Table, Fail> {
-    let text = format!(in alloc; "specification S [a,a1,b,c] : {behaviour} endspec")?;
-    let tree = parse(alloc, text.as_bytes())?;
-    let system = check(alloc, tree)?;
-    let table = Table::new(alloc, system)?;
-    Ok(table)
+    let text = joined(
+        alloc,
+        &["specification S [a,a1,b,c] : ", behaviour, " endspec"],
+    )?;
+    table_of_text(alloc, text.as_str())
 }
 
-pub fn begin(alloc: Global, question: Question) -> Result<Search, Fail> {
+fn mark_of(alloc: Global, question: Question) -> Result<Option<Mark>, Fail> {
+    match question.mark {
+        Some(line) => Ok(Some(Mark::read(alloc, line, question.strong)?)),
+        None => Ok(None),
+    }
+}
+
+/// The search, not yet asked for an item.
+pub fn begin(alloc: Global, question: Question) -> Result<Box<Search>, Fail> {
     if question.terms == 0 {
         return Err("a bound of no terms")?;
     }
-    let table = table_of(alloc, question.behaviour)?;
+    let mark = mark_of(alloc, question)?;
+    begin_after(alloc, question, mark)
+}
+
+fn begin_after(alloc: Global, question: Question, mark: Option<Mark>) -> Result<Box<Search>, Fail>
+    requires { 1 ≤ question.terms }
+{
     let pattern = Pattern::read(alloc, question.words, question.strong)?;
-    let mark = match question.mark {
-        Some(line) => Some(Mark::read(alloc, line, question.strong)?),
-        None => None,
-    };
-    let search = Search::begin(alloc, table, pattern, question.depth, mark, question.terms)?;
-    Ok(search)
+    begin_pattern(alloc, question, pattern, mark)
+}
+
+fn begin_pattern(
+    alloc: Global,
+    question: Question,
+    pattern: Pattern,
+    mark: Option<Mark>,
+) -> Result<Box<Search>, Fail>
+    requires { 1 ≤ question.terms }
+{
+    let table = table_of(alloc, question.behaviour)?;
+    Ok(boxed(
+        alloc,
+        Search::begin(alloc, table, pattern, question.depth, mark, question.terms)?,
+    )?)
+}
+
+fn boxed(alloc: Global, search: Search) -> Result<Box<Search>, AllocError> {
+    Ok(Box::new(alloc, search)?)
 }
 
 /// What the search returns, from its first item to its end.
 pub fn run(alloc: Global, question: Question) -> Result<Listing, Fail> {
     let mut search = begin(alloc, question)?;
+    rest(alloc, &mut search)
+}
+
+/// The same as text.
+pub fn listing_text(alloc: Global, question: Question) -> Result<String, Fail> {
+    let listing = run(alloc, question)?;
+    Ok(text_of(alloc, &listing)?)
+}
+
+/// Asserts the listing as text.
+pub fn assert_listing(
+    rt: &impl Abort,
+    alloc: Global,
+    question: Question,
+    expected: &str,
+) -> Result<(), Fail> {
+    let found = listing_text(alloc, question)?;
+    assert_text(rt, question, found.as_str(), expected);
+    Ok(())
+}
+
+/// Asserts that a text about a question is the expected one.
+pub fn assert_text(rt: &impl Abort, question: Question, found: &str, expected: &str) {
+    assert_eq!(rt;
+        found,
+        expected,
+        "{}: {:?}, internal steps observed: {}, depth {}, after {:?}, at most {} terms",
+        question.behaviour,
+        question.words,
+        question.strong,
+        question.depth,
+        question.mark,
+        question.terms
+    );
+}
+
+/// What the search still returns, to its end.
+fn rest(alloc: Global, search: &mut Search) -> Result<Listing, Fail> {
     let mut items = Vec::new(alloc);
     for _ in 0..MOST_ITEMS {
-        match advance(alloc, &mut search)? {
+        match advance(alloc, search)? {
             Step::Item(item) => items.push(item)?,
             Step::End(ending) => return Ok(Listing { items, ending }),
         }

@@ -1,5 +1,5 @@
 //! Tables of listings that were worked out by hand.
-use super::listing_run::{Question, run, text_of};
+use super::listing_run::{Question, assert_listing};
 use std::alloc::Global;
 use std::process::Abort;
 use std::test::Fail;
@@ -163,15 +163,7 @@ fn expect(
                 mark: None,
                 terms: ALL,
             };
-            let found = text_of(alloc, &run(alloc, question)?)?;
-            assert_eq!(rt;
-                found.as_str(),
-                *expected,
-                "{}: {:?} in {} steps",
-                behaviour,
-                words,
-                depth
-            );
+            assert_listing(rt, alloc, question, expected)?;
         }
     }
     Ok(())
@@ -206,7 +198,7 @@ const MARKS: &[(&str, &str)] = &[
 ];
 
 #[test]
-fn goes_on_behind_marks(rt: HostRuntime) -> Result<(), Fail> {
+fn goes_on_after_marks(rt: HostRuntime) -> Result<(), Fail> {
     for (mark, expected) in MARKS {
         let question = Question {
             behaviour: "exit behaviour a; exit [> b; stop",
@@ -216,8 +208,7 @@ fn goes_on_behind_marks(rt: HostRuntime) -> Result<(), Fail> {
             mark: Some(*mark),
             terms: ALL,
         };
-        let found = text_of(rt.alloc(), &run(rt.alloc(), question)?)?;
-        assert_eq!(rt; found.as_str(), *expected, "behind {}", mark);
+        assert_listing(&rt, rt.alloc(), question, expected)?;
     }
     Ok(())
 }
@@ -232,7 +223,7 @@ const RUN_MARKS: &[(bool, &str, &str)] = &[
 ];
 
 #[test]
-fn goes_on_behind_words(rt: HostRuntime) -> Result<(), Fail> {
+fn goes_on_after_words(rt: HostRuntime) -> Result<(), Fail> {
     for (strong, mark, expected) in RUN_MARKS {
         let question = Question {
             behaviour: "noexit behaviour i; a; stop [] a; b; stop",
@@ -242,8 +233,7 @@ fn goes_on_behind_words(rt: HostRuntime) -> Result<(), Fail> {
             mark: Some(*mark),
             terms: ALL,
         };
-        let found = text_of(rt.alloc(), &run(rt.alloc(), question)?)?;
-        assert_eq!(rt; found.as_str(), *expected, "behind {}", mark);
+        assert_listing(&rt, rt.alloc(), question, expected)?;
     }
     Ok(())
 }
@@ -281,14 +271,7 @@ fn stops_at_prefixes_that_are_over(rt: HostRuntime) -> Result<(), Fail> {
             mark: *mark,
             terms: *terms,
         };
-        let found = text_of(rt.alloc(), &run(rt.alloc(), question)?)?;
-        assert_eq!(rt;
-            found.as_str(),
-            *expected,
-            "{}: at most {} terms",
-            behaviour,
-            terms
-        );
+        assert_listing(&rt, rt.alloc(), question, expected)?;
     }
     Ok(())
 }
@@ -304,7 +287,5 @@ fn counts_terms_with_internal_steps_shown(rt: HostRuntime) -> Result<(), Fail> {
         mark: None,
         terms: 1,
     };
-    let found = text_of(rt.alloc(), &run(rt.alloc(), question)?)?;
-    assert_eq!(rt; found.as_str(), "i A; end");
-    Ok(())
+    assert_listing(&rt, rt.alloc(), question, "i A; end")
 }

@@ -2,7 +2,10 @@
 use super::derivation_oracle::{Derivation, derivations, listing_by_derivations};
 use super::graph::Graph;
 use super::length_oracle::{GraphQuestion, add_count, listing_by_length};
-use super::listing_run::{Listing, Question, add_ending, run, spell, text_from, text_of};
+use super::listing_run::{
+    Item, Listing, Question, add_ending, assert_listing, assert_text, run, spell, text_from,
+    text_of,
+};
 use super::samples::{
     CALLS, CHOICES, FIRST_PATTERNS, HIDING, INTERLEAVING, OPERATORS, PREFIXES, RECURSIONS,
     SECOND_PATTERNS, SYNCHRONIZATION, THIRD_PATTERNS, Words,
@@ -77,20 +80,43 @@ fn compare(
     depth: u8,
 ) -> Result<(), Fail> {
     for (turn, behaviour) in samples.iter().enumerate() {
-        let graph = Graph::new(alloc, behaviour, depth)?;
-        let derivations = derivations(alloc, &graph, depth)?;
-        let sample = Sample {
-            behaviour,
-            depth,
-            turn,
-            graph,
-            derivations,
-        };
-        compare_patterns(rt, alloc, &sample, FIRST_PATTERNS, &[false, true])?;
-        compare_patterns(rt, alloc, &sample, SECOND_PATTERNS, &[false, true])?;
-        compare_patterns(rt, alloc, &sample, THIRD_PATTERNS, &[true])?;
+        compare_one(rt, alloc, behaviour, depth, turn)?;
     }
     Ok(())
+}
+
+fn compare_one(
+    rt: &impl Abort,
+    alloc: Global,
+    behaviour: &'static str,
+    depth: u8,
+    turn: usize,
+) -> Result<(), Fail> {
+    let sample = sample_of(alloc, behaviour, depth, turn)?;
+    compare_sample(rt, alloc, &sample)
+}
+
+fn sample_of(
+    alloc: Global,
+    behaviour: &'static str,
+    depth: u8,
+    turn: usize,
+) -> Result<Sample, Fail> {
+    let graph = Graph::new(alloc, behaviour, depth)?;
+    let derivations = derivations(alloc, &graph, depth)?;
+    Ok(Sample {
+        behaviour,
+        depth,
+        turn,
+        graph,
+        derivations,
+    })
+}
+
+fn compare_sample(rt: &impl Abort, alloc: Global, sample: &Sample) -> Result<(), Fail> {
+    compare_patterns(rt, alloc, sample, FIRST_PATTERNS, &[false, true])?;
+    compare_patterns(rt, alloc, sample, SECOND_PATTERNS, &[false, true])?;
+    compare_patterns(rt, alloc, sample, THIRD_PATTERNS, &[true])
 }
 
 fn compare_patterns(
@@ -127,23 +153,44 @@ fn compare_depths(
         terms: ALL,
     };
     for depth in 0..sample.depth {
-        let _ = compare_run(rt, alloc, sample, Question { depth, ..whole })?;
+        compare_run(rt, alloc, sample, Question { depth, ..whole })?;
     }
     for terms in BOUNDS {
-        let question = Question { terms, ..whole };
-        let listing = compare_run(rt, alloc, sample, question)?;
-        compare_behind_mark(rt, alloc, question, &listing)?;
+        compare_with_marks(rt, alloc, sample, Question { terms, ..whole })?;
     }
     Ok(())
 }
 
-/// Compares one search, and returns its listing.
+/// Compares one search.
 fn compare_run(
     rt: &impl Abort,
     alloc: Global,
     sample: &Sample,
     question: Question,
-) -> Result<Listing, Fail> {
+) -> Result<(), Fail> {
+    let listing = run(alloc, question)?;
+    compare_listing(rt, alloc, sample, question, &listing)
+}
+
+/// Compares one search, and what comes after the item in the middle.
+fn compare_with_marks(
+    rt: &impl Abort,
+    alloc: Global,
+    sample: &Sample,
+    question: Question,
+) -> Result<(), Fail> {
+    let listing = run(alloc, question)?;
+    compare_listing(rt, alloc, sample, question, &listing)?;
+    compare_after_mark(rt, alloc, question, &listing)
+}
+
+fn compare_listing(
+    rt: &impl Abort,
+    alloc: Global,
+    sample: &Sample,
+    question: Question,
+    listing: &Listing,
+) -> Result<(), Fail> {
     let pattern = Pattern::read(alloc, question.words, question.strong)?;
     let graph_question = GraphQuestion {
         graph: &sample.graph,
@@ -151,55 +198,84 @@ fn compare_run(
         depth: question.depth,
         terms: question.terms,
     };
-    let listing = run(alloc, question)?;
-    let found = counted(alloc, &listing)?;
+    compare_lengths(rt, alloc, question, graph_question, listing)?;
+    compare_derivations(rt, alloc, sample, question, graph_question, listing)
+}
+
+fn compare_lengths(
+    rt: &impl Abort,
+    alloc: Global,
+    question: Question,
+    graph_question: GraphQuestion,
+    listing: &Listing,
+) -> Result<(), Fail> {
+    let found = counted(alloc, listing)?;
     let expected = listing_by_length(alloc, graph_question)?;
-    assert_eq!(rt;
-        found.as_str(),
-        expected.as_str(),
-        "{}: {:?}",
-        question.behaviour,
-        question.words
-    );
-    let found = text_of(alloc, &listing)?;
+    assert_text(rt, question, found.as_str(), expected.as_str());
+    Ok(())
+}
+
+fn compare_derivations(
+    rt: &impl Abort,
+    alloc: Global,
+    sample: &Sample,
+    question: Question,
+    graph_question: GraphQuestion,
+    listing: &Listing,
+) -> Result<(), Fail> {
+    let found = text_of(alloc, listing)?;
     let expected = listing_by_derivations(alloc, graph_question, sample.derivations.as_slice())?;
-    assert_eq!(rt;
-        found.as_str(),
-        expected.as_str(),
-        "{}: {:?}",
-        question.behaviour,
-        question.words
-    );
-    Ok(listing)
+    assert_text(rt, question, found.as_str(), expected.as_str());
+    Ok(())
 }
 
 /// Compares what comes after the item in the middle.
-fn compare_behind_mark(
+fn compare_after_mark(
     rt: &impl Abort,
     alloc: Global,
     question: Question,
     listing: &Listing,
 ) -> Result<(), Fail> {
     let middle = listing.items.len() / 2;
-    if let Some(item) = listing.items.get(middle) {
-        let mut line = String::new(alloc);
-        spell(&mut line, item.sequence.as_slice())?;
-        let again = Question {
-            mark: Some(line.as_str()),
-            ..question
-        };
-        let found = text_of(alloc, &run(alloc, again)?)?;
-        let expected = text_from(alloc, listing, middle + 1)?;
-        assert_eq!(rt;
-            found.as_str(),
-            expected.as_str(),
-            "{}: {:?} behind {}",
-            question.behaviour,
-            question.words,
-            line
-        );
+    match listing.items.get(middle) {
+        Some(item) => compare_after_item(rt, alloc, question, listing, middle + 1, item),
+        None => Ok(()),
     }
-    Ok(())
+}
+
+/// Compares what comes after this item, which is the one before the index `next`.
+fn compare_after_item(
+    rt: &impl Abort,
+    alloc: Global,
+    question: Question,
+    listing: &Listing,
+    next: usize,
+    item: &Item,
+) -> Result<(), Fail> {
+    let line = line_of(alloc, item)?;
+    let again = Question {
+        mark: Some(line.as_str()),
+        ..question
+    };
+    compare_rest(rt, alloc, again, listing, next)
+}
+
+fn line_of(alloc: Global, item: &Item) -> Result<String, AllocError> {
+    let mut line = String::new(alloc);
+    spell(&mut line, item.sequence.as_slice())?;
+    Ok(line)
+}
+
+/// Compares a search that goes on after a mark with the rest of the whole listing.
+fn compare_rest(
+    rt: &impl Abort,
+    alloc: Global,
+    again: Question,
+    listing: &Listing,
+    next: usize,
+) -> Result<(), Fail> {
+    let expected = text_from(alloc, listing, next)?;
+    assert_listing(rt, alloc, again, expected.as_str())
 }
 
 /// A listing as text, each item with the number of its steps.

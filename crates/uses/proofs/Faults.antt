@@ -1,57 +1,46 @@
 -- Texts that are not accepted.
-use Rattle.std.proofs.Common.{◌≡◌, ℕ, List, subst}
-use Rattle.std.specs.Prelude.{◌≤◌, Some}
-use Rattle.lotos_text.specs.OffsetsInside.{IsFaultInside}
-use Rattle.lotos_text.specs.TextFaults.{SpellsNoSpecification}
-use Rattle.lotos_text.specs.AstView.{DefinitionView}
+use Rattle.std.proofs.Common.{◌≡◌, ℕ, List, Option, None}
+use Rattle.std.specs.Prelude.{◌<◌, IsSome, Some, length}
+use Rattle.lotos_text.specs.Limits.{max_text_length}
+use Rattle.lotos_text.specs.OffsetsInside.{text_offset}
+use Rattle.lotos_text.specs.Position.{IsPosition}
 use Rattle.lotos_text.specs.declared.fault.TextFault.{TextFault}
 use Rattle.lotos_text.specs.declared.fault.TextFault.TheVariants as text_fault
-use Rattle.lotos_check.specs.Acceptance.{IsAccepted, IsNotAccepted}
-use Rattle.lotos_check.specs.Flat.{System}
+use Rattle.lotos_check.specs.AcceptedText.{IsRejectedFor, IsRejectedSpecification, IsRejectedText, accept_offset}
 use Rattle.lotos_check.specs.FaultOffsets.{offset_of}
+use Rattle.lotos_check.specs.declared.accepted_text.AcceptFault.{AcceptFault}
+use Rattle.lotos_check.specs.declared.accepted_text.AcceptFault.TheVariants.{Check, Memory, Text}
 use Rattle.lotos_check.specs.declared.fault.CheckFault.{CheckFault}
-use Rattle.lotos_check.specs.declared.fault.CheckFault.TheVariants.{E20, E21, E22, E23, E24, E25, E26, E27, E99}
-use Rattle.uses.specs.FaultPositions.{BreaksStaticRules, IsAcceptedText, text_offset}
+use Rattle.uses.specs.FaultPositions.{IsAcceptedText, IsFaultPosition}
 
--- a text that spells no specification is not accepted
-pub nothing_accepted : (text : List ℕ) (fault : TextFault) (at : ℕ) → SpellsNoSpecification text fault → text_offset fault ≡ Some at → IsAcceptedText text → ⊥
-nothing_accepted text (text_fault.E99 e) at h m a = absurd cc
-nothing_accepted text (text_fault.E01 _) at h m a = h a.whole a.spelled
-nothing_accepted text (text_fault.E02 _) at h m a = h a.whole a.spelled
-nothing_accepted text text_fault.E03 at h m a = absurd cc
-nothing_accepted text (text_fault.E04 _) at h m a = h a.whole a.spelled
-nothing_accepted text (text_fault.E05 _) at h m a = h a.whole a.spelled
-nothing_accepted text (text_fault.E06 _) at h m a = h a.whole a.spelled
-nothing_accepted text (text_fault.E07 _) at h m a = h a.whole a.spelled
+-- a text with a fault at an offset is not accepted
+not_accepted : (text : List ℕ) (fault : AcceptFault) (at : ℕ) → IsRejectedFor text fault → accept_offset fault ≡ Some at → IsAcceptedText text → ⊥
+not_accepted text (Text fault) at h e a = h.never a.0 a.1
+not_accepted text (Check fault) at h e a = h.never a.0 a.1
+not_accepted text Memory at h e a = absurd cc
 
--- a text that is too long is not accepted
-pub too_long : (text : List ℕ) (fault : TextFault) → SpellsNoSpecification text fault → fault ≡ text_fault.E03 → IsAcceptedText text → ⊥
-too_long text fault h e a = let nothing = subst (SpellsNoSpecification text) e h in nothing a.whole a.spelled
+-- the fault's position, and that the text is not accepted
+pub placed : (text : List ℕ) (fault : AcceptFault) (at line column : ℕ) → IsRejectedFor text fault → accept_offset fault ≡ Some at →
+    IsPosition text at line column → IsFaultPosition text line column × (IsAcceptedText text → ⊥)
+placed text fault at line column h e place =
+    (record { at = at; fault = fault; cause = h; located = e; place = place }, not_accepted text fault at h e)
 
--- the offset of a fault lies inside the text
-pub text_inside : (n : ℕ) (fault : TextFault) (at : ℕ) → IsFaultInside n fault → text_offset fault ≡ Some at → at ≤ n
-text_inside n (text_fault.E99 e) at h m = absurd cc
-text_inside n (text_fault.E01 k) at h m = let same : k ≡ at = cc in subst (λ x. x ≤ n) same h
-text_inside n (text_fault.E02 k) at h m = let same : k ≡ at = cc in subst (λ x. x ≤ n) same h
-text_inside n text_fault.E03 at h m = absurd cc
-text_inside n (text_fault.E04 k) at h m = let same : k ≡ at = cc in subst (λ x. x ≤ n) same h
-text_inside n (text_fault.E05 k) at h m = let same : k ≡ at = cc in subst (λ x. x ≤ n) same h
-text_inside n (text_fault.E06 k) at h m = let same : k ≡ at = cc in subst (λ x. x ≤ n) same h
-text_inside n (text_fault.E07 k) at h m = let same : k ≡ at = cc in subst (λ x. x ≤ n) same h
+-- a fault of the text without an offset says that it is too long
+pub too_long : (text : List ℕ) (fault : TextFault) → IsRejectedText text fault → text_offset fault ≡ None →
+    (max_text_length < length text) × (IsAcceptedText text → ⊥)
+too_long text (text_fault.E99 e) h u = absurd (let m = h.no_memory in cc)
+too_long text (text_fault.E01 at) h u = absurd cc
+too_long text (text_fault.E02 at) h u = absurd cc
+too_long text text_fault.E03 h u = (h.cause, λ a. h.never a.0 a.1)
+too_long text (text_fault.E04 at) h u = absurd cc
+too_long text (text_fault.E05 at) h u = absurd cc
+too_long text (text_fault.E06 at) h u = absurd cc
+too_long text (text_fault.E07 at) h u = absurd cc
 
--- a specification with a fault of the static check is not accepted
-refused : (whole : DefinitionView) (fault : CheckFault) (at : ℕ) (system : System) → IsNotAccepted whole fault → offset_of fault ≡ Some at → IsAccepted whole system → ⊥
-refused whole (E99 e) at system h s accepted = absurd cc
-refused whole (E20 gate) at system h s accepted = h system accepted
-refused whole (E21 gate) at system h s accepted = h system accepted
-refused whole (E22 name) at system h s accepted = h system accepted
-refused whole (E23 name formal actual) at system h s accepted = h system accepted
-refused whole (E24 name) at system h s accepted = h system accepted
-refused whole (E25 name declared) at system h s accepted = h system accepted
-refused whole (E26 _) at system h s accepted = h system accepted
-refused whole (E27 name set) at system h s accepted = h system accepted
-
--- a text that breaks a static rule is not accepted
-pub broken_unaccepted : (text : List ℕ) (fault : CheckFault) (at : ℕ) → BreaksStaticRules text fault → offset_of fault ≡ Some at → IsAcceptedText text → ⊥
-broken_unaccepted text fault at broken stands a =
-    refused broken.whole fault at a.system broken.refused stands (subst (λ w. IsAccepted w a.system) (broken.only a.whole a.spelled) a.accepted)
+-- a fault of the static check has an offset
+pub check_unplaced : (text : List ℕ) (fault : CheckFault) → IsRejectedSpecification text fault → offset_of fault ≡ None → ⊥
+check_unplaced text fault h u = none_some (offset_of fault) h.located u
+  where
+    none_some : (o : Option ℕ) → IsSome o → o ≡ None → ⊥
+    none_some None s e = let l = s in cc
+    none_some (Some at) s e = cc

@@ -10,7 +10,7 @@ use Rattle.lotos_search.specs.SearchSteps.{RunningReturns, IsBegun, IsNextItem, 
 use Rattle.lotos_search.specs.declared.found.Found.{Found}
 use Rattle.lotos_search.specs.declared.found.Halt.{Halt}
 use Rattle.lotos_search.specs.declared.found.Halt.TheVariants.{OverTerms, Memory, Failed}
-use Rattle.uses.specs.ResumedListings.{IsFirstItem, IsSecondItem, IsSearchIn, IsHaltOf, IsHaltAfter, IsSecondHalt, before, behind}
+use Rattle.uses.specs.ResumedListings.{IsFirstItem, IsSecondItem, IsSearchIn, IsHaltOf, IsHaltAfter, IsSecondHalt, before, after_item}
 
 module _ (table : TableView) (pattern : Pattern) (depth terms : ℕ) where
   begun_in : (mark : Option (List Label)) (search : SearchState) → IsBegun table pattern depth mark terms search → IsSearchIn table pattern depth terms search.question
@@ -92,7 +92,7 @@ module _ (table : TableView) (pattern : Pattern) (depth terms : ℕ) where
         new.question,
         subst (IsSearchIn table pattern depth terms) (sym same) first.question,
         Some first.answers.0.s,
-        behind first.answers.0.word (subst (λ q. IsNextItem q None first.answers.0.s first.answers.0.word) (sym same) first.answers.0.item),
+        after_item first.answers.0.word (subst (λ q. IsNextItem q None first.answers.0.s first.answers.0.word) (sym same) first.answers.0.item),
         a.0.0,
         a.0.1,
         a.0.2,

@@ -22,7 +22,7 @@ IsSecond q found cursor stage =
 -- the cursor of a search that has returned at most one item: before the listing, or after its first item
 pub data IsAtStart (q : Question) : Option (List Label) → Type 0 where
   before : IsAtStart q None
-  behind : {s : List Label} (word : List Label) → IsNextItem q None s word → IsAtStart q (Some s)
+  after_item : {s : List Label} (word : List Label) → IsNextItem q None s word → IsAtStart q (Some s)
 
 module _ (table : TableView) (pattern : Pattern) (depth terms : ℕ) where
   -- the question is about the table from its start, with this pattern, depth and bound

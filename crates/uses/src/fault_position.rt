@@ -1,12 +1,10 @@
 //! The position of a text's fault, by `lotos_text` and `lotos_check`.
-ghost use Rattle.std.specs.Prelude.{◌≡◌, ◌≤◌, IfOk, length};
-ghost use Rattle.lotos_text.specs.OffsetsInside.{IsFaultInside};
-ghost use Rattle.lotos_text.specs.TextFaults.{IsFaultOfText, SpellsNoSpecification};
-ghost use Rattle.lotos_check.specs.FaultOffsets.{IsOffsetWithin};
-ghost use Rattle.uses.specs.FaultPositions.{BreaksStaticRules, HasFaultAt, IsAcceptedText, IsVerdict, text_offset};
+ghost use Rattle.std.specs.Prelude.{◌≡◌, ◌≤◌, IfOk, IfSome, None, length};
+ghost use Rattle.lotos_check.specs.AcceptedText.{IsRejectedFor, accept_offset};
+ghost use Rattle.uses.specs.FaultPositions.{IsVerdict};
 
-use lotos_check::{CheckFault, check};
-use lotos_text::{TextFault, line_column, parse};
+use lotos_check::{AcceptFault, accept};
+use lotos_text::line_column;
 use std::alloc::{AllocError, Global};
 
 /// Whether a text is accepted, and if not, where its fault is.
@@ -20,8 +18,7 @@ pub enum Verdict {
     Faulty { line: usize, column: usize },
 }
 
-/// Whether a text is accepted, and if not, where its fault is: the one that [`parse`] returns, or else the one that
-/// [`check`] does.
+/// Whether a text is accepted, and if not, where its fault is: the one that [`accept`] returns.
 ///
 /// # Errors
 ///
@@ -29,69 +26,36 @@ pub enum Verdict {
 pub fn find_fault(alloc: Global, text: &[u8]) -> Result<Verdict, AllocError>
     ensures { IfOk result (IsVerdict text.now) }
 {
-    let tree = match parse(alloc, text) {
-        Ok(tree) => tree,
-        Err(fault) => return text_verdict(text, fault),
-    };
-    match check(alloc, tree) {
+    match accept(alloc, text) {
         Ok(_) => Ok(Verdict::Accepted),
-        Err(fault) => check_verdict(text, fault),
+        Err(fault) => fault_verdict(text, &fault),
     }
 }
 
-/// The verdict for a fault of the parse.
-fn text_verdict(text: &[u8], fault: TextFault) -> Result<Verdict, AllocError>
-    requires refused { IsFaultOfText text.now fault }
-    requires nothing { SpellsNoSpecification text.now fault }
-    requires inside { IsFaultInside (length text.now) fault }
-    ensures { IfOk result (IsVerdict text.now) }
-{
-    if let Some(at) = fault_offset(&fault) {
-        return Ok(verdict_at(text, at));
-    }
-    match fault {
-        TextFault::E03 => Ok(Verdict::TooLong),
-        _ => Err(AllocError),
-    }
-}
-
-/// The offset of a fault of a text, in bytes from its start; `None` for E03 and E99.
-fn fault_offset(fault: &TextFault) -> Option<usize>
-    ensures { result ≡ text_offset fault.now }
-{
-    match fault {
-        TextFault::E01(at)
-        | TextFault::E02(at)
-        | TextFault::E04(at)
-        | TextFault::E05(at)
-        | TextFault::E06(at)
-        | TextFault::E07(at) => Some(*at),
-        TextFault::E03 | TextFault::E99(_) => None,
-    }
-}
-
-/// The verdict for a fault of the static check.
-fn check_verdict(text: &[u8], fault: CheckFault) -> Result<Verdict, AllocError>
-    requires broken { BreaksStaticRules text.now fault }
-    requires inside { IsOffsetWithin (length text.now) fault }
+/// The verdict for a fault of the text.
+fn fault_verdict(text: &[u8], fault: &AcceptFault) -> Result<Verdict, AllocError>
+    requires fault { IsRejectedFor text.now fault.now }
+    requires inside { IfSome (accept_offset fault.now) (λ at. at ≤ length text.now) }
     ensures { IfOk result (IsVerdict text.now) }
 {
     match fault.at() {
-        Some(at) => Ok(verdict_at(text, at)),
-        None => Err(AllocError),
+        Some(at) => {
+            let (line, column) = line_column(text, at);
+            Ok(Verdict::Faulty { line, column })
+        }
+        None => unplaced_verdict(text, fault),
     }
 }
 
-/// The verdict for a fault at an offset.
-fn verdict_at(text: &[u8], at: usize) -> Verdict
-    requires inside { at ≤ length text.now }
-    requires fault { HasFaultAt text.now at }
-    requires never { IsAcceptedText text.now → ⊥ }
-    ensures { IsVerdict text.now result }
+/// The verdict for a fault without an offset.
+fn unplaced_verdict(text: &[u8], fault: &AcceptFault) -> Result<Verdict, AllocError>
+    requires fault { IsRejectedFor text.now fault.now }
+    requires unplaced { accept_offset fault.now ≡ None }
+    ensures { IfOk result (IsVerdict text.now) }
 {
-    let (line, column) = line_column(text, at);
-    Verdict::Faulty { line, column }
+    match fault {
+        AcceptFault::Text(_) => Ok(Verdict::TooLong),
+        AcceptFault::Check(_) => unreachable!(),
+        AcceptFault::Memory => Err(AllocError),
+    }
 }
-
-#[cfg(test)]
-mod tests;

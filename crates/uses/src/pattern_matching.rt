@@ -44,6 +44,3 @@ fn place_of(pattern: &Pattern, sequence: &[&str]) -> Option<Place>
     }
     Some(place)
 }
-
-#[cfg(test)]
-mod tests;

@@ -96,6 +96,3 @@ fn first_item(
     let found = search.next()?;
     Ok((search, found))
 }
-
-#[cfg(test)]
-mod tests;

@@ -50,6 +50,3 @@ fn first_step(table: &mut Table, here: Term) -> Result<Option<(Label, Term)>, Al
         Some(step) => Ok(Some(*step)),
     }
 }
-
-#[cfg(test)]
-mod tests;

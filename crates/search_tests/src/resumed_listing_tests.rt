@@ -1,14 +1,13 @@
 //! Items after a line, and second items.
 ghost use Rattle.std.specs.Prelude.{◌≤◌};
 
-use super::{ItemFault, item_after, second_item};
-use lotos_check::check;
+use super::accepted_text::table_of_text;
 use lotos_pattern::Pattern;
 use lotos_search::{Found, Halt};
 use lotos_terms::{Label, Table};
-use lotos_text::parse;
 use std::alloc::Global;
 use std::test::Fail;
+use uses::{ItemFault, item_after, second_item};
 
 /// The depth of the searches, and a bound that no prefix exceeds.
 const DEPTH: u8 = 3;
@@ -17,13 +16,6 @@ const TERMS: usize = 100;
 
 /// A specification with the sequences `<empty>`, `A`, `B`, `A exit`, `B A`, `B A exit`.
 const TEXT: &str = "specification S [a,b] : exit behaviour a; exit [] b; a; exit endspec";
-
-fn table_of(alloc: Global, text: &str) -> Result<Table, Fail> {
-    let tree = parse(alloc, text.as_bytes())?;
-    let system = check(alloc, tree)?;
-    let table = Table::new(alloc, system)?;
-    Ok(table)
-}
 
 /// The labels of the gates, in the order of their names.
 const A: Label = Label::Gate(0);
@@ -45,11 +37,12 @@ const LINES: &[(&str, Option<&[Label]>)] = &[
     ("A A A A", None),
 ];
 
-/// The sequence of an item.
-fn sequence(found: &Option<Found>) -> Option<&[Label]> {
-    match found {
-        Some(item) => Some(item.sequence.as_slice()),
-        None => None,
+/// Whether the answer is this item.
+fn is_item<E>(answer: &Result<Option<Found>, E>, wanted: Option<&[Label]>) -> bool {
+    match answer {
+        Ok(Some(item)) => wanted == Some(item.sequence.as_slice()),
+        Ok(None) => wanted.is_none(),
+        Err(_) => false,
     }
 }
 
@@ -62,6 +55,41 @@ fn found_after(
 ) -> Result<Option<Found>, ItemFault> {
     let (_search, found) = item_after(alloc, table, pattern, DEPTH, line, TERMS)?;
     Ok(found)
+}
+
+/// The same of the specification.
+fn after(alloc: Global, line: &str) -> Result<Result<Option<Found>, ItemFault>, Fail> {
+    let pattern = Pattern::read(alloc, &["<while>", "<any>"], false)?;
+    Ok(found_after(alloc, table_of_text(alloc, TEXT)?, pattern, line))
+}
+
+fn is_after(alloc: Global, line: &str, wanted: Option<&[Label]>) -> Result<bool, Fail> {
+    let answer = after(alloc, line)?;
+    Ok(is_item(&answer, wanted))
+}
+
+#[test]
+fn finds_the_item_after_a_line(rt: HostRuntime) -> Result<(), Fail> {
+    for (line, wanted) in LINES {
+        assert!(rt;
+            is_after(rt.alloc(), line, *wanted)?,
+            "after {}: {:?}",
+            line,
+            wanted
+        );
+    }
+    Ok(())
+}
+
+fn is_refused(alloc: Global, line: &str) -> Result<bool, Fail> {
+    let answer = after(alloc, line)?;
+    Ok(matches!(&answer, Err(ItemFault::Line)))
+}
+
+#[test]
+fn rejects_a_line_that_no_listing_has(rt: HostRuntime) -> Result<(), Fail> {
+    assert!(rt; is_refused(rt.alloc(), "A  B")?, "two blanks");
+    Ok(())
 }
 
 /// The item that `second_item` returns, without its search.
@@ -77,28 +105,22 @@ fn found_second(
     Ok(found)
 }
 
-#[test]
-fn finds_the_item_behind_a_line(rt: HostRuntime) -> Result<(), Fail> {
-    let alloc = rt.alloc();
-    for (line, wanted) in LINES {
-        let table = table_of(alloc, TEXT)?;
-        let pattern = Pattern::read(alloc, &["<while>", "<any>"], false)?;
-        match found_after(alloc, table, pattern, line) {
-            Ok(found) => assert_eq!(rt; sequence(&found), *wanted, "behind {}", line),
-            Err(_) => return Err("no answer")?,
-        }
-    }
-    Ok(())
+/// The same of a specification.
+fn second(
+    alloc: Global,
+    text: &str,
+    words: &[&str],
+    terms: usize,
+) -> Result<Result<Option<Found>, Halt>, Fail>
+    requires { 1 ≤ terms }
+{
+    let pattern = Pattern::read(alloc, words, false)?;
+    Ok(found_second(alloc, table_of_text(alloc, text)?, pattern, terms))
 }
 
-#[test]
-fn refuses_a_line_that_no_listing_has(rt: HostRuntime) -> Result<(), Fail> {
-    let alloc = rt.alloc();
-    let table = table_of(alloc, TEXT)?;
-    let pattern = Pattern::read(alloc, &["<any>"], false)?;
-    let answer = found_after(alloc, table, pattern, "A  B");
-    assert!(rt; matches!(answer, Err(ItemFault::Line)), "two blanks");
-    Ok(())
+fn is_second(alloc: Global, words: &[&str], wanted: Option<&[Label]>) -> Result<bool, Fail> {
+    let answer = second(alloc, TEXT, words, TERMS)?;
+    Ok(is_item(&answer, wanted))
 }
 
 /// The words of a pattern, and the sequence of the second item of its listing, if there is one.
@@ -117,31 +139,29 @@ const SECOND: &[(&[&str], Option<&[Label]>)] = &[
 
 #[test]
 fn finds_the_second_item(rt: HostRuntime) -> Result<(), Fail> {
-    let alloc = rt.alloc();
     for (words, wanted) in SECOND {
-        let table = table_of(alloc, TEXT)?;
-        let pattern = Pattern::read(alloc, words, false)?;
-        match found_second(alloc, table, pattern, TERMS) {
-            Ok(found) => assert_eq!(rt; sequence(&found), *wanted, "{:?}", words),
-            Err(_) => return Err("no answer")?,
-        }
+        assert!(rt;
+            is_second(rt.alloc(), words, *wanted)?,
+            "{:?}: {:?}",
+            words,
+            wanted
+        );
     }
     Ok(())
 }
 
+/// Whether the prefix `A` is over one term.
+fn is_over(alloc: Global, text: &str) -> Result<bool, Fail> {
+    let answer = second(alloc, text, &["<while>", "<any>"], 1)?;
+    match &answer {
+        Err(Halt::OverTerms(prefix)) => Ok(prefix.as_slice() == [A].as_slice()),
+        _ => Ok(false),
+    }
+}
+
 #[test]
 fn stops_where_a_prefix_is_over(rt: HostRuntime) -> Result<(), Fail> {
-    let alloc = rt.alloc();
     let text = "specification S [a] : noexit behaviour a; stop [] a; a; stop endspec";
-    let table = table_of(alloc, text)?;
-    let pattern = Pattern::read(alloc, &["<while>", "<any>"], false)?;
-    match found_second(alloc, table, pattern, 1) {
-        Err(Halt::OverTerms(prefix)) => assert_eq!(rt;
-            prefix.as_slice(),
-            [A].as_slice(),
-            "the prefix"
-        ),
-        _ => return Err("no halt")?,
-    }
+    assert!(rt; is_over(rt.alloc(), text)?);
     Ok(())
 }

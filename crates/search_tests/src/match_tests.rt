@@ -1,10 +1,9 @@
 //! First matches in small specifications.
 
-use lotos_check::check;
+use super::accepted_text::{joined, table_of_text};
 use lotos_ever::{Found, Halt, find_shortest_match};
 use lotos_pattern::Pattern;
 use lotos_terms::{Label, Table};
-use lotos_text::parse;
 use std::alloc::Global;
 use std::test::Fail;
 
@@ -327,13 +326,29 @@ const ROWS: &[Row] = &[
     },
 ];
 
-/// The table of a specification.
 fn table_of(alloc: Global, behaviour: &str) -> Result<Table, Fail> {
-    let text = format!(in alloc; "specification S [a,b] : {behaviour} endspec")?;
-    let tree = parse(alloc, text.as_bytes())?;
-    let system = check(alloc, tree)?;
-    let table = Table::new(alloc, system)?;
-    Ok(table)
+    let text = joined(alloc, &["specification S [a,b] : ", behaviour, " endspec"])?;
+    table_of_text(alloc, text.as_str())
+}
+
+fn is_found(found: &Found, expected: Answer) -> bool {
+    match expected {
+        Answer::Found(run, sequence) => {
+            found.word.as_slice() == run && found.sequence.as_slice() == sequence
+        }
+        Answer::NoMatch => false,
+        Answer::TooManyStates => false,
+    }
+}
+
+/// Whether the answer is the expected one.
+fn is_answer(answer: Result<Option<Found>, Halt>, expected: Answer) -> bool {
+    match &answer {
+        Ok(None) => matches!(expected, Answer::NoMatch),
+        Ok(Some(found)) => is_found(found, expected),
+        Err(Halt::TooManyStates) => matches!(expected, Answer::TooManyStates),
+        Err(Halt::Memory) => false,
+    }
 }
 
 /// What the search for a match returns.
@@ -343,26 +358,21 @@ fn search(
     pattern: &Pattern,
     states: usize,
 ) -> Result<Option<Found>, Halt> {
-    let found = find_shortest_match(alloc, table, pattern, states)?;
-    Ok(found)
+    find_shortest_match(alloc, table, pattern, states)
 }
 
-/// Whether the answer is the expected one.
-fn has_answer(alloc: Global, row: Row) -> Result<bool, Fail> {
-    let mut table = table_of(alloc, row.behaviour)?;
+fn has_answer_in(alloc: Global, table: &mut Table, row: Row) -> Result<bool, Fail> {
     let pattern = Pattern::read(alloc, row.words, row.strong)?;
-    match search(alloc, &mut table, &pattern, row.states) {
-        Ok(None) => Ok(matches!(row.answer, Answer::NoMatch)),
-        Ok(Some(found)) => match row.answer {
-            Answer::Found(run, sequence) => {
-                Ok(found.word.as_slice() == run && found.sequence.as_slice() == sequence)
-            }
-            Answer::NoMatch => Ok(false),
-            Answer::TooManyStates => Ok(false),
-        },
-        Err(Halt::TooManyStates) => Ok(matches!(row.answer, Answer::TooManyStates)),
-        Err(Halt::Memory) => Err("memory is wanting")?,
-    }
+    Ok(is_answer(search(alloc, table, &pattern, row.states), row.answer))
+}
+
+fn boxed_table(alloc: Global, behaviour: &str) -> Result<Box<Table>, Fail> {
+    Ok(Box::new(alloc, table_of(alloc, behaviour)?)?)
+}
+
+fn has_answer(alloc: Global, row: Row) -> Result<bool, Fail> {
+    let mut table = boxed_table(alloc, row.behaviour)?;
+    has_answer_in(alloc, &mut table, row)
 }
 
 #[test]
@@ -370,7 +380,7 @@ fn answers_rows(rt: HostRuntime) -> Result<(), Fail> {
     for row in ROWS {
         assert!(rt;
             has_answer(rt.alloc(), *row)?,
-            "{:?} of {}, internal steps shown: {}, {} states",
+            "{:?} of {}, internal steps observed: {}, {} states",
             row.words,
             row.behaviour,
             row.strong,

@@ -1,6 +1,6 @@
 //! Texts with the positions of their faults.
-use super::{Verdict, find_fault};
 use std::test::Fail;
+use uses::{Verdict, find_fault};
 
 /// A text, and the line and the column of its fault; none if it is accepted.
 const TEXTS: &[(&str, Option<(usize, usize)>)] = &[
@@ -33,15 +33,22 @@ const TEXTS: &[(&str, Option<(usize, usize)>)] = &[
     ),
 ];
 
+fn verdict(wanted: Option<(usize, usize)>) -> Verdict {
+    match wanted {
+        Some((line, column)) => Verdict::Faulty { line, column },
+        None => Verdict::Accepted,
+    }
+}
+
 #[test]
 fn names_the_places_of_faults(rt: HostRuntime) -> Result<(), Fail> {
     for (text, wanted) in TEXTS {
-        let wanted = match *wanted {
-            Some((line, column)) => Verdict::Faulty { line, column },
-            None => Verdict::Accepted,
-        };
-        let judged = find_fault(rt.alloc(), text.as_bytes())?;
-        assert_eq!(rt; judged, wanted, "{}", text);
+        assert_eq!(rt;
+            find_fault(rt.alloc(), text.as_bytes())?,
+            verdict(*wanted),
+            "{}",
+            text
+        );
     }
     Ok(())
 }

@@ -1,10 +1,9 @@
 //! Runs of a few specifications.
-use super::first_run;
-use lotos_check::check;
+use super::accepted_text::{joined, table_of_text};
 use lotos_terms::{Label, Table, Term};
-use lotos_text::parse;
 use std::alloc::{AllocError, Global};
 use std::test::Fail;
+use uses::first_run;
 
 /// The labels of the gates, in the order of their names.
 const A: Label = Label::Gate(0);
@@ -38,13 +37,13 @@ const RUNS: &[(&str, usize, &[Label])] = &[
     ),
 ];
 
-/// The table of a specification.
-fn table_of(alloc: Global, behaviour: &str) -> Result<Table, Fail> {
-    let text = format!(in alloc; "specification S [a,b] : {behaviour} endspec")?;
-    let tree = parse(alloc, text.as_bytes())?;
-    let system = check(alloc, tree)?;
-    let table = Table::new(alloc, system)?;
-    Ok(table)
+fn table_of(alloc: Global, behaviour: &str) -> Result<Box<Table>, Fail> {
+    let text = joined(alloc, &["specification S [a,b] : ", behaviour, " endspec"])?;
+    boxed_table(alloc, text.as_str())
+}
+
+fn boxed_table(alloc: Global, text: &str) -> Result<Box<Table>, Fail> {
+    Ok(Box::new(alloc, table_of_text(alloc, text)?)?)
 }
 
 /// The labels of a run.
@@ -56,19 +55,36 @@ fn labels_of(alloc: Global, run: &[(Label, Term)]) -> Result<Vec<Label>, AllocEr
     Ok(labels)
 }
 
+/// The labels of the first run of a table.
+fn run_labels(alloc: Global, table: &mut Table, depth: usize) -> Result<Vec<Label>, AllocError> {
+    let run = first_run(alloc, table, depth)?;
+    labels_of(alloc, run.as_slice())
+}
+
+fn has_run(
+    alloc: Global,
+    table: &mut Table,
+    depth: usize,
+    wanted: &[Label],
+) -> Result<bool, AllocError> {
+    let labels = run_labels(alloc, table, depth)?;
+    Ok(labels.as_slice() == wanted)
+}
+
+fn follows(alloc: Global, behaviour: &str, depth: usize, wanted: &[Label]) -> Result<bool, Fail> {
+    let mut table = table_of(alloc, behaviour)?;
+    Ok(has_run(alloc, &mut table, depth, wanted)?)
+}
+
 #[test]
 fn follows_runs(rt: HostRuntime) -> Result<(), Fail> {
-    let alloc = rt.alloc();
     for (behaviour, depth, wanted) in RUNS {
-        let mut table = table_of(alloc, behaviour)?;
-        let run = first_run(alloc, &mut table, *depth)?;
-        let labels = labels_of(alloc, run.as_slice())?;
-        assert_eq!(rt;
-            labels.as_slice(),
-            *wanted,
-            "{} at depth {}",
+        assert!(rt;
+            follows(rt.alloc(), behaviour, *depth, wanted)?,
+            "{} at depth {}, the labels {:?}",
             behaviour,
-            depth
+            depth,
+            wanted
         );
     }
     Ok(())

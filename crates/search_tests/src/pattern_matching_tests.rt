@@ -1,7 +1,7 @@
 //! Sequences, and whether patterns match them.
-use super::matches;
 use lotos_pattern::{End, PatternFault};
 use std::test::Fail;
+use uses::matches;
 
 /// A pattern, the labels of a sequence, and the result.
 const ANSWERS: &[(&[&str], &[&str], End)] = &[
@@ -20,7 +20,7 @@ const ANSWERS: &[(&[&str], &[&str], End)] = &[
 ];
 
 #[test]
-fn tells_matching_sequences(rt: HostRuntime) -> Result<(), Fail> {
+fn recognizes_matching_sequences(rt: HostRuntime) -> Result<(), Fail> {
     for (words, sequence, wanted) in ANSWERS {
         let answer = matches(rt.alloc(), words, sequence)?;
         assert_eq!(rt; answer, *wanted, "{:?} and {:?}", words, sequence);
@@ -29,7 +29,7 @@ fn tells_matching_sequences(rt: HostRuntime) -> Result<(), Fail> {
 }
 
 #[test]
-fn refuses_words_that_spell_no_pattern(rt: HostRuntime) {
+fn rejects_words_that_spell_no_pattern(rt: HostRuntime) {
     let answer = matches(rt.alloc(), &["a", "<until>"], &["A"]);
     assert!(rt;
         matches!(answer, Err(PatternFault::E42(2))),

@@ -1,0 +1,24 @@
+//! Tables of specifications that are accepted.
+use lotos_check::{Checked, check};
+use lotos_terms::Table;
+use lotos_text::parse;
+use std::alloc::{AllocError, Global};
+use std::test::Fail;
+
+/// The parts as one text.
+pub fn joined(alloc: Global, parts: &[&str]) -> Result<String, AllocError> {
+    let mut out = String::new(alloc);
+    for part in parts {
+        out.push_str(part)?;
+    }
+    Ok(out)
+}
+
+fn checked(alloc: Global, text: &str) -> Result<Checked, Fail> {
+    Ok(check(alloc, parse(alloc, text.as_bytes())?)?)
+}
+
+/// The table of a text.
+pub fn table_of_text(alloc: Global, text: &str) -> Result<Table, Fail> {
+    Ok(Table::new(alloc, checked(alloc, text)?)?)
+}
