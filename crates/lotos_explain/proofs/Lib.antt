@@ -1,0 +1,2 @@
+mod LexedRests
+mod Places

@@ -1,0 +1,3 @@
+pub mod LineBounds
+pub mod Descriptions
+pub mod ExpectedTokens

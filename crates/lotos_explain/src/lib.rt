@@ -1,0 +1,18 @@
+//! Explanations of refused specifications, for people.
+//!
+//! [`explain_text_fault`] and [`explain_check_fault`] write the line of the text with a mark under the place of the
+//! fault, what is there, which words and signs could be there, and what to do. What they say of the text is what
+//! [`line_of`], [`describe_token`] and [`expected_tokens`] return, whose contracts cite the definitions in `specs/`.
+#![tactic(auto)]
+
+mod advice;
+mod continuations;
+mod expectations;
+mod explanation;
+mod line_bounds;
+mod token_description;
+
+pub use expectations::expected_tokens;
+pub use explanation::{explain_check_fault, explain_text_fault};
+pub use line_bounds::{LineBounds, line_of};
+pub use token_description::{Description, describe_token};
