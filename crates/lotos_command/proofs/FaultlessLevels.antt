@@ -178,11 +178,11 @@ module _ (s : Shape) (names : Names) (ordinary : Each (IsOrdinary s.rules) s.rul
       → level_fault s names nothing_held words has_subcommand below ≡ [] → Leaves words has_subcommand below
   level_leaves words has_subcommand below e =
       let end = (walk s.rules names nothing_held words).held in
-      let walking = both_empty (walk_fault s names (walk_from nothing_held) words) _ e in
-      let under = both_empty below _ walking.1 in
+      let walk_ends = both_empty (walk_fault s names (walk_from nothing_held) words) _ e in
+      let under = both_empty below _ walk_ends.1 in
       let settling = both_empty (settle_fault s.rules s.args_override_self end) _ under.1 in
       let filling = both_empty (defaults_fault (settled s.rules end).rows s.rules) _ settling.1 in
-      let well = walk_keeps words (walk_from nothing_held) walking.0 (tt, tt) in
+      let well = walk_keeps words (walk_from nothing_held) walk_ends.0 (tt, tt) in
       let rows = settled_keeps s.rules s.args_override_self ordinary end settling.0 well.0 in
       record {
         ready = defaults_keep s.rules (settled s.rules end).rows ordinary filling.0 rows;

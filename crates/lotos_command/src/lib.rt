@@ -8,8 +8,6 @@ mod command;
 mod command_line;
 mod help;
 mod request_reading;
-#[cfg(test)]
-mod tests;
 
 pub use command::{CommandFault, EverRequest, Request, SearchRequest};
 pub use request_reading::request;

@@ -1,0 +1,6 @@
+//! Tests of the command line through the public items of `lotos_command`: words, and the request, the help or the fault
+//! that they make.
+#![tactic(auto)]
+
+#[cfg(test)]
+mod request_tests;
