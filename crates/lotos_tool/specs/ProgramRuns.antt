@@ -1,5 +1,5 @@
 -- What a run of the program does, and its exit status.
-use Rattle.std.specs.Prelude.{◌≡◌, ℕ, ◌⊎◌, ◌==◌, Bool, List, Option, false, if◌then◌else◌}
+use Rattle.std.specs.Prelude.{◌≡◌, ℕ, ◌⊎◌, ◌==◌, Bool, List, Option, false, if◌then◌else◌, string_bytes}
 use Rattle.std.specs.Io.KnownBytes.{Appends, Keeps}
 use Rattle.lotos_tool.specs.ListingOutcome.{SearchOutcome}
 use Rattle.lotos_tool.specs.CheckOutcome.{CheckOutcome}
@@ -19,6 +19,8 @@ use Rattle.lotos_tool.specs.declared.outcome.EverWhy.TheVariants as ever_why
 use Rattle.lotos_command.specs.declared.command.SearchRequest.{SearchRequest}
 use Rattle.lotos_command.specs.declared.command.EverRequest.{EverRequest}
 use Rattle.lotos_command.specs.declared.command.Request.TheVariants as command
+use Rattle.lotos_command.specs.declared.command.CommandFault.{CommandFault}
+use Rattle.lotos_command.specs.declared.command.CommandFault.TheVariants as fault
 
 -- the status of a stop: 3 at the limit, 4 at an oversized prefix, 5 out of memory, 6 if the output could not be written
 abbrev pub stop_status_of : Why → ℕ
@@ -91,6 +93,12 @@ pub data HelpWritten (got got' : Option (List ℕ)) (text : List ℕ) (status : 
   written : status ≡ 0 → Appends got got' text → HelpWritten got got' text status
   broken_off : status ≡ 6 → AppendsBeginning got got' text → HelpWritten got got' text status
 
+-- what is written for a fault of the words, and the status
+abbrev pub IsAnswerTo : CommandFault → Option (List ℕ) → Option (List ℕ) → ℕ → Type 0
+IsAnswerTo (fault.Help text) got got' status = HelpWritten got got' (string_bytes text) status
+IsAnswerTo (fault.Wrong text) got got' status = (status ≡ 2) × Keeps got got'
+IsAnswerTo fault.Memory got got' status = (status ≡ 5) × Keeps got got'
+
 -- the output and the status if no command ran
 pub data MessageOutput (words : List (List ℕ)) (got got' : Option (List ℕ)) (status : ℕ) : Type 0 where
   -- help, if the words ask for it; which text it is stays open
@@ -112,3 +120,10 @@ abbrev pub Ran : List (List ℕ) → Option (List ℕ) → Option (List ℕ) →
 Ran words left left' got got' failed status =
     SearchRan words left left' got got' failed status ⊎ CheckRan words left left' got got' failed status
     ⊎ EverRan words left left' got got' failed status ⊎ NoCommandRan words left left' got got' failed status
+
+-- no argument could be read: nothing was read or written, and the status is that of out of memory
+pub record NoArgumentRead (left left' got got' : Option (List ℕ)) (failed : Bool) (status : ℕ) : Type 0 where
+  pub kept : Keeps left left'
+  pub unfailed : failed ≡ false
+  pub silent : Keeps got got'
+  pub status_is : status ≡ 5

@@ -3,10 +3,12 @@
 //!
 //! [`request`] reads the words, [`list`] reads a text and writes the listing, [`check_text`] reads a text and writes
 //! its processes, [`ever`] reads a text and writes the first of the shortest matches, and [`run`] does what the words
-//! ask for and returns the exit status. Readers and writers are a [`Source`] and a [`Sink`]; [`FromRead`] and
-//! [`FromWrite`] make them from std's.
+//! ask for and returns the exit status. [`report_search`], [`report_check`], [`report_ever`] and [`answer_fault`] write
+//! the messages of [`run`]. [`run_args`] runs it on the arguments of a process. Readers and writers are a [`Source`] and
+//! a [`Sink`]; [`FromRead`] and [`FromWrite`] make them from std's.
 #![tactic(auto)]
 
+mod arguments;
 mod check_command;
 mod ever_command;
 mod label_texts;
@@ -22,11 +24,12 @@ mod search_command;
 mod specification_input;
 mod unknown_gates;
 
+pub use arguments::run_args;
 pub use check_command::check_text;
 pub use ever_command::ever;
 pub use lotos_command::{CommandFault, EverRequest, Request, SearchRequest, request};
 pub use lotos_device::{DeviceFailed, FromRead, FromWrite, Sink, Source};
 pub use outcome::{Ended, EverEnded, EverWhy, Why};
-pub use program::run;
+pub use program::{answer_fault, report_check, report_ever, report_search, run};
 pub use refusal::Refusal;
 pub use search_command::list;

@@ -4,7 +4,7 @@ ghost use Rattle.lotos_text.specs.Limits.{max_text_length};
 ghost use Rattle.lotos_tool.specs.OutcomeFlags.{is_output_cause, is_output_fault};
 ghost use Rattle.lotos_tool.specs.EverOutcomeContracts.{is_ever_output_cause, is_ever_output_fault};
 ghost use Rattle.lotos_command.specs.Request.{texts_of};
-ghost use Rattle.lotos_tool.specs.ProgramRuns.{HelpWritten, Ran, check_status_of, ever_status_of, ever_stop_status_of, status_of, stop_status_of};
+ghost use Rattle.lotos_tool.specs.ProgramRuns.{HelpWritten, IsAnswerTo, Ran, check_status_of, ever_status_of, ever_stop_status_of, status_of, stop_status_of};
 
 use crate::check_command::check_text;
 use crate::ever_command::ever;
@@ -53,12 +53,25 @@ pub fn run<R: Source, W: Sink, E: Write>(
             question.states,
             err,
         ),
-        Err(CommandFault::Help(text)) => write_help(text.as_str(), out, err),
-        Err(CommandFault::Wrong(text)) => {
+        Err(fault) => answer_fault(&fault, out, err),
+    }
+}
+
+/// Writes the help that the words ask for to `out`, or reports to `err` why they make no request. Returns the status: 0
+/// for help, 2 for words that fit no command, 5 out of memory, and 6 if the output fails, which must not have failed
+/// before. The text that says why words fit no command has line feeds of its own.
+pub fn answer_fault<W: Sink, E: Write>(fault: &CommandFault, out: &mut W, err: &mut E) -> u8
+    requires { W.has_failed out.old ≡ false }
+    ensures answer { IsAnswerTo fault.now (W.got out.old) (W.got out.new) result }
+    ensures output { W.has_failed out.new ≡ (result == 6) }
+{
+    match fault {
+        CommandFault::Help(text) => write_help(text.as_str(), out, err),
+        CommandFault::Wrong(text) => {
             report_text(err, text.as_str());
             2
         }
-        Err(CommandFault::Memory) => {
+        CommandFault::Memory => {
             report_failure(err, &Why::Memory);
             5
         }
@@ -66,7 +79,7 @@ pub fn run<R: Source, W: Sink, E: Write>(
 }
 
 /// Reports a search unless it is complete, and returns its status. `terms` is the bound on the terms of a prefix.
-fn report_search<E: Write>(ended: &Ended, terms: usize, err: &mut E) -> u8
+pub fn report_search<E: Write>(ended: &Ended, terms: usize, err: &mut E) -> u8
     ensures status { result ≡ status_of ended.now }
     ensures output { is_output_fault ended.now ≡ (result == 6) }
 {
@@ -85,7 +98,7 @@ fn report_search<E: Write>(ended: &Ended, terms: usize, err: &mut E) -> u8
 }
 
 /// Reports a check unless it is complete, and returns its status.
-fn report_check<E: Write>(ended: &Ended, err: &mut E) -> u8
+pub fn report_check<E: Write>(ended: &Ended, err: &mut E) -> u8
     ensures status { result ≡ check_status_of ended.now }
     ensures output { is_output_fault ended.now ≡ (result == 6) }
 {
@@ -104,7 +117,7 @@ fn report_check<E: Write>(ended: &Ended, err: &mut E) -> u8
 
 /// Reports a search for a match unless a match was written, and returns its status. `states` is the bound on the
 /// product states.
-fn report_ever<E: Write>(ended: &EverEnded, states: usize, err: &mut E) -> u8
+pub fn report_ever<E: Write>(ended: &EverEnded, states: usize, err: &mut E) -> u8
     ensures status { result ≡ ever_status_of ended.now }
     ensures output { is_ever_output_fault ended.now ≡ (result == 6) }
 {

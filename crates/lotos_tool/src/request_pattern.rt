@@ -21,7 +21,7 @@ pub fn read_pattern(
 }
 
 /// The words as borrowed texts.
-fn borrow_texts<'a>(alloc: Global, words: &'a [String]) -> Result<Vec<&'a str>, AllocError>
+pub fn borrow_texts<'a>(alloc: Global, words: &'a [String]) -> Result<Vec<&'a str>, AllocError>
     ensures { IfOk result (λ v. texts_of v.items ≡ map string_bytes words.now) }
 {
     let mut texts = Vec::new(alloc);

@@ -1,18 +1,17 @@
 //! The input: the text is read and parsed, and its specification is checked.
-ghost use Rattle.std.specs.Prelude.{◌≡◌, ◌+◌, ◌≤◌, IfOk, IfErr, false, length};
-ghost use Rattle.lotos_text.specs.OffsetsInside.{IsFaultInside};
+ghost use Rattle.std.specs.Prelude.{◌≡◌, ◌+◌, ◌≤◌, IfOk, IfErr, IfSome, false, length};
 ghost use Rattle.lotos_text.specs.Limits.{max_text_length};
-ghost use Rattle.lotos_text.specs.TextFaults.{IsFaultOfText, SpellsNoSpecification};
-ghost use Rattle.lotos_check.specs.FaultOffsets.{IsOffsetWithin};
+ghost use Rattle.lotos_check.specs.AcceptedText.{Accepted, IsRejectedFor, IsRejectedSpecification, accept_offset};
 ghost use Rattle.lotos_check.specs.CheckedView.{system_of};
-ghost use Rattle.lotos_tool.specs.AcceptedText.{Accepted, ReadsAccepted};
+ghost use Rattle.lotos_check.specs.FaultOffsets.{offset_of};
+ghost use Rattle.lotos_tool.specs.AcceptedText.{ReadsAccepted};
 ghost use Rattle.lotos_tool.specs.RefusalCauses.{IsPositionOf};
-ghost use Rattle.lotos_tool.specs.RejectedText.{IsCheckFaultOfText, IsRejection, IsInputRejection, is_memory_fault, is_input_failure};
+ghost use Rattle.lotos_tool.specs.RejectedText.{IsRejection, IsInputRejection, is_input_failure};
 
 use crate::refusal::Refusal;
-use lotos_check::{CheckFault, Checked, check};
+use lotos_check::{AcceptFault, CheckFault, Checked, accept};
 use lotos_device::{ReadFault, Source, read_text};
-use lotos_text::{TextFault, line_column, parse};
+use lotos_text::{TextFault, line_column};
 use std::alloc::Global;
 
 /// Why no specification was accepted: the input is refused, or memory ran out.
@@ -53,67 +52,49 @@ fn accept_text(alloc: Global, text: &[u8]) -> Result<Checked, Rejection>
     ensures accepted { IfOk result (λ found. Accepted text.now (system_of found)) }
     ensures refused { IfErr result (IsRejection text.now) }
 {
-    let tree = match parse(alloc, text) {
-        Ok(tree) => tree,
-        Err(fault) => return Err(reject_text(text, fault)),
-    };
-    match check(alloc, tree) {
+    match accept(alloc, text) {
         Ok(found) => Ok(found),
-        Err(fault) => Err(reject_check(text, fault)),
+        Err(fault) => Err(reject(text, fault)),
     }
 }
 
-/// The rejection for a fault of the static check, at the fault's position.
-fn reject_check(text: &[u8], fault: CheckFault) -> Rejection
-    requires broken { IsCheckFaultOfText text.now fault }
-    requires inside { IsOffsetWithin (length text.now) fault }
+/// The rejection for a fault of a text, at the fault's position if it has one.
+fn reject(text: &[u8], fault: AcceptFault) -> Rejection
+    requires fault { IsRejectedFor text.now fault }
+    requires inside { IfSome (accept_offset fault) (λ at. at ≤ length text.now) }
     ensures { IsRejection text.now result }
 {
-    match fault.at() {
-        Some(at) => {
-            let (line, column) = line_column(text, at);
-            Rejection::Refused(Refusal::Check {
-                fault,
-                line,
-                column,
-            })
-        }
-        None => Rejection::Memory,
-    }
-}
-
-/// The rejection for a fault of the parser, at the fault's position if it has one.
-fn reject_text(text: &[u8], fault: TextFault) -> Rejection
-    requires refused { IsFaultOfText text.now fault }
-    requires nothing { SpellsNoSpecification text.now fault }
-    requires inside { IsFaultInside (length text.now) fault }
-    ensures { IsRejection text.now result }
-{
-    if is_memory_fault(&fault) {
-        return Rejection::Memory;
-    }
     let place = position_of(text, &fault);
-    Rejection::Refused(Refusal::Text { fault, place })
+    match fault {
+        AcceptFault::Text(fault) => Rejection::Refused(Refusal::Text { fault, place }),
+        AcceptFault::Check(fault) => reject_check(text, fault, place),
+        AcceptFault::Memory => Rejection::Memory,
+    }
 }
 
-fn is_memory_fault(fault: &TextFault) -> bool
-    ensures { result ≡ is_memory_fault fault.now }
+/// The rejection for a fault of the static check, which has a position.
+fn reject_check(text: &[u8], fault: CheckFault, place: Option<(usize, usize)>) -> Rejection
+    requires fault { IsRejectedSpecification text.now fault }
+    requires place { IsPositionOf text.now (offset_of fault) place }
+    ensures { IsRejection text.now result }
 {
-    matches!(fault, TextFault::E99(_))
+    match place {
+        Some((line, column)) => Rejection::Refused(Refusal::Check {
+            fault,
+            line,
+            column,
+        }),
+        None => unreachable!(),
+    }
 }
 
 /// The line and column of a fault, if it has an offset.
-fn position_of(text: &[u8], fault: &TextFault) -> Option<(usize, usize)>
-    requires { IsFaultInside (length text.now) fault.now }
-    ensures { IsPositionOf text.now fault.now result }
+fn position_of(text: &[u8], fault: &AcceptFault) -> Option<(usize, usize)>
+    requires { IfSome (accept_offset fault.now) (λ at. at ≤ length text.now) }
+    ensures { IsPositionOf text.now (accept_offset fault.now) result }
 {
-    match fault {
-        TextFault::E01(at)
-        | TextFault::E02(at)
-        | TextFault::E04(at)
-        | TextFault::E05(at)
-        | TextFault::E06(at)
-        | TextFault::E07(at) => Some(line_column(text, *at)),
-        TextFault::E03 | TextFault::E99(_) => None,
+    match fault.at() {
+        Some(at) => Some(line_column(text, at)),
+        None => None,
     }
 }

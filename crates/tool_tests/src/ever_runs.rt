@@ -68,7 +68,7 @@ const ROWS: &[Row] = &[
         status: 0,
     },
     Row {
-        name: "internal steps are not shown",
+        name: "internal steps are not observed",
         text: b"specification S [a] : noexit behaviour i; i; a; stop endspec",
         words: &["lotosseq", "ever", "A"],
         output: b"A\n",

@@ -4,21 +4,33 @@
 #![tactic(auto)]
 
 #[cfg(test)]
+mod argument_runs;
+#[cfg(test)]
 mod byte_output_tests;
 #[cfg(test)]
 mod check_runs;
 #[cfg(test)]
 mod ever_runs;
 #[cfg(test)]
+mod expected_output;
+#[cfg(test)]
 mod grammar_runs;
 #[cfg(test)]
 mod help;
 #[cfg(test)]
+mod help_texts;
+#[cfg(test)]
 mod hostile;
+#[cfg(test)]
+mod large_inputs;
 #[cfg(test)]
 mod large_runs;
 #[cfg(test)]
 mod memory_devices;
+#[cfg(test)]
+mod message_numbers;
+#[cfg(test)]
+mod message_texts;
 #[cfg(test)]
 mod output_failures;
 #[cfg(test)]
@@ -31,3 +43,5 @@ mod text_input_tests;
 mod worked_rows;
 #[cfg(test)]
 mod wrapped_device_tests;
+#[cfg(test)]
+mod wrong_words;

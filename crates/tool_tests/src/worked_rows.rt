@@ -46,7 +46,7 @@ const ROWS: &[Row] = &[
         status: 1,
     },
     Row {
-        name: "internal steps are not shown",
+        name: "internal steps are not observed",
         text: b"specification S [a,b] : noexit behaviour i; i; a; stop endspec",
         words: &["lotosseq", "search", "--depth", "3", "A"],
         output: b"A\n",

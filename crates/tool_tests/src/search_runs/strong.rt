@@ -4,7 +4,7 @@ use super::{Row, expect};
 
 const ROWS: &[Row] = &[
     Row {
-        name: "internal steps shown",
+        name: "internal steps observed",
         text: b"specification S [a,b] : noexit behaviour i; i; a; stop endspec",
         words: &[
             "lotosseq", "search", "--depth", "3", "--strong", "i", "I", "A",
@@ -14,7 +14,7 @@ const ROWS: &[Row] = &[
         status: 0,
     },
     Row {
-        name: "internal steps shown are not passed over",
+        name: "internal steps observed are not passed over",
         text: b"specification S [a,b] : noexit behaviour i; i; a; stop endspec",
         words: &["lotosseq", "search", "--depth", "3", "--strong", "A"],
         output: b"",
@@ -49,7 +49,7 @@ const ROWS: &[Row] = &[
         status: 0,
     },
     Row {
-        name: "after a line, internal steps shown",
+        name: "after a line, internal steps observed",
         text: b"specification S [a,b] : noexit behaviour i; a; stop [] a; b; stop endspec",
         words: &[
             "lotosseq",
@@ -101,7 +101,7 @@ const ROWS: &[Row] = &[
         status: 0,
     },
     Row {
-        name: "a set is not closed where internal steps are shown",
+        name: "a set is not closed where internal steps are observed",
         text: b"specification S [a,b] : noexit behaviour i; a; stop endspec",
         words: &[
             "lotosseq", "search", "--depth", "2", "--strong", "--terms", "1", "i", "A",

@@ -1,6 +1,6 @@
 use Rattle.std.proofs.Common.{◌≡◌, ◌∙◌, Err, ap, false, refl, rules, true}
 use Rattle.lotos_tool.specs.SearchSetup.{is_at_limit}
-use Rattle.lotos_tool.proofs.Calls.{halt_failed, told_end, told_halt, told_item}
+use Rattle.lotos_tool.proofs.Calls.{halt_failed, told_end, told_halt, returned_item}
 use Rattle.lotos_tool.proofs.ListingProgress.{below_limit, ends_finished, ends_halted, ends_limited, ends_unwritten, item_of, its_labels_now, none_below, progress_more, progress_none, within_more}
 use Rattle.lotos_tool.proofs.listing_output.write_listing.Goals as goal
 
@@ -41,39 +41,39 @@ returns-in-Err-clause-failed g c =
 pub write_item-requires-clause-printed : goal.write_item-requires-clause-printed
 write_item-requires-clause-printed g c =
     let inv = c.loop-found.invariant in
-    let told = told_item c.loop-found.search c.next.new.self _ _ inv.stage c.in-Ok-Some.field-0-is c.in-Ok-Some.ensures.next_returns in
-    its_labels_now c.loop-found.search c.next.new.self c.in-Ok-Some.found c.next.ensures.same told.0
+    let returned = returned_item c.loop-found.search c.next.new.self _ _ inv.stage c.in-Ok-Some.field-0-is c.in-Ok-Some.ensures.next_returns in
+    its_labels_now c.loop-found.search c.next.new.self c.in-Ok-Some.found c.next.ensures.same returned.0
 
 pub returns-in-Err-write_item-clause-ends : goal.returns-in-Err-write_item-clause-ends
 returns-in-Err-write_item-clause-ends g c =
     let inv = c.loop-found.invariant in
-    let told = told_item c.loop-found.search c.next.new.self _ _ inv.stage c.in-Ok-Some.field-0-is c.in-Ok-Some.ensures.next_returns in
+    let returned = returned_item c.loop-found.search c.next.new.self _ _ inv.stage c.in-Ok-Some.field-0-is c.in-Ok-Some.ensures.next_returns in
     let failed = c.in-Err-write_item.ensures in
-    ends_unwritten _ _ _ _ _ _ _ _ inv.items inv.progress _ _ _ _ _ c.in-Err-write_item.why inv.question (c.next.ensures.same ∙ inv.question) told.0 inv.below
+    ends_unwritten _ _ _ _ _ _ _ _ inv.items inv.progress _ _ _ _ _ c.in-Err-write_item.why inv.question (c.next.ensures.same ∙ inv.question) returned.0 inv.below
     failed.causes (λ e. failed.memory (ap Err e)) (λ e. failed.part (ap Err e))
 
 pub returns-then-is_at_limit-clause-ends : goal.returns-then-is_at_limit-clause-ends
 returns-then-is_at_limit-clause-ends g c =
     let inv = c.loop-found.invariant in
-    let told = told_item c.loop-found.search c.next.new.self _ _ inv.stage c.in-Ok-Some.field-0-is c.in-Ok-Some.ensures.next_returns in
-    let more = progress_more _ _ _ _ _ _ _ _ inv.items inv.progress _ _ _ _ _ _ c.in-Ok.text inv.question (c.next.ensures.same ∙ inv.question) told.0
+    let returned = returned_item c.loop-found.search c.next.new.self _ _ inv.stage c.in-Ok-Some.field-0-is c.in-Ok-Some.ensures.next_returns in
+    let more = progress_more _ _ _ _ _ _ _ _ inv.items inv.progress _ _ _ _ _ _ c.in-Ok.text inv.question (c.next.ensures.same ∙ inv.question) returned.0
     c.in-Ok.ensures.whole c.in-Ok.ensures.text c.saturating_add-lines.ensures in
     let at : is_at_limit c.saturating_add-lines.result c.args.request.now.limit ≡ true = search rules in
     ends_limited _ _ _ _ _ _ _ _ _ more _ _ c.flush_stopped-why.result c.is_at_limit.ensures.small at
-    (within_more inv.items (item_of _ _ _ _ told.0) c.args.request.now.limit inv.below) c.flush_stopped-why.ensures.cause c.flush_stopped-why.ensures.kept
+    (within_more inv.items (item_of _ _ _ _ returned.0) c.args.request.now.limit inv.below) c.flush_stopped-why.ensures.cause c.flush_stopped-why.ensures.kept
 
 pub loop-found-preserved : goal.loop-found-preserved
 loop-found-preserved g c =
     let inv = c.loop-found.invariant in
-    let told = told_item c.loop-found.search c.next.new.self _ _ inv.stage c.in-Ok-Some.field-0-is c.in-Ok-Some.ensures.next_returns in
-    let more = progress_more _ _ _ _ _ _ _ _ inv.items inv.progress _ _ _ _ _ _ c.in-Ok.text inv.question (c.next.ensures.same ∙ inv.question) told.0
+    let returned = returned_item c.loop-found.search c.next.new.self _ _ inv.stage c.in-Ok-Some.field-0-is c.in-Ok-Some.ensures.next_returns in
+    let more = progress_more _ _ _ _ _ _ _ _ inv.items inv.progress _ _ _ _ _ _ c.in-Ok.text inv.question (c.next.ensures.same ∙ inv.question) returned.0
     c.in-Ok.ensures.whole c.in-Ok.ensures.text c.saturating_add-lines.ensures in
     let at : is_at_limit c.saturating_add-lines.result c.args.request.now.limit ≡ false = search rules in
     record {
       items = _;
       progress = more;
-      below = below_limit _ _ _ at more.count (within_more inv.items (item_of _ _ _ _ told.0) c.args.request.now.limit inv.below) c.is_at_limit.ensures.small;
+      below = below_limit _ _ _ at more.count (within_more inv.items (item_of _ _ _ _ returned.0) c.args.request.now.limit inv.below) c.is_at_limit.ensures.small;
       question = c.next.ensures.same ∙ inv.question;
-      stage = told.1;
+      stage = returned.1;
       unfailed = c.in-Ok.ensures.failed;
     }

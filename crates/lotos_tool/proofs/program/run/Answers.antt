@@ -1,12 +1,9 @@
-use Rattle.std.proofs.Common.{◌≡◌, ℕ, Bool, List, Option, inl, inr, refl, rules, subst}
-use Rattle.std.proofs.KnownBytes.{Keeps-refl}
+use Rattle.std.proofs.Common.{◌≡◌, ℕ, Bool, List, Option, inl, inr, rules, subst}
 use Rattle.lotos_tool.specs.ListingOutcome.{SearchOutcome}
 use Rattle.lotos_tool.specs.CheckOutcome.{CheckOutcome}
 use Rattle.lotos_tool.specs.OutcomeFlags.{is_input_fault}
-use Rattle.lotos_command.specs.CommandFaults.{IsFaultOf}
-use Rattle.lotos_command.specs.Request.{RequestOf, request_view, texts_of}
+use Rattle.lotos_command.specs.Request.{RequestOf, request_view}
 use Rattle.lotos_tool.specs.ProgramRuns.{CheckRan, EverRan, SearchRan, check_status_of, ever_status_of, status_of}
-use Rattle.lotos_tool.specs.ProgramRuns.MessageOutput.{helped, wrong}
 use Rattle.lotos_tool.specs.declared.outcome.Ended.{Ended}
 use Rattle.lotos_command.specs.declared.command.Request.{Request}
 use Rattle.lotos_command.specs.declared.command.Request.TheVariants as one
@@ -14,6 +11,7 @@ use Rattle.lotos_tool.specs.EverOutcomeContracts.{EverOutcome, is_ever_input_fau
 use Rattle.lotos_tool.specs.declared.outcome.EverEnded.{EverEnded}
 use Rattle.lotos_command.specs.declared.command.EverRequest.{EverRequest}
 use Rattle.lotos_command.specs.declared.command.SearchRequest.{SearchRequest}
+use Rattle.lotos_tool.proofs.UnreadWords.{answered}
 use Rattle.lotos_tool.proofs.program.run.Goals as goal
 
 module _ (words : List (List ℕ)) (left left' got got' : Option (List ℕ)) (broken : Bool) (status : ℕ) where
@@ -49,20 +47,6 @@ pub returns-in-Ok-Search-clause-ran : goal.returns-in-Ok-Search-clause-ran
 returns-in-Ok-Search-clause-ran g c =
     inl (searched _ _ _ _ _ _ _ c.in-Ok-Search.field-0 _ c.list.result c.list.ensures.answers c.list.ensures.input c.report_search.ensures.status (search rules) c.in-Ok-Search.ensures.is)
 
-pub returns-in-Err-Help-clause-ran : goal.returns-in-Err-Help-clause-ran
-returns-in-Err-Help-clause-ran g c =
-    inr (inr (inr (record {
-      kept = Keeps-refl _;
-      unfailed = search rules;
-      reported = helped (subst (IsFaultOf (texts_of c.args.words.now)) c.in-Err-Help.field-0-is c.in-Err-Help.ensures.fault) _ c.write_help.ensures.printed;
-      taken = λ t. let m = c.in-Err-Help.ensures.taken t in let e = c.in-Err-Help.field-0-is in cc;
-    })))
-
-pub returns-in-Err-Wrong-clause-ran : goal.returns-in-Err-Wrong-clause-ran
-returns-in-Err-Wrong-clause-ran g c =
-    inr (inr (inr (record {
-      kept = Keeps-refl _;
-      unfailed = search rules;
-      reported = wrong (subst (IsFaultOf (texts_of c.args.words.now)) c.in-Err-Wrong.field-0-is c.in-Err-Wrong.ensures.fault) refl (Keeps-refl _);
-      taken = λ t. let m = c.in-Err-Wrong.ensures.taken t in let e = c.in-Err-Wrong.field-0-is in cc;
-    })))
+pub returns-in-Err-clause-ran : goal.returns-in-Err-clause-ran
+returns-in-Err-clause-ran g c =
+    inr (inr (inr (answered _ c.in-Err.fault _ _ _ _ _ (search rules) c.in-Err.ensures.fault c.in-Err.ensures.taken c.answer_fault.ensures.answer)))

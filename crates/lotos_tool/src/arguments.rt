@@ -1,0 +1,83 @@
+//! The program over the arguments of a process.
+ghost use Rattle.std.specs.Prelude.{◌≡◌, ◌+◌, ◌≤◌, ◌==◌, IfOk, MatchResult, false, map, string_bytes};
+ghost use Rattle.std.specs.Vec.Iter.{into_iter_items};
+ghost use Rattle.lotos_text.specs.Limits.{max_text_length};
+ghost use Rattle.lotos_tool.specs.ProgramRuns.{NoArgumentRead, Ran};
+
+use crate::messages::report_failure;
+use crate::outcome::Why;
+use crate::program::run;
+use crate::request_pattern::borrow_texts;
+use lotos_device::{Sink, Source};
+use std::alloc::{AllocError, Global};
+use std::env::Args;
+use std::io::{self, Write};
+
+/// Runs the command that the arguments of a process ask for, as [`run`] does, and returns the exit status. Arguments
+/// that could not be read, because memory ran out or one of them is not Unicode, are reported as out of memory, with
+/// status 5.
+pub fn run_args<R: Source, W: Sink, E: Write>(
+    alloc: Global,
+    args: io::Result<Args>,
+    reader: &mut R,
+    out: &mut W,
+    err: &mut E,
+) -> u8
+    requires reader { R.has_failed reader.old ≡ false }
+    requires out { W.has_failed out.old ≡ false }
+    ensures ran { MatchResult args
+        (λ words. Ran (map string_bytes (into_iter_items words)) (R.left reader.old) (R.left reader.new)
+        (W.got out.old) (W.got out.new) (R.has_failed reader.new) result)
+        (λ _. NoArgumentRead (R.left reader.old) (R.left reader.new)
+        (W.got out.old) (W.got out.new) (R.has_failed reader.new) result) }
+    ensures given { R.given reader.new ≤ R.given reader.old + (max_text_length + 1) }
+    ensures output { W.has_failed out.new ≡ (result == 6) }
+{
+    let Ok(args) = args else {
+        return report_no_words(err);
+    };
+    let Ok(words) = words_of(alloc, args) else {
+        return report_no_words(err);
+    };
+    run_words(alloc, words.as_slice(), reader, out, err)
+}
+
+/// The arguments as a list.
+fn words_of(alloc: Global, args: Args) -> Result<Vec<String>, AllocError>
+    ensures { IfOk result (λ words. words.items ≡ into_iter_items args) }
+{
+    let mut words = Vec::new(alloc);
+    for word in args {
+        words.push(word)?;
+    }
+    Ok(words)
+}
+
+/// Runs the command that these words ask for.
+fn run_words<R: Source, W: Sink, E: Write>(
+    alloc: Global,
+    words: &[String],
+    reader: &mut R,
+    out: &mut W,
+    err: &mut E,
+) -> u8
+    requires reader { R.has_failed reader.old ≡ false }
+    requires out { W.has_failed out.old ≡ false }
+    ensures ran { Ran (map string_bytes words.now) (R.left reader.old) (R.left reader.new)
+        (W.got out.old) (W.got out.new) (R.has_failed reader.new) result }
+    ensures given { R.given reader.new ≤ R.given reader.old + (max_text_length + 1) }
+    ensures output { W.has_failed out.new ≡ (result == 6) }
+{
+    match borrow_texts(alloc, words) {
+        Ok(texts) => run(alloc, texts.as_slice(), reader, out, err),
+        Err(AllocError) => report_no_words(err),
+    }
+}
+
+/// Reports that memory ran out before the words were read, and returns the status.
+fn report_no_words<E: Write>(err: &mut E) -> u8
+    ensures { result ≡ 5 }
+{
+    report_failure(err, &Why::Memory);
+    5
+}

@@ -1,0 +1,14 @@
+//! The program `lotosseq` with another stored run, which ends with status 1. Two processes of 260 actions, side by side,
+//! have at least 261 * 261 = 68,121 states, and none of them terminates successfully.
+#![tactic(auto)]
+
+use lotos_tool::{FromRead, FromWrite, run_args};
+use std::env;
+use std::process::ExitCode;
+
+fn main(rt: HostRuntime) -> ExitCode {
+    let mut reader = FromRead::new(rt.stdin());
+    let mut out = FromWrite::new(rt.stdout());
+    let mut err = rt.stderr();
+    ExitCode::from(run_args(rt.alloc(), env::args(&rt), &mut reader, &mut out, &mut err))
+}

@@ -1,0 +1,14 @@
+//! The program `lotosseq` with another stored run, which ends with status 0. Forty internal steps three times, side by
+//! side, reach 41 * 41 * 41 = 68,921 terms, just as many as are allowed.
+#![tactic(auto)]
+
+use lotos_tool::{FromRead, FromWrite, run_args};
+use std::env;
+use std::process::ExitCode;
+
+fn main(rt: HostRuntime) -> ExitCode {
+    let mut reader = FromRead::new(rt.stdin());
+    let mut out = FromWrite::new(rt.stdout());
+    let mut err = rt.stderr();
+    ExitCode::from(run_args(rt.alloc(), env::args(&rt), &mut reader, &mut out, &mut err))
+}

@@ -1,0 +1,214 @@
+//! The message and the status of each way in which a command ends, also of those that no run of a test can lead to.
+
+use super::memory_devices::ArrayWriter;
+use lotos_check::CheckFault;
+use lotos_device::FromWrite;
+use lotos_pattern::PatternFault;
+use lotos_search::MarkFault;
+use lotos_text::TextFault;
+use lotos_tool::{
+    CommandFault, Ended, EverEnded, EverWhy, Refusal, Why, answer_fault, report_check, report_ever,
+    report_search,
+};
+use std::alloc::{AllocError, Global};
+use std::fmt::Display;
+use std::io::Write;
+use std::process::Abort;
+
+/// Expects what a search reports that ended so, with 300 as the bound on the terms.
+fn expect_search(rt: &impl Abort, ended: &Ended, message: &[u8], status: u8) {
+    let mut err = ArrayWriter::new(4096);
+    let found = report_search(ended, 300, &mut err);
+    assert_eq!(rt; err.got(), message);
+    assert_eq!(rt; found, status);
+}
+
+/// Expects what a search reports that stopped for this cause after a line, and before the first one.
+fn expect_stop(
+    rt: &impl Abort,
+    alloc: Global,
+    causes: (Why, Why),
+    messages: (&[u8], &[u8]),
+    status: u8,
+) -> Result<(), AllocError> {
+    let last = Some(String::from_str(alloc, "A exit")?);
+    let after = Ended::Stopped {
+        last,
+        why: causes.0,
+    };
+    expect_search(rt, &after, messages.0, status);
+    let before = Ended::Stopped {
+        last: None,
+        why: causes.1,
+    };
+    expect_search(rt, &before, messages.1, status);
+    Ok(())
+}
+
+#[test]
+fn a_search_that_stopped(rt: HostRuntime) -> Result<(), AllocError> {
+    let alloc = rt.alloc();
+    expect_stop(
+        &rt,
+        alloc,
+        (Why::Limit, Why::Limit),
+        (
+            b"lotosseq: stopped after A exit: limit reached\n",
+            b"lotosseq: stopped before the first line: limit reached\n",
+        ),
+        3,
+    )?;
+    expect_stop(
+        &rt,
+        alloc,
+        (Why::Memory, Why::Memory),
+        (
+            b"lotosseq: stopped after A exit: E99 out of memory\n",
+            b"lotosseq: stopped before the first line: E99 out of memory\n",
+        ),
+        5,
+    )?;
+    expect_stop(
+        &rt,
+        alloc,
+        (Why::Write, Why::Write),
+        (
+            b"lotosseq: stopped after A exit: output cannot be written\n",
+            b"lotosseq: stopped before the first line: output cannot be written\n",
+        ),
+        6,
+    )
+}
+
+#[test]
+fn a_search_that_stopped_at_an_oversized_prefix(rt: HostRuntime) -> Result<(), AllocError> {
+    let prefix = String::from_str(rt.alloc(), "B A")?;
+    let other = String::from_str(rt.alloc(), "<empty>")?;
+    expect_stop(
+        &rt,
+        rt.alloc(),
+        (Why::OverTerms(prefix), Why::OverTerms(other)),
+        (
+            b"lotosseq: stopped after A exit: more than 300 terms at B A\n",
+            b"lotosseq: stopped before the first line: more than 300 terms at <empty>\n",
+        ),
+        4,
+    )
+}
+
+#[test]
+fn a_search_that_did_not_stop(rt: HostRuntime) {
+    expect_search(&rt, &Ended::Complete { lines: 0 }, b"", 1);
+    for lines in [1u64, 256, 65_536, 4_294_967_296] {
+        expect_search(&rt, &Ended::Complete { lines }, b"", 0);
+    }
+    let refused = Ended::Refused(Refusal::E49(300));
+    let message = b"lotosseq: E49 word 300 is no gate of the specification\n";
+    expect_search(&rt, &refused, message, 2);
+}
+
+/// Expects what a check reports that ended so.
+fn expect_check(rt: &impl Abort, ended: &Ended, message: &[u8], status: u8) {
+    let mut err = ArrayWriter::new(4096);
+    let found = report_check(ended, &mut err);
+    assert_eq!(rt; err.got(), message);
+    assert_eq!(rt; found, status);
+}
+
+#[test]
+fn checks(rt: HostRuntime) {
+    for lines in [0u64, 1, 256] {
+        expect_check(&rt, &Ended::Complete { lines }, b"", 0);
+    }
+    let refused = Ended::Refused(Refusal::E47);
+    expect_check(&rt, &refused, b"lotosseq: E47 input cannot be read\n", 2);
+    let full = Ended::Stopped {
+        last: None,
+        why: Why::Write,
+    };
+    expect_check(&rt, &full, b"lotosseq: output cannot be written\n", 6);
+    let memory = Ended::Stopped {
+        last: None,
+        why: Why::Memory,
+    };
+    expect_check(&rt, &memory, b"lotosseq: E99 out of memory\n", 5);
+}
+
+/// Expects what a search for a match reports that ended so, with 300 as the bound on the states.
+fn expect_ever(rt: &impl Abort, ended: &EverEnded, message: &[u8], status: u8) {
+    let mut err = ArrayWriter::new(4096);
+    let found = report_ever(ended, 300, &mut err);
+    assert_eq!(rt; err.got(), message);
+    assert_eq!(rt; found, status);
+}
+
+/// Why a search for a match stops, its message and its status.
+const EVER_STOPS: &[(EverWhy, &[u8], u8)] = &[
+    (
+        EverWhy::TooManyStates,
+        b"lotosseq: stopped: more than 300 states\n",
+        4,
+    ),
+    (EverWhy::Memory, b"lotosseq: E99 out of memory\n", 5),
+    (EverWhy::Write, b"lotosseq: output cannot be written\n", 6),
+    (EverWhy::Flush, b"lotosseq: output cannot be written\n", 6),
+];
+
+#[test]
+fn searches_for_a_match(rt: HostRuntime) {
+    expect_ever(&rt, &EverEnded::Matched, b"", 0);
+    expect_ever(
+        &rt,
+        &EverEnded::NoMatch,
+        b"lotosseq: it happens at no depth\n",
+        1,
+    );
+    let refused = EverEnded::Refused(Refusal::E47);
+    expect_ever(&rt, &refused, b"lotosseq: E47 input cannot be read\n", 2);
+    for (why, message, status) in EVER_STOPS {
+        expect_ever(&rt, &EverEnded::Stopped(*why), *message, *status);
+    }
+}
+
+/// Expects what is written for a fault of the words.
+fn expect_answer(rt: &impl Abort, fault: &CommandFault, output: &[u8], message: &[u8], status: u8) {
+    let mut out = FromWrite::new(ArrayWriter::new(4096));
+    let mut err = ArrayWriter::new(4096);
+    let found = answer_fault(fault, &mut out, &mut err);
+    assert_eq!(rt; out.into_inner().got(), output);
+    assert_eq!(rt; err.got(), message);
+    assert_eq!(rt; found, status);
+}
+
+#[test]
+fn faults_of_the_words(rt: HostRuntime) -> Result<(), AllocError> {
+    let help = CommandFault::Help(String::from_str(rt.alloc(), "a line\nand another\n")?);
+    expect_answer(&rt, &help, b"a line\nand another\n", b"", 0);
+    let wrong = CommandFault::Wrong(String::from_str(rt.alloc(), "error: no\n\nUsage: so\n")?);
+    expect_answer(&rt, &wrong, b"", b"error: no\n\nUsage: so\n", 2);
+    expect_answer(
+        &rt,
+        &CommandFault::Memory,
+        b"",
+        b"lotosseq: E99 out of memory\n",
+        5,
+    );
+    Ok(())
+}
+
+/// Expects the text of a fault of a library.
+fn expect_text<T: Display>(rt: &impl Abort, fault: &T, text: &[u8]) {
+    let mut err = ArrayWriter::new(4096);
+    let written = write!(err, "{fault}");
+    assert!(rt; written.is_ok());
+    assert_eq!(rt; err.got(), text);
+}
+
+#[test]
+fn out_of_memory_in_the_libraries(rt: HostRuntime) {
+    let text = b"E99 out of memory";
+    expect_text(&rt, &TextFault::E99(AllocError), text);
+    expect_text(&rt, &CheckFault::E99(AllocError), text);
+    expect_text(&rt, &PatternFault::E99(AllocError), text);
+    expect_text(&rt, &MarkFault::E99(AllocError), text);
+}

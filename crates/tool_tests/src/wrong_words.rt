@@ -1,0 +1,26 @@
+//! The whole message about words that fit no command, as clap words it.
+
+use super::expected_output::expect_message;
+
+/// Words that fit no command, and the message.
+const ROWS: &[(&[&str], &[u8])] = &[
+    (
+        &["lotosseq", "--nothing"],
+        b"error: unexpected argument '--nothing' found\n\nUsage: lotosseq <COMMAND>\n\nFor more information, try '--help'.\n",
+    ),
+    (
+        &["lotosseq", "search", "A"],
+        b"error: the following required arguments were not provided:\n  --depth <N>\n\nUsage: lotosseq search --depth <N> [WORD]...\n\nFor more information, try '--help'.\n",
+    ),
+    (
+        &["lotosseq", "search", "--depth", "256", "A"],
+        b"error: invalid value '256' for '--depth <N>': 256 is not in 0..=255\n\nFor more information, try '--help'.\n",
+    ),
+];
+
+#[test]
+fn words_that_fit_no_command(rt: HostRuntime) {
+    for (words, message) in ROWS {
+        expect_message(&rt, rt.alloc(), *words, b"", *message, 2);
+    }
+}
