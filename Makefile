@@ -3,6 +3,8 @@ PREFIX = /usr/local
 BIN = $(DESTDIR)$(PREFIX)/bin
 MAN = $(DESTDIR)$(PREFIX)/share/man/man1
 COMPLETIONS = $(DESTDIR)$(PREFIX)/share/bash-completion/completions
+VIMFILES = $(DESTDIR)$(PREFIX)/share/vim/vimfiles
+VSCODE = $(DESTDIR)$(PREFIX)/share/lotosseq/vscode
 
 help: ## lists these targets
 	@sed -n 's/^\([a-z]*\):.*## /\1: /p' Makefile | awk -F ': ' '{ printf "make %-10s %s\n", $$1, $$2 }'
@@ -13,14 +15,21 @@ build: ## proves and builds the program if a source has changed
 test: ## runs the gate, rt ci
 	rt ci
 
-install: build ## installs programs, manual page and completion below PREFIX (/usr/local)
+install: build ## installs programs, manual page, completion and syntax files below PREFIX (/usr/local)
 	install -D -m 755 crates/lotosseq/out/lotosseq $(BIN)/lotosseq
 	install -D -m 755 share/lotosseq-chart $(BIN)/lotosseq-chart
 	install -D -m 644 docs/lotosseq.1 $(MAN)/lotosseq.1
 	install -D -m 644 share/bash-completion/completions/lotosseq $(COMPLETIONS)/lotosseq
+	install -D -m 644 share/vim/vimfiles/ftdetect/lotos.vim $(VIMFILES)/ftdetect/lotos.vim
+	install -D -m 644 share/vim/vimfiles/syntax/lotos.vim $(VIMFILES)/syntax/lotos.vim
+	install -D -m 644 share/vscode/package.json $(VSCODE)/package.json
+	install -D -m 644 share/vscode/language-configuration.json $(VSCODE)/language-configuration.json
+	install -D -m 644 share/vscode/syntaxes/lotos.tmLanguage.json $(VSCODE)/syntaxes/lotos.tmLanguage.json
 
 uninstall: ## removes what install has put there
 	rm -f $(BIN)/lotosseq $(BIN)/lotosseq-chart $(MAN)/lotosseq.1 $(COMPLETIONS)/lotosseq
+	rm -f $(VIMFILES)/ftdetect/lotos.vim $(VIMFILES)/syntax/lotos.vim
+	rm -rf $(DESTDIR)$(PREFIX)/share/lotosseq
 
 clean: ## removes all that was proved and built; the next build proves everything
 	rm -rf crates/*/out
