@@ -1,5 +1,5 @@
 //! The loop that reads a whole text, within the limit of its length.
-ghost use Rattle.std.specs.Prelude.{◌≡◌, ◌+◌, ◌≤◌, false, IfOk, IsErrOf};
+ghost use Rattle.std.specs.Prelude.{◌≡◌, ◌+◌, ◌≤◌, false, IfOk, IsErrOf, length};
 ghost use Rattle.lotos_text.specs.Limits.{max_text_length};
 ghost use Rattle.lotos_device.specs.TextInput.{ReadsAll, TakesAtMost, TakesExactly, is_device_fault};
 
@@ -38,6 +38,9 @@ pub fn read_text<R: Source>(alloc: Global, reader: &mut R) -> Result<Vec<u8>, Re
     requires { R.has_failed reader.old ≡ false }
     ensures whole { IfOk result (λ text. ReadsAll (R.left reader.old) (R.left reader.new) text.items) }
     ensures given { R.given reader.new ≤ R.given reader.old + (max_text_length + 1) }
+    ensures whole_given { IfOk result (λ text. R.given reader.new ≡ R.given reader.old + length text.items) }
+    ensures one_more_given { IsErrOf result ReadFault.TooLong →
+        R.given reader.new ≡ R.given reader.old + (max_text_length + 1) }
     ensures failed { R.has_failed reader.new ≡ is_device_fault result }
     ensures too_long { IsErrOf result ReadFault.TooLong →
         TakesExactly (R.left reader.old) (R.left reader.new) (max_text_length + 1) }
