@@ -7,6 +7,21 @@ use std::test::Fail;
 const REQUESTS: &[(&str, &[&str], &str)] = &[
     ("a check", &["lotosseq", "check"], "Check"),
     (
+        "a check that explains a fault",
+        &["lotosseq", "check", "--explain"],
+        "Diagnose(DiagnoseRequest { explain: true, warn: false })",
+    ),
+    (
+        "a check that warns",
+        &["lotosseq", "check", "--warn"],
+        "Diagnose(DiagnoseRequest { explain: false, warn: true })",
+    ),
+    (
+        "a check with all diagnostics",
+        &["lotosseq", "check", "--warn", "--explain"],
+        "Diagnose(DiagnoseRequest { explain: true, warn: true })",
+    ),
+    (
         "a search with all that it may have but a run",
         &[
             "lotosseq",
@@ -18,26 +33,32 @@ const REQUESTS: &[(&str, &[&str], &str)] = &[
             "--limit",
             "3",
             "--known",
+            "--progress",
             "--",
             "-x",
             "A",
         ],
-        "Search(SearchRequest { depth: 7, limit: Some(3), terms: 100000, after: Some(\"A : i A\"), explain: false, strong: true, known: true, words: [\"-x\", \"A\"] })",
+        "Search(SearchRequest { depth: 7, limit: Some(3), terms: 100000, after: Some(\"A : i A\"), explain: false, strong: true, known: true, progress: true, words: [\"-x\", \"A\"] })",
     ),
     (
         "flags that are not given",
         &["lotosseq", "search", "--depth", "0", "--", "--known"],
-        "Search(SearchRequest { depth: 0, limit: None, terms: 100000, after: None, explain: false, strong: false, known: false, words: [\"--known\"] })",
+        "Search(SearchRequest { depth: 0, limit: None, terms: 100000, after: None, explain: false, strong: false, known: false, progress: false, words: [\"--known\"] })",
     ),
     (
         "a question with options among its words",
         &["lotosseq", "ever", "A", "--states", "7", "--explain", "B"],
-        "Ever(EverRequest { states: 7, explain: true, strong: false, words: [\"A\", \"B\"] })",
+        "Ever(EverRequest { states: 7, explain: true, strong: false, progress: false, words: [\"A\", \"B\"] })",
+    ),
+    (
+        "a question that tells how far it is",
+        &["lotosseq", "ever", "--progress", "A"],
+        "Ever(EverRequest { states: 1000000, explain: false, strong: false, progress: true, words: [\"A\"] })",
     ),
     (
         "a question without words",
         &["lotosseq", "ever"],
-        "Ever(EverRequest { states: 1000000, explain: false, strong: false, words: [] })",
+        "Ever(EverRequest { states: 1000000, explain: false, strong: false, progress: false, words: [] })",
     ),
 ];
 
@@ -60,12 +81,25 @@ fn reads_requests(rt: HostRuntime) -> Result<(), Fail> {
     Ok(())
 }
 
-/// Words, and whether they ask for help or fit no command.
+/// Words, and whether they ask for help or for the version, or fit no command.
 const OTHERS: &[(&[&str], &str)] = &[
     (&["lotosseq", "--help"], "help"),
     (&["lotosseq", "help", "search"], "help"),
     (&["lotosseq", "check", "-h"], "help"),
     (&["lotosseq", "ever", "--help"], "help"),
+    (&["lotosseq", "--version"], "help"),
+    (&["lotosseq", "-V"], "help"),
+    (&["lotosseq", "-V", "check", "A"], "help"),
+    (&["lotosseq", "check", "--version"], "wrong"),
+    (&["lotosseq", "search", "--depth=1", "-V"], "wrong"),
+    (&["lotosseq", "ever", "-V"], "wrong"),
+    (&["lotosseq", "--warn"], "wrong"),
+    (&["lotosseq", "check", "--explain", "A"], "wrong"),
+    (&["lotosseq", "check", "--warn", "--warn"], "wrong"),
+    (&["lotosseq", "check", "--explain=false"], "wrong"),
+    (&["lotosseq", "check", "--progress"], "wrong"),
+    (&["lotosseq", "search", "--depth=1", "--warn"], "wrong"),
+    (&["lotosseq", "ever", "--warn"], "wrong"),
     (&["lotosseq"], "wrong"),
     (&["lotosseq", "ever", "--states", "0"], "wrong"),
     (&["lotosseq", "ever", "--depth", "3"], "wrong"),
@@ -91,4 +125,23 @@ fn distinguishes_help_from_faults(rt: HostRuntime) -> Result<(), Fail> {
         assert_eq!(rt; found.as_str(), *expected, "{:?}", words);
     }
     Ok(())
+}
+
+/// The text for words that ask for help or for the version; for others no text.
+fn help_text(alloc: Global, words: &[&str]) -> String {
+    match request(alloc, words) {
+        Err(CommandFault::Help(text)) => text,
+        _ => String::new(alloc),
+    }
+}
+
+#[test]
+fn names_version_and_logic(rt: HostRuntime) {
+    for word in ["--version", "-V"] {
+        let text = help_text(rt.alloc(), &["lotosseq", word]);
+        assert_eq!(rt;
+            text.as_str(),
+            "lotosseq 0.1.0 (proved, logic dac8208d650f15bf)\n"
+        );
+    }
 }

@@ -1,10 +1,10 @@
 -- clap's contracts cover the command line, and the requests and faults of some words, computed.
 use Rattle.std.proofs.Common.{◌≡◌, refl, true, false, codes, List, [], ◌∷◌, Some, None}
 use Rattle.clap.specs.Words.{Text, fault_of, is_simple, is_simple_and_free, takes}
-use Rattle.clap.specs.declared.error.kind.ErrorKind.TheVariants.{UnknownArgument, ValueValidation}
+use Rattle.clap.specs.declared.error.kind.ErrorKind.TheVariants.{DisplayVersion, UnknownArgument, ValueValidation}
 use Rattle.clap.proofs.OnLiterals.{clap_on_literals}
 use Rattle.lotos_command.specs.CommandRules.{lotosseq}
-use Rattle.lotos_command.specs.Request.{RequestOf, check, ever, search}
+use Rattle.lotos_command.specs.Request.{RequestOf, check, diagnose, ever, search}
 
 pub simple_and_free : is_simple_and_free lotosseq ≡ true
 simple_and_free = refl
@@ -27,6 +27,7 @@ row_asks : RequestOf row (search (record {
   explain = false;
   strong = false;
   known = false;
+  progress = false;
   words = codes "A" ∷ codes "exit" ∷ [];
 }))
 unfolding clap_on_literals
@@ -43,6 +44,7 @@ hyphen_asks : RequestOf hyphen_row (search (record {
   explain = false;
   strong = false;
   known = false;
+  progress = false;
   words = codes "-x" ∷ [];
 }))
 unfolding clap_on_literals
@@ -51,7 +53,7 @@ hyphen_asks = record { faultless = refl; reads = refl }
 abbrev full_row : List Text
 full_row =
     codes "lotosseq" ∷ codes "search" ∷ codes "--depth=1" ∷ codes "--after" ∷ codes "A : i A" ∷ codes "<until>" ∷ codes "--limit" ∷ codes "4"
-    ∷ codes "--explain" ∷ codes "--terms=7" ∷ codes "--strong" ∷ codes "B" ∷ codes "--known" ∷ []
+    ∷ codes "--explain" ∷ codes "--terms=7" ∷ codes "--strong" ∷ codes "B" ∷ codes "--known" ∷ codes "--progress" ∷ []
 
 full_asks : RequestOf full_row (search (record {
   depth = 1;
@@ -61,6 +63,7 @@ full_asks : RequestOf full_row (search (record {
   explain = true;
   strong = true;
   known = true;
+  progress = true;
   words = codes "<until>" ∷ codes "B" ∷ [];
 }))
 unfolding clap_on_literals
@@ -69,6 +72,30 @@ full_asks = record { faultless = refl; reads = refl }
 check_row_asks : RequestOf (codes "lotosseq" ∷ codes "check" ∷ []) check
 unfolding clap_on_literals
 check_row_asks = record { faultless = refl; reads = refl }
+
+warn_row_asks : RequestOf (codes "lotosseq" ∷ codes "check" ∷ codes "--warn" ∷ []) (diagnose (record { explain = false; warn = true }))
+unfolding clap_on_literals
+warn_row_asks = record { faultless = refl; reads = refl }
+
+explain_row_asks : RequestOf (codes "lotosseq" ∷ codes "check" ∷ codes "--explain" ∷ []) (diagnose (record { explain = true; warn = false }))
+unfolding clap_on_literals
+explain_row_asks = record { faultless = refl; reads = refl }
+
+version_shown : fault_of lotosseq (codes "lotosseq" ∷ codes "--version" ∷ []) ≡ DisplayVersion ∷ []
+unfolding clap_on_literals
+version_shown = refl
+
+short_version_shown : fault_of lotosseq (codes "lotosseq" ∷ codes "-V" ∷ codes "check" ∷ []) ≡ DisplayVersion ∷ []
+unfolding clap_on_literals
+short_version_shown = refl
+
+check_has_no_version : fault_of lotosseq (codes "lotosseq" ∷ codes "check" ∷ codes "-V" ∷ []) ≡ UnknownArgument ∷ []
+unfolding clap_on_literals
+check_has_no_version = refl
+
+check_has_no_progress : fault_of lotosseq (codes "lotosseq" ∷ codes "check" ∷ codes "--progress" ∷ []) ≡ UnknownArgument ∷ []
+unfolding clap_on_literals
+check_has_no_progress = refl
 
 check_takes_no_word : fault_of lotosseq (codes "lotosseq" ∷ codes "check" ∷ codes "A" ∷ []) ≡ UnknownArgument ∷ []
 unfolding clap_on_literals
@@ -86,17 +113,20 @@ too_many_terms : fault_of lotosseq (codes "lotosseq" ∷ codes "search" ∷ code
 unfolding clap_on_literals
 too_many_terms = refl
 
-bare_ever_asks : RequestOf (codes "lotosseq" ∷ codes "ever" ∷ []) (ever (record { states = 1000000; explain = false; strong = false; words = [] }))
+bare_ever_asks : RequestOf (codes "lotosseq" ∷ codes "ever" ∷ []) (ever (record { states = 1000000; explain = false; strong = false; progress = false; words = [] }))
 unfolding clap_on_literals
 bare_ever_asks = record { faultless = refl; reads = refl }
 
 abbrev ever_row : List Text
-ever_row = codes "lotosseq" ∷ codes "ever" ∷ codes "--strong" ∷ codes "A" ∷ codes "--states=100000000" ∷ codes "--explain" ∷ codes "<deadlock>" ∷ []
+ever_row =
+    codes "lotosseq" ∷ codes "ever" ∷ codes "--strong" ∷ codes "A" ∷ codes "--states=100000000" ∷ codes "--explain" ∷ codes "--progress"
+    ∷ codes "<deadlock>" ∷ []
 
 ever_asks : RequestOf ever_row (ever (record {
   states = 100000000;
   explain = true;
   strong = true;
+  progress = true;
   words = codes "A" ∷ codes "<deadlock>" ∷ [];
 }))
 unfolding clap_on_literals

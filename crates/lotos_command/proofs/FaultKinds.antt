@@ -1,6 +1,6 @@
 -- The fault that `request` returns for a clap fault.
-use Rattle.std.proofs.Common.{◌≡◌, ◌∙◌, List, inl, inr, refl, sym, subst}
-use Rattle.clap.specs.Words.{HasKind, IsAmong, Text, fault_of, kind_of}
+use Rattle.std.proofs.Common.{◌≡◌, ◌∙◌, List, inl, inr, refl, sym}
+use Rattle.clap.specs.Words.{HasKind, Text, fault_of, kind_of}
 use Rattle.clap.specs.declared.error.Error.{Error}
 use Rattle.clap.specs.declared.error.kind.ErrorKind.{ErrorKind}
 use Rattle.clap.specs.declared.error.kind.ErrorKind.TheVariants as kind
@@ -11,15 +11,17 @@ use Rattle.lotos_command.specs.declared.command.CommandFault.TheVariants.{Help, 
 
 -- for a clap fault of the kind `OutOfMemory` the fault is `Memory`
 pub memory_known : (k : ErrorKind) (fault : CommandFault) → k ≡ kind.OutOfMemory → IsFaultOfKind k fault → fault ≡ Memory
-memory_known k (Help text) memory is = absurd (let e : kind.OutOfMemory ≡ kind.DisplayHelp = sym memory ∙ is in cc)
-memory_known k (Wrong text) memory is = absurd (is.1 memory)
+memory_known k (Help text) memory (inl is) = absurd (let e : kind.OutOfMemory ≡ kind.DisplayHelp = sym memory ∙ is in cc)
+memory_known k (Help text) memory (inr is) = absurd (let e : kind.OutOfMemory ≡ kind.DisplayVersion = sym memory ∙ is in cc)
+memory_known k (Wrong text) memory is = absurd (is.2 memory)
 memory_known k Memory memory is = refl
 
 -- the words have the fault that is returned for clap's
 pub fault_known : (words : List Text) (error : Error) (fault : CommandFault) → HasKind (fault_of lotosseq words) error
     → IsFaultOfKind (kind_of error) fault → IsFaultOf words fault
-fault_known words error (Help text) (inl memory) is = absurd (let e : kind.OutOfMemory ≡ kind.DisplayHelp = sym memory ∙ is in cc)
-fault_known words error (Help text) (inr among) is = subst (λ k. IsAmong k (fault_of lotosseq words)) is among
-fault_known words error (Wrong text) (inl memory) is = absurd (is.1 memory)
-fault_known words error (Wrong text) (inr among) is = (kind_of error, among, is.0)
+fault_known words error (Help text) (inl memory) (inl is) = absurd (let e : kind.OutOfMemory ≡ kind.DisplayHelp = sym memory ∙ is in cc)
+fault_known words error (Help text) (inl memory) (inr is) = absurd (let e : kind.OutOfMemory ≡ kind.DisplayVersion = sym memory ∙ is in cc)
+fault_known words error (Help text) (inr among) is = (kind_of error, among, is)
+fault_known words error (Wrong text) (inl memory) is = absurd (is.2 memory)
+fault_known words error (Wrong text) (inr among) is = (kind_of error, among, is.0, is.1)
 fault_known words error Memory has is = tt

@@ -1,4 +1,4 @@
--- Words without a fault name `check`, or `search` or `ever` with entries that can be read.
+-- Words without a fault name `search`, `check` or `ever`, with entries that can be read.
 use Rattle.std.proofs.Common.{◌≡◌, ◌∙◌, ◌≤◌, ◌||◌, ◌==◌, ℕ, Bool, cond, true, false, not, refl, sym, ap, subst, arith, List, [], ◌∷◌, length, Option, Some, None, codes, drop, find, is_some, inl, inr}
 use Rattle.std.specs.Prelude.{IfSome, IsSomeAnd, slice_get, pos, unwrap_or}
 use Rattle.std.specs.Option.{option_map, option_map_or, option_and_then}
@@ -20,7 +20,7 @@ use Rattle.clap.specs.Kinds.{value_kinds}
 use Rattle.clap.specs.Faults.{check_fault, entered_fault, fault_of, level_fault, values_fault}
 use Rattle.clap.specs.declared.error.kind.ErrorKind.TheVariants as kind
 use Rattle.lotos_command.specs.CommandRules.{lotosseq}
-use Rattle.lotos_command.specs.EntryRules.{FitsEver, FitsRequest, FitsSearch, IsNumberIn, IsTruthText}
+use Rattle.lotos_command.specs.EntryRules.{FitsCheck, FitsEver, FitsRequest, FitsSearch, IsNumberIn, IsTruthText}
 use Rattle.lotos_command.specs.Request.{number}
 use Rattle.lotos_command.proofs.KindsAbsent.{both_empty, not_empty}
 use Rattle.lotos_command.proofs.ReadyArguments.{Each, IsOrdinary, IsReady, counts, each_found}
@@ -173,7 +173,7 @@ abbrev help_shape : Shape
 help_shape = first (others (others (others whole.subs)))
 
 top_is_ordinary : Each (IsOrdinary whole.top.rules) whole.top.rules
-top_is_ordinary = (record { own = refl; no_count = refl }, tt)
+top_is_ordinary = (record { own = refl; no_count = refl }, (record { own = refl; no_count = refl }, tt))
 
 is_ordinary_here : (rule : Rule) → arg_by_id search_shape.rules rule.id ≡ Some rule → counts (action_of rule) ≡ false → IsOrdinary search_shape.rules rule
 is_ordinary_here rule own once = record { own = own; no_count = once }
@@ -189,12 +189,21 @@ search_is_ordinary = (
         is_ordinary_here _ refl refl,
         (
           is_ordinary_here _ refl refl,
-          (is_ordinary_here _ refl refl, (is_ordinary_here _ refl refl, (is_ordinary_here _ refl refl, (is_ordinary_here _ refl refl, tt)))),
+          (
+            is_ordinary_here _ refl refl,
+            (is_ordinary_here _ refl refl, (is_ordinary_here _ refl refl, (is_ordinary_here _ refl refl, (is_ordinary_here _ refl refl, tt)))),
+          ),
         ),
       ),
     ),
   ),
 )
+
+check_is_ordinary_here : (rule : Rule) → arg_by_id check_shape.rules rule.id ≡ Some rule → counts (action_of rule) ≡ false → IsOrdinary check_shape.rules rule
+check_is_ordinary_here rule own once = record { own = own; no_count = once }
+
+check_is_ordinary : Each (IsOrdinary check_shape.rules) check_shape.rules
+check_is_ordinary = (check_is_ordinary_here _ refl refl, (check_is_ordinary_here _ refl refl, (check_is_ordinary_here _ refl refl, tt)))
 
 ever_is_ordinary_here : (rule : Rule) → arg_by_id ever_shape.rules rule.id ≡ Some rule → counts (action_of rule) ≡ false → IsOrdinary ever_shape.rules rule
 ever_is_ordinary_here rule own once = record { own = own; no_count = once }
@@ -204,7 +213,10 @@ ever_is_ordinary = (
   ever_is_ordinary_here _ refl refl,
   (
     ever_is_ordinary_here _ refl refl,
-    (ever_is_ordinary_here _ refl refl, (ever_is_ordinary_here _ refl refl, (ever_is_ordinary_here _ refl refl, tt))),
+    (
+      ever_is_ordinary_here _ refl refl,
+      (ever_is_ordinary_here _ refl refl, (ever_is_ordinary_here _ refl refl, (ever_is_ordinary_here _ refl refl, tt))),
+    ),
   ),
 )
 
@@ -236,6 +248,19 @@ search_fits rows all e = record {
   known = if_some_more _ IsTruthText (one_of (codes "known") rows)
       (λ t read. subst IsTruthText (sym read.is) read.accepted)
       (entry_fits search_shape.rules rows all (codes "known") _ refl);
+  progress = if_some_more _ IsTruthText (one_of (codes "progress") rows)
+      (λ t read. subst IsTruthText (sym read.is) read.accepted)
+      (entry_fits search_shape.rules rows all (codes "progress") _ refl);
+}
+
+check_fits : (rows : List Row) → Each (IsReady check_shape.rules) rows → FitsCheck rows
+check_fits rows all = record {
+  explain = if_some_more _ IsTruthText (one_of (codes "explain") rows)
+      (λ t read. subst IsTruthText (sym read.is) read.accepted)
+      (entry_fits check_shape.rules rows all (codes "explain") _ refl);
+  warn = if_some_more _ IsTruthText (one_of (codes "warn") rows)
+      (λ t read. subst IsTruthText (sym read.is) read.accepted)
+      (entry_fits check_shape.rules rows all (codes "warn") _ refl);
 }
 
 ever_fits : (rows : List Row) → Each (IsReady ever_shape.rules) rows → FitsEver rows
@@ -250,6 +275,9 @@ ever_fits rows all = record {
   strong = if_some_more _ IsTruthText (one_of (codes "strong") rows)
       (λ t read. subst IsTruthText (sym read.is) read.accepted)
       (entry_fits ever_shape.rules rows all (codes "strong") _ refl);
+  progress = if_some_more _ IsTruthText (one_of (codes "progress") rows)
+      (λ t read. subst IsTruthText (sym read.is) read.accepted)
+      (entry_fits ever_shape.rules rows all (codes "progress") _ refl);
 }
 
 -- the subcommand that a word names, given whether it is `search`, `check`, `ever` or `help`
@@ -272,7 +300,9 @@ stop_fits rows (Some p) well below check =
     go true is_check is_ever is_help e under check =
         let left = level_leaves search_shape [] search_is_ordinary p.1 false [] under in
         inl (refl, search_fits _ left.ready left.checked)
-    go false true is_ever is_help e under check = inr (inl refl)
+    go false true is_ever is_help e under check =
+        let left = level_leaves check_shape [] check_is_ordinary p.1 false [] under in
+        inr (inl (refl, check_fits _ left.ready))
     go false false true is_help e under check =
         let left = level_leaves ever_shape [] ever_is_ordinary p.1 false [] under in
         inr (inr (refl, ever_fits _ left.ready))

@@ -1,5 +1,5 @@
 -- Why words make no request, by the kinds of the faults that clap may report for them.
-use Rattle.std.specs.Prelude.{◌≡◌, ◌≢◌, true, List, ⊤}
+use Rattle.std.specs.Prelude.{◌≡◌, ◌≢◌, ◌⊎◌, true, List, ⊤}
 use Rattle.clap.specs.Words.{IsAmong, Text, fault_of, takes}
 use Rattle.clap.specs.declared.error.kind.ErrorKind.{ErrorKind}
 use Rattle.clap.specs.declared.error.kind.ErrorKind.TheVariants as kind
@@ -11,13 +11,17 @@ use Rattle.lotos_command.specs.declared.command.CommandFault.TheVariants.{Help, 
 abbrev pub AreAccepted : List Text → Type 0
 AreAccepted words = takes lotosseq words ≡ true
 
--- the words ask for help: this is one of the kinds of fault that clap may report for them
-abbrev pub AskForHelp : List Text → Type 0
-AskForHelp words = IsAmong kind.DisplayHelp (fault_of lotosseq words)
+-- the kind of fault by which clap answers a request for help or for the version
+abbrev pub IsHelpKind : ErrorKind → Type 0
+IsHelpKind k = (k ≡ kind.DisplayHelp) ⊎ (k ≡ kind.DisplayVersion)
 
--- clap may report a fault of the words whose kind is not that of a request for help
+-- the words ask for help or for the version: this is one of the kinds of fault that clap may report for them
+abbrev pub AskForHelp : List Text → Type 0
+AskForHelp words = (k : ErrorKind) × IsAmong k (fault_of lotosseq words) × IsHelpKind k
+
+-- clap may report a fault of the words whose kind is that of neither request
 abbrev pub AreRejected : List Text → Type 0
-AreRejected words = (k : ErrorKind) × IsAmong k (fault_of lotosseq words) × (k ≢ kind.DisplayHelp)
+AreRejected words = (k : ErrorKind) × IsAmong k (fault_of lotosseq words) × (k ≢ kind.DisplayHelp) × (k ≢ kind.DisplayVersion)
 
 -- the words may have this fault; memory can run out for any words
 abbrev pub IsFaultOf : List Text → CommandFault → Type 0
@@ -27,6 +31,6 @@ IsFaultOf words Memory = ⊤
 
 -- a fault that `request` may return for a clap fault of this kind
 abbrev pub IsFaultOfKind : ErrorKind → CommandFault → Type 0
-IsFaultOfKind k (Help text) = k ≡ kind.DisplayHelp
-IsFaultOfKind k (Wrong text) = (k ≢ kind.DisplayHelp) × (k ≢ kind.OutOfMemory)
+IsFaultOfKind k (Help text) = IsHelpKind k
+IsFaultOfKind k (Wrong text) = (k ≢ kind.DisplayHelp) × (k ≢ kind.DisplayVersion) × (k ≢ kind.OutOfMemory)
 IsFaultOfKind k Memory = ⊤

@@ -64,6 +64,20 @@ known_rule = record (new_rule (codes "known")) {
   action = Some SetTrue;
 }
 
+-- `--progress`
+abbrev pub progress_rule : Rule
+progress_rule = record (new_rule (codes "progress")) {
+  long = Some (codes "progress");
+  action = Some SetTrue;
+}
+
+-- `--warn`
+abbrev pub warn_rule : Rule
+warn_rule = record (new_rule (codes "warn")) {
+  long = Some (codes "warn");
+  action = Some SetTrue;
+}
+
 -- `WORD ..`, any number of words that are no option, in order
 abbrev pub words_rule : Rule
 words_rule = record (new_rule (codes "words")) {
@@ -72,11 +86,11 @@ words_rule = record (new_rule (codes "words")) {
   value_names = 1;
 }
 
--- `search --depth N [--limit N] [--terms N] [--after LINE] [--explain] [--strong] [--known] [WORD ..]`
+-- `search --depth N [--limit N] [--terms N] [--after LINE] [--explain] [--strong] [--known] [--progress] [WORD ..]`
 abbrev pub search_app : App
 search_app =
-    with_rule (with_rule (with_rule (with_rule (with_rule (with_rule (with_rule (with_rule (new_app (codes "search"))
-    depth_rule) limit_rule) terms_rule) after_rule) explain_rule) strong_rule) known_rule) words_rule
+    with_rule (with_rule (with_rule (with_rule (with_rule (with_rule (with_rule (with_rule (with_rule (new_app (codes "search"))
+    depth_rule) limit_rule) terms_rule) after_rule) explain_rule) strong_rule) known_rule) progress_rule) words_rule
 
 -- `--states N`, with a number from 1 to 100,000,000; 1,000,000 if it is not given
 abbrev pub states_rule : Rule
@@ -88,19 +102,20 @@ states_rule = record (new_rule (codes "states")) {
   defaults = codes "1000000" ∷ [];
 }
 
--- `ever [--states N] [--explain] [--strong] [WORD ..]`
+-- `ever [--states N] [--explain] [--strong] [--progress] [WORD ..]`
 abbrev pub ever_app : App
 ever_app =
-    with_rule (with_rule (with_rule (with_rule (new_app (codes "ever")) states_rule) explain_rule) strong_rule) words_rule
+    with_rule (with_rule (with_rule (with_rule (with_rule (new_app (codes "ever"))
+    states_rule) explain_rule) strong_rule) progress_rule) words_rule
 
--- `check`
+-- `check [--explain] [--warn]`
 abbrev pub check_app : App
-check_app = new_app (codes "check")
+check_app = with_rule (with_rule (new_app (codes "check")) explain_rule) warn_rule
 
--- `lotosseq`, which needs one of its subcommands
+-- `lotosseq`, which has a version and needs one of its subcommands
 abbrev pub lotosseq : App
 lotosseq =
     with_subcommand
     (with_subcommand
-    (with_subcommand (on_top (λ s. record s { subcommand_required = true }) (new_app (codes "lotosseq"))) search_app.top)
+    (with_subcommand (on_top (λ s. record s { has_version = true; subcommand_required = true }) (new_app (codes "lotosseq"))) search_app.top)
     check_app.top) ever_app.top

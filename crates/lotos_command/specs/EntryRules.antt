@@ -23,14 +23,22 @@ pub record FitsSearch (rows : List Row) : Type 0 where
   pub explain : IfSome (one_of (codes "explain") rows) IsTruthText
   pub strong : IfSome (one_of (codes "strong") rows) IsTruthText
   pub known : IfSome (one_of (codes "known") rows) IsTruthText
+  pub progress : IfSome (one_of (codes "progress") rows) IsTruthText
 
 -- the number among the entries of `ever` is within its bounds, and the flags can be read
 pub record FitsEver (rows : List Row) : Type 0 where
   pub states : IfSome (one_of (codes "states") rows) (IsNumberIn 1 100000000)
   pub explain : IfSome (one_of (codes "explain") rows) IsTruthText
   pub strong : IfSome (one_of (codes "strong") rows) IsTruthText
+  pub progress : IfSome (one_of (codes "progress") rows) IsTruthText
+
+-- the flags among the entries of `check` can be read
+pub record FitsCheck (rows : List Row) : Type 0 where
+  pub explain : IfSome (one_of (codes "explain") rows) IsTruthText
+  pub warn : IfSome (one_of (codes "warn") rows) IsTruthText
 
 -- `search`, `check` or `ever` was given, and its entries can be read
 abbrev pub FitsRequest : Option (Text × List Row) → Type 0
 FitsRequest None = ⊥
-FitsRequest (Some p) = ((p.0 ≡ codes "search") × FitsSearch p.1) ⊎ ((p.0 ≡ codes "check") ⊎ ((p.0 ≡ codes "ever") × FitsEver p.1))
+FitsRequest (Some p) =
+    ((p.0 ≡ codes "search") × FitsSearch p.1) ⊎ (((p.0 ≡ codes "check") × FitsCheck p.1) ⊎ ((p.0 ≡ codes "ever") × FitsEver p.1))

@@ -1,5 +1,5 @@
 -- The request that the words of the command line make.
-use Rattle.std.specs.Prelude.{◌≡◌, ◌≤◌, ℕ, Bool, false, List, [], map, codes, Option, Some, None, if◌then◌else◌, option_map, option_and_then, unwrap_or, string_bytes, IfSome, ⊤}
+use Rattle.std.specs.Prelude.{◌≡◌, ◌≤◌, ◌||◌, ℕ, Bool, false, List, [], map, codes, Option, Some, None, if◌then◌else◌, option_map, option_and_then, unwrap_or, string_bytes, IfSome, ⊤}
 use Rattle.std.specs.Option.{option_map_or}
 use Rattle.std.specs.Str.{bytes_eq}
 use Rattle.std.specs.Str.Parse.{digits_value, without_leading_plus}
@@ -8,6 +8,7 @@ use Rattle.clap.specs.Words.{Row, Text, all_of, fault_of, first_of, one_of, subc
 use Rattle.lotos_command.specs.CommandRules.{lotosseq}
 use Rattle.lotos_command.specs.declared.command.Request.{Request}
 use Rattle.lotos_command.specs.declared.command.Request.TheVariants as request
+use Rattle.lotos_command.specs.declared.command.DiagnoseRequest.{DiagnoseRequest}
 use Rattle.lotos_command.specs.declared.command.SearchRequest.{SearchRequest}
 use Rattle.lotos_command.specs.declared.command.EverRequest.{EverRequest}
 
@@ -24,6 +25,7 @@ pub record SearchView : Type 0 where
   pub explain : Bool
   pub strong : Bool
   pub known : Bool
+  pub progress : Bool
   pub words : List Text
 
 -- the view of a search for a match of any length: texts for strings
@@ -31,11 +33,13 @@ pub record EverView : Type 0 where
   pub states : ℕ
   pub explain : Bool
   pub strong : Bool
+  pub progress : Bool
   pub words : List Text
 
 -- the view of a request: texts for strings
 pub data RequestView : Type 0 where
   check : RequestView
+  diagnose : DiagnoseRequest → RequestView
   search : SearchView → RequestView
   ever : EverView → RequestView
 
@@ -49,6 +53,7 @@ search_view request = record {
   explain = request.explain;
   strong = request.strong;
   known = request.known;
+  progress = request.progress;
   words = map string_bytes request.words.items;
 }
 
@@ -58,12 +63,14 @@ ever_view request = record {
   states = request.states;
   explain = request.explain;
   strong = request.strong;
+  progress = request.progress;
   words = map string_bytes request.words.items;
 }
 
 -- the view of this request
 abbrev pub request_view : Request → RequestView
 request_view request.Check = check
+request_view (request.Diagnose request) = diagnose request
 request_view (request.Search request) = search (search_view request)
 request_view (request.Ever request) = ever (ever_view request)
 
@@ -85,6 +92,7 @@ search_from rows = option_map (λ depth. record {
   explain = flag (codes "explain") rows;
   strong = flag (codes "strong") rows;
   known = flag (codes "known") rows;
+  progress = flag (codes "progress") rows;
   words = unwrap_or (all_of (codes "words") rows) [];
 }) (one_of (codes "depth") rows)
 
@@ -94,14 +102,23 @@ ever_from rows = record {
   states = option_map_or number (one_of (codes "states") rows) 1000000;
   explain = flag (codes "explain") rows;
   strong = flag (codes "strong") rows;
+  progress = flag (codes "progress") rows;
   words = unwrap_or (all_of (codes "words") rows) [];
 }
+
+-- the check with these diagnostics, or the plain one if it has none
+abbrev pub check_with : DiagnoseRequest → RequestView
+check_with request = if request.explain || request.warn then diagnose request else check
+
+-- the check that the entries of the subcommand `check` make
+abbrev pub check_from : List Row → RequestView
+check_from rows = check_with (record { explain = flag (codes "explain") rows; warn = flag (codes "warn") rows })
 
 -- the request that a subcommand of this name with these entries makes, if it makes one
 abbrev pub request_named : Text → List Row → Option RequestView
 request_named name rows =
     if bytes_eq name (codes "search") then option_map search (search_from rows)
-    else (if bytes_eq name (codes "check") then Some check
+    else (if bytes_eq name (codes "check") then Some (check_from rows)
     else (if bytes_eq name (codes "ever") then Some (ever (ever_from rows)) else None))
 
 -- the request that the given subcommand with its entries makes, if one was given
@@ -126,5 +143,6 @@ pub record HasSearchBounds (request : SearchRequest) : Type 0 where
 -- the bounds of a search, if the request is one; at least one state, if it is a search for a match of any length
 abbrev pub HasBounds : Request → Type 0
 HasBounds request.Check = ⊤
+HasBounds (request.Diagnose request) = ⊤
 HasBounds (request.Search request) = HasSearchBounds request
 HasBounds (request.Ever request) = 1 ≤ request.states

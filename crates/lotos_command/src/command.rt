@@ -7,10 +7,21 @@ use std::alloc::AllocError;
 pub enum Request {
     /// Check a specification and list its processes.
     Check,
+    /// The same, with diagnostics on standard error.
+    Diagnose(DiagnoseRequest),
     /// List the sequences that match a pattern.
     Search(SearchRequest),
     /// Find a shortest match of a pattern, of any length.
     Ever(EverRequest),
+}
+
+/// A request for a check with diagnostics, at least one of them. They change neither output nor status.
+#[derive(Debug, Drop)]
+pub struct DiagnoseRequest {
+    /// Whether a fault is explained.
+    pub explain: bool,
+    /// Whether warnings of an accepted specification are written.
+    pub warn: bool,
 }
 
 /// A request for a listing. Words and lines are as the command line has them, not yet read as a pattern and a mark.
@@ -30,6 +41,8 @@ pub struct SearchRequest {
     pub strong: bool,
     /// Whether a word that names a gate not in the specification's own list is refused.
     pub known: bool,
+    /// Whether standard error tells how far the search is.
+    pub progress: bool,
     /// The words of the pattern.
     pub words: Vec<String>,
 }
@@ -45,6 +58,8 @@ pub struct EverRequest {
     pub explain: bool,
     /// Whether internal steps are observed: `i` is then a label like others.
     pub strong: bool,
+    /// Whether standard error tells how far the search is.
+    pub progress: bool,
     /// The words of the pattern.
     pub words: Vec<String>,
 }
@@ -52,7 +67,7 @@ pub struct EverRequest {
 /// Why the words make no request.
 #[derive(Debug, Drop)]
 pub enum CommandFault {
-    /// The words ask for help, and this is its text.
+    /// The words ask for help or for the version, and this is its text.
     Help(String),
     /// The words fit no command, and this text says why.
     Wrong(String),

@@ -2,15 +2,17 @@
 ghost use Rattle.std.specs.Prelude.{◌≡◌, IfOk, false, codes};
 ghost use Rattle.clap.specs.Words.{app_of, new_app, rule_of};
 ghost use Rattle.clap.specs.declared.builder.command.Command.TheViews.{out-Command as fields_of};
-ghost use Rattle.lotos_command.specs.CommandRules.{after_rule, check_app, depth_rule, ever_app, explain_rule, known_rule, limit_rule, lotosseq, search_app, states_rule, strong_rule, terms_rule, words_rule};
+ghost use Rattle.lotos_command.specs.CommandRules.{after_rule, check_app, depth_rule, ever_app, explain_rule, known_rule, limit_rule, lotosseq, progress_rule, search_app, states_rule, strong_rule, terms_rule, warn_rule, words_rule};
 
 use crate::help::{
-    ABOUT, AFTER_HELP, AFTER_LONG_HELP, CHECK_ABOUT, CHECK_LONG_ABOUT, CHECK_STATUSES, DEPTH_HELP,
-    DEPTH_LONG_HELP, EVER_ABOUT, EVER_EXPLAIN_HELP, EVER_EXPLAIN_LONG_HELP, EVER_LONG_ABOUT,
-    EVER_STATUSES, EVER_STRONG_LONG_HELP, EVER_WORDS_LONG_HELP, EXPLAIN_HELP, EXPLAIN_LONG_HELP,
-    KNOWN_HELP, KNOWN_LONG_HELP, LIMIT_HELP, LIMIT_LONG_HELP, LONG_ABOUT, SEARCH_ABOUT,
+    ABOUT, AFTER_HELP, AFTER_LONG_HELP, CHECK_ABOUT, CHECK_EXPLAIN_HELP, CHECK_EXPLAIN_LONG_HELP,
+    CHECK_LONG_ABOUT, CHECK_STATUSES, DEPTH_HELP, DEPTH_LONG_HELP, EVER_ABOUT, EVER_EXPLAIN_HELP,
+    EVER_EXPLAIN_LONG_HELP, EVER_LONG_ABOUT, EVER_STATUSES, EVER_STRONG_LONG_HELP,
+    EVER_WORDS_LONG_HELP, EXPLAIN_HELP, EXPLAIN_LONG_HELP, KNOWN_HELP, KNOWN_LONG_HELP, LIMIT_HELP,
+    LIMIT_LONG_HELP, LONG_ABOUT, PROGRESS_HELP, PROGRESS_LONG_HELP, SEARCH_ABOUT,
     SEARCH_LONG_ABOUT, SEARCH_STATUSES, STATES_HELP, STATES_LONG_HELP, STATUSES, STRONG_HELP,
-    STRONG_LONG_HELP, TERMS_HELP, TERMS_LONG_HELP, WORDS_HELP, WORDS_LONG_HELP,
+    STRONG_LONG_HELP, TERMS_HELP, TERMS_LONG_HELP, VERSION, WARN_HELP, WARN_LONG_HELP, WORDS_HELP,
+    WORDS_LONG_HELP,
 };
 use clap::{Arg, ArgAction, Command, value_parser};
 use std::alloc::{AllocError, Global};
@@ -22,9 +24,10 @@ pub(crate) fn lotosseq_command<'a>(alloc: Global) -> Result<Command<'a>, AllocEr
         .about(ABOUT)
         .long_about(LONG_ABOUT)
         .after_help(STATUSES)
+        .version(VERSION)
         .subcommand_required(true)
         .subcommand(search_command(alloc)?)?
-        .subcommand(check_command(alloc))?
+        .subcommand(check_command(alloc)?)?
         .subcommand(ever_command(alloc)?)
 }
 
@@ -40,6 +43,7 @@ fn search_command<'a>(alloc: Global) -> Result<Command<'a>, AllocError>
         .arg(explain_arg(alloc, EXPLAIN_HELP, EXPLAIN_LONG_HELP))?
         .arg(strong_arg(alloc, STRONG_LONG_HELP))?
         .arg(known_arg(alloc))?
+        .arg(progress_arg(alloc))?
         .arg(words_arg(alloc, WORDS_LONG_HELP))
 }
 
@@ -53,8 +57,17 @@ fn bare_search_command<'a>(alloc: Global) -> Command<'a>
         .after_help(SEARCH_STATUSES)
 }
 
-fn check_command<'a>(alloc: Global) -> Command<'a>
-    ensures app { app_of result ≡ check_app }
+fn check_command<'a>(alloc: Global) -> Result<Command<'a>, AllocError>
+    ensures app { IfOk result (λ c. app_of c ≡ check_app) }
+    ensures local { IfOk result (λ c. (fields_of c).has_globals ≡ false) }
+{
+    bare_check_command(alloc)
+        .arg(explain_arg(alloc, CHECK_EXPLAIN_HELP, CHECK_EXPLAIN_LONG_HELP))?
+        .arg(warn_arg(alloc))
+}
+
+fn bare_check_command<'a>(alloc: Global) -> Command<'a>
+    ensures app { app_of result ≡ new_app (codes "check") }
     ensures local { (fields_of result).has_globals ≡ false }
 {
     Command::new(alloc, "check")
@@ -71,6 +84,7 @@ fn ever_command<'a>(alloc: Global) -> Result<Command<'a>, AllocError>
         .arg(states_arg(alloc))?
         .arg(explain_arg(alloc, EVER_EXPLAIN_HELP, EVER_EXPLAIN_LONG_HELP))?
         .arg(strong_arg(alloc, EVER_STRONG_LONG_HELP))?
+        .arg(progress_arg(alloc))?
         .arg(words_arg(alloc, EVER_WORDS_LONG_HELP))
 }
 
@@ -182,6 +196,28 @@ fn known_arg<'a>(alloc: Global) -> Arg<'a>
         .action(ArgAction::SetTrue)
         .help(KNOWN_HELP)
         .long_help(KNOWN_LONG_HELP)
+}
+
+fn progress_arg<'a>(alloc: Global) -> Arg<'a>
+    ensures rule { rule_of result ≡ progress_rule }
+    ensures local { result.global ≡ false }
+{
+    Arg::new(alloc, "progress")
+        .long("progress")
+        .action(ArgAction::SetTrue)
+        .help(PROGRESS_HELP)
+        .long_help(PROGRESS_LONG_HELP)
+}
+
+fn warn_arg<'a>(alloc: Global) -> Arg<'a>
+    ensures rule { rule_of result ≡ warn_rule }
+    ensures local { result.global ≡ false }
+{
+    Arg::new(alloc, "warn")
+        .long("warn")
+        .action(ArgAction::SetTrue)
+        .help(WARN_HELP)
+        .long_help(WARN_LONG_HELP)
 }
 
 fn words_arg<'a>(alloc: Global, long_help: &'a str) -> Arg<'a>

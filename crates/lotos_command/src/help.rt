@@ -1,4 +1,7 @@
-//! The help texts.
+//! The help texts, and the version.
+
+/// The version of the program, and the logic with which it is proved.
+pub(crate) const VERSION: &str = "0.1.0 (proved, logic dac8208d650f15bf)";
 
 pub(crate) const ABOUT: &str =
     "Checks a basic LOTOS specification, and lists its observable action sequences";
@@ -44,6 +47,31 @@ pub(crate) const CHECK_STATUSES: &str = "Statuses:
   2  the command or the specification is refused, or cannot be read
   5  memory was wanting
   6  the output cannot be written";
+
+pub(crate) const CHECK_EXPLAIN_HELP: &str = "Explains a fault";
+
+pub(crate) const CHECK_EXPLAIN_LONG_HELP: &str = "Explains a fault
+
+The message of a fault in the specification is followed on standard error by its line
+with a mark under the place, and by what to do; where a word or a sign does not fit,
+also by what is there and what could be there. Output and status stay the same. For
+example, for `behaviour a stop` it has
+  behaviour a stop
+              ^
+  `stop` is a reserved word
+  could be here, among others: `;` `[` `[]` `|[` `||` `|||` `[>` `>>` `where` `endspec`
+  Put what is missing before it, or remove it.";
+
+pub(crate) const WARN_HELP: &str = "Warns of what is allowed and may be a mistake";
+
+pub(crate) const WARN_LONG_HELP: &str = "Warns of what is allowed and may be a mistake
+
+If the specification is accepted, standard error has a line with the place of each
+  process that no call names,
+  gate of the specification or of a process that its behaviour does not use,
+  gate in `|[..]|` that the left side or the right side never offers.
+Output and status stay the same. For example, it warns of the gate `b` of
+  specification S [a,b] : noexit behaviour a; stop endspec";
 
 pub(crate) const SEARCH_ABOUT: &str = "Lists the sequences that match a pattern";
 
@@ -125,6 +153,13 @@ matches. For example, with the specification
   specification S [a] : exit behaviour a; exit endspec
 the command `lotosseq search --depth 2 --known B exit` is refused with
   E49 word 1 is no gate of the specification";
+
+pub(crate) const PROGRESS_HELP: &str = "Tells on standard error how far the search is";
+
+pub(crate) const PROGRESS_LONG_HELP: &str = "Tells on standard error how far the search is
+
+At a terminal this is one line, which is renewed; else a line is written now and then.
+Output and status stay the same.";
 
 pub(crate) const WORDS_HELP: &str = "The words of the pattern: labels and elements";
 

@@ -1,7 +1,8 @@
 //! The command line of `lotosseq`.
 //!
-//! [`request`] reads the words with clap. It returns a [`Request`], or the help that they ask for, or why they fit no
-//! command, or that memory ran out. `specs/CommandRules.antt` describes the command line in clap's own definitions.
+//! [`request`] reads the words with clap. It returns a [`Request`], or the help or the version that they ask for, or why
+//! they fit no command, or that memory ran out. `specs/CommandRules.antt` describes the command line in clap's own
+//! definitions.
 #![tactic(auto)]
 
 mod command;
@@ -9,5 +10,5 @@ mod command_line;
 mod help;
 mod request_reading;
 
-pub use command::{CommandFault, EverRequest, Request, SearchRequest};
+pub use command::{CommandFault, DiagnoseRequest, EverRequest, Request, SearchRequest};
 pub use request_reading::request;

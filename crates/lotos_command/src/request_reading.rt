@@ -3,10 +3,10 @@ ghost use Rattle.std.specs.Prelude.{◌≡◌, ◌≤◌, IfErr, IfOk, IfSome, I
 ghost use Rattle.std.specs.Option.{option_map_or};
 ghost use Rattle.clap.specs.Words.{all_of, first_of, found_of, kind_of, one_of, rows_of, subcommand_rows_of};
 ghost use Rattle.lotos_command.specs.CommandFaults.{AreAccepted, IsFaultOfKind, IsFaultOf};
-ghost use Rattle.lotos_command.specs.EntryRules.{FitsEver, FitsRequest, FitsSearch, IsNumberIn, IsTruthText};
-ghost use Rattle.lotos_command.specs.Request.{HasBounds, HasSearchBounds, RequestOf, ever_from, ever_view, flag, number, request_from, request_view, search_from, search_view, texts_of};
+ghost use Rattle.lotos_command.specs.EntryRules.{FitsCheck, FitsEver, FitsRequest, FitsSearch, IsNumberIn, IsTruthText};
+ghost use Rattle.lotos_command.specs.Request.{HasBounds, HasSearchBounds, RequestOf, check_from, ever_from, ever_view, flag, number, request_from, request_view, search_from, search_view, texts_of};
 
-use crate::command::{CommandFault, EverRequest, Request, SearchRequest};
+use crate::command::{CommandFault, DiagnoseRequest, EverRequest, Request, SearchRequest};
 use crate::command_line::lotosseq_command;
 use clap::error::ErrorKind;
 use clap::{ArgMatches, Error};
@@ -22,8 +22,8 @@ const DEFAULT_STATES: usize = 1_000_000;
 ///
 /// # Errors
 ///
-/// [`CommandFault::Help`] if the words ask for help, [`CommandFault::Wrong`] if they fit no command, and
-/// [`CommandFault::Memory`] if an allocation fails, whatever the words are. Words that clap accepts fail with
+/// [`CommandFault::Help`] if the words ask for help or for the version, [`CommandFault::Wrong`] if they fit no command,
+/// and [`CommandFault::Memory`] if an allocation fails, whatever the words are. Words that clap accepts fail with
 /// [`CommandFault::Memory`] alone.
 pub fn request(alloc: Global, words: &[&str]) -> Result<Request, CommandFault>
     ensures is { IfOk result (λ r. RequestOf (texts_of words.now) (request_view r)) }
@@ -48,7 +48,21 @@ fn read_request(alloc: Global, found: &ArgMatches<'_>) -> Result<Request, AllocE
     } else if name == "ever" {
         Ok(Request::Ever(read_ever_request(alloc, given)?))
     } else {
-        Ok(Request::Check)
+        Ok(read_check_request(given))
+    }
+}
+
+fn read_check_request(found: &ArgMatches<'_>) -> Request
+    requires { FitsCheck (rows_of (found_of found.now)) }
+    ensures is { request_view result ≡ check_from (rows_of (found_of found.now)) }
+    ensures bounds { HasBounds result }
+{
+    let explain = read_explain(found);
+    let warn = read_warn(found);
+    if explain || warn {
+        Request::Diagnose(DiagnoseRequest { explain, warn })
+    } else {
+        Request::Check
     }
 }
 
@@ -65,6 +79,7 @@ fn read_search_request(alloc: Global, found: &ArgMatches<'_>) -> Result<SearchRe
         explain: read_explain(found),
         strong: read_strong(found),
         known: read_known(found),
+        progress: read_progress(found),
         words: read_words(alloc, found)?,
     })
 }
@@ -76,10 +91,12 @@ fn read_ever_request(alloc: Global, found: &ArgMatches<'_>) -> Result<EverReques
 {
     let explain = read_explain(found);
     let strong = read_strong(found);
+    let progress = read_progress(found);
     Ok(EverRequest {
         states: read_states(found),
         explain,
         strong,
+        progress,
         words: read_words(alloc, found)?,
     })
 }
@@ -143,6 +160,20 @@ fn read_known(found: &ArgMatches<'_>) -> bool
     found.get_flag("known")
 }
 
+fn read_progress(found: &ArgMatches<'_>) -> bool
+    requires { IfSome (one_of (codes "progress") (rows_of (found_of found.now))) IsTruthText }
+    ensures { result ≡ flag (codes "progress") (rows_of (found_of found.now)) }
+{
+    found.get_flag("progress")
+}
+
+fn read_warn(found: &ArgMatches<'_>) -> bool
+    requires { IfSome (one_of (codes "warn") (rows_of (found_of found.now))) IsTruthText }
+    ensures { result ≡ flag (codes "warn") (rows_of (found_of found.now)) }
+{
+    found.get_flag("warn")
+}
+
 fn read_words(alloc: Global, found: &ArgMatches<'_>) -> Result<Vec<String>, AllocError>
     ensures { IfOk result
         (λ v. map string_bytes v.items
@@ -172,7 +203,9 @@ fn command_fault(alloc: Global, error: &Error) -> CommandFault
         return CommandFault::Memory;
     }
     match format!(in alloc; "{error}") {
-        Ok(text) if kind == ErrorKind::DisplayHelp => CommandFault::Help(text),
+        Ok(text) if kind == ErrorKind::DisplayHelp || kind == ErrorKind::DisplayVersion => {
+            CommandFault::Help(text)
+        }
         Ok(text) => CommandFault::Wrong(text),
         Err(_) => CommandFault::Memory,
     }

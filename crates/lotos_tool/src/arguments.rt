@@ -6,14 +6,14 @@ ghost use Rattle.lotos_tool.specs.ProgramRuns.{NoArgumentRead, Ran};
 
 use crate::messages::report_failure;
 use crate::outcome::Why;
-use crate::program::run;
+use crate::program::run_with_terminal;
 use crate::request_pattern::borrow_texts;
 use lotos_device::{Sink, Source};
 use std::alloc::{AllocError, Global};
 use std::env::Args;
 use std::io::{self, Write};
 
-/// Runs the command that the arguments of a process ask for, as [`run`] does, and returns the exit status. Arguments
+/// Runs the command that the arguments of a process ask for, as `run` does, and returns the exit status. Arguments
 /// that could not be read, because memory ran out or one of them is not Unicode, are reported as out of memory, with
 /// status 5.
 pub fn run_args<R: Source, W: Sink, E: Write>(
@@ -33,13 +33,35 @@ pub fn run_args<R: Source, W: Sink, E: Write>(
     ensures given { R.given reader.new ≤ R.given reader.old + (max_text_length + 1) }
     ensures output { W.has_failed out.new ≡ (result == 6) }
 {
+    run_args_with_terminal(alloc, args, reader, out, err, false)
+}
+
+/// As [`run_args`], which runs the command as `run_with_terminal` does: `terminal` says whether `err` is a terminal.
+pub fn run_args_with_terminal<R: Source, W: Sink, E: Write>(
+    alloc: Global,
+    args: io::Result<Args>,
+    reader: &mut R,
+    out: &mut W,
+    err: &mut E,
+    terminal: bool,
+) -> u8
+    requires reader { R.has_failed reader.old ≡ false }
+    requires out { W.has_failed out.old ≡ false }
+    ensures ran { MatchResult args
+        (λ words. Ran (map string_bytes (into_iter_items words)) (R.left reader.old) (R.left reader.new)
+        (W.got out.old) (W.got out.new) (R.has_failed reader.new) result)
+        (λ _. NoArgumentRead (R.left reader.old) (R.left reader.new)
+        (W.got out.old) (W.got out.new) (R.has_failed reader.new) result) }
+    ensures given { R.given reader.new ≤ R.given reader.old + (max_text_length + 1) }
+    ensures output { W.has_failed out.new ≡ (result == 6) }
+{
     let Ok(args) = args else {
         return report_no_words(err);
     };
     let Ok(words) = words_of(alloc, args) else {
         return report_no_words(err);
     };
-    run_words(alloc, words.as_slice(), reader, out, err)
+    run_words(alloc, words.as_slice(), reader, out, err, terminal)
 }
 
 /// The arguments as a list.
@@ -60,6 +82,7 @@ fn run_words<R: Source, W: Sink, E: Write>(
     reader: &mut R,
     out: &mut W,
     err: &mut E,
+    terminal: bool,
 ) -> u8
     requires reader { R.has_failed reader.old ≡ false }
     requires out { W.has_failed out.old ≡ false }
@@ -69,7 +92,7 @@ fn run_words<R: Source, W: Sink, E: Write>(
     ensures output { W.has_failed out.new ≡ (result == 6) }
 {
     match borrow_texts(alloc, words) {
-        Ok(texts) => run(alloc, texts.as_slice(), reader, out, err),
+        Ok(texts) => run_with_terminal(alloc, texts.as_slice(), reader, out, err, terminal),
         Err(AllocError) => report_no_words(err),
     }
 }

@@ -9,6 +9,7 @@ ghost use Rattle.lotos_tool.specs.OutputLines.{Item, line_of};
 use crate::outcome::{EverEnded, EverWhy};
 use crate::output_flush::write_and_flush;
 use crate::output_lines::{format_line, format_sequence};
+use crate::progress_report::{OutputProgress, ProgressReport, Visited};
 use crate::refusal::Refusal;
 use crate::request_pattern::read_pattern;
 use crate::specification_input::{Rejection, read_specification};
@@ -17,10 +18,12 @@ use lotos_check::Checked;
 use lotos_command::EverRequest;
 use lotos_device::{DeviceFailed, Sink, Source};
 use lotos_ever::laws::table_has_match_question;
-use lotos_ever::{Found, Halt, find_shortest_match};
+use lotos_ever::{Found, Halt, find_shortest_match_with_progress};
 use lotos_pattern::{Pattern, PatternFault};
+use lotos_search::{NoProgress, Progress};
 use lotos_terms::Table;
 use std::alloc::{AllocError, Global};
+use std::io::Write;
 
 /// Reads a specification and searches it for a derivation, of any number of steps, that matches the request's pattern.
 /// If there is one, the line of one with the fewest steps is written.
@@ -46,6 +49,26 @@ pub fn ever<R: Source, W: Sink>(
     ensures input { R.has_failed reader.new ≡ is_ever_input_fault result }
     ensures output { W.has_failed writer.new ≡ is_ever_output_fault result }
 {
+    ever_with_progress(alloc, request, reader, writer, &mut NoProgress)
+}
+
+/// As [`ever`], with an observer that is told of the product states that the search stores, and of the line before it
+/// is written.
+pub fn ever_with_progress<R: Source, W: Sink, P: OutputProgress>(
+    alloc: Global,
+    request: &EverRequest,
+    reader: &mut R,
+    writer: &mut W,
+    progress: &mut P,
+) -> EverEnded
+    requires reader { R.has_failed reader.old ≡ false }
+    requires writer { W.has_failed writer.old ≡ false }
+    ensures answers { EverOutcome request.now (R.left reader.old) (R.left reader.new)
+        (W.got writer.old) (W.got writer.new) result }
+    ensures given { R.given reader.new ≤ R.given reader.old + (max_text_length + 1) }
+    ensures input { R.has_failed reader.new ≡ is_ever_input_fault result }
+    ensures output { W.has_failed writer.new ≡ is_ever_output_fault result }
+{
     let pattern = match read_pattern(alloc, &request.words, request.strong) {
         Ok(pattern) => pattern,
         Err(fault) => return words_refusal(fault),
@@ -56,28 +79,59 @@ pub fn ever<R: Source, W: Sink>(
         Err(Rejection::Memory) => return EverEnded::Stopped(EverWhy::Memory),
     };
     match first_unknown_gate_of(alloc, &request.words, &found) {
-        Ok(None) => write_match(alloc, request, found, &pattern, writer),
+        Ok(None) => write_match(alloc, request, found, &pattern, writer, progress),
         Ok(Some(number)) => EverEnded::Refused(Refusal::E49(number)),
         Err(AllocError) => EverEnded::Stopped(EverWhy::Memory),
     }
 }
 
+/// As [`ever`]. If the request asks for it, the progress of the search is reported to `err`; `terminal` says whether
+/// that is a terminal.
+pub(crate) fn ever_with_report<R: Source, W: Sink, E: Write>(
+    alloc: Global,
+    request: &EverRequest,
+    reader: &mut R,
+    writer: &mut W,
+    err: &mut E,
+    terminal: bool,
+) -> EverEnded
+    requires reader { R.has_failed reader.old ≡ false }
+    requires writer { W.has_failed writer.old ≡ false }
+    ensures answers { EverOutcome request.now (R.left reader.old) (R.left reader.new)
+        (W.got writer.old) (W.got writer.new) result }
+    ensures given { R.given reader.new ≤ R.given reader.old + (max_text_length + 1) }
+    ensures input { R.has_failed reader.new ≡ is_ever_input_fault result }
+    ensures output { W.has_failed writer.new ≡ is_ever_output_fault result }
+{
+    if !request.progress {
+        return ever(alloc, request, reader, writer);
+    }
+    let mut report = ProgressReport::new(err, terminal, Visited::States);
+    let ended = ever_with_progress(alloc, request, reader, writer, &mut report);
+    report.clear();
+    ended
+}
+
 /// Searches an accepted specification for a match, writes the line of the first of the shortest ones if there is one,
 /// and flushes the output. Nothing is flushed if the search stops.
-fn write_match<W: Sink>(
+fn write_match<W: Sink, P: OutputProgress>(
     alloc: Global,
     request: &EverRequest,
     found: Checked,
     pattern: &Pattern,
     writer: &mut W,
+    progress: &mut P,
 ) -> EverEnded
     requires { W.has_failed writer.old ≡ false }
     ensures outcome { IsOutcomeFor request.now (system_of found) pattern.now
         (W.got writer.old) (W.got writer.new) result }
     ensures failed { W.has_failed writer.new ≡ is_ever_output_fault result }
 {
-    match find_match_line(alloc, request, found, pattern) {
-        Ok(Some(line)) => write_line(writer, line.as_slice()),
+    match find_match_line(alloc, request, found, pattern, progress) {
+        Ok(Some(line)) => {
+            progress.write_line();
+            write_line(writer, line.as_slice())
+        }
         Ok(None) => end_without_match(writer),
         Err(Halt::TooManyStates) => EverEnded::Stopped(EverWhy::TooManyStates),
         Err(Halt::Memory) => EverEnded::Stopped(EverWhy::Memory),
@@ -85,11 +139,12 @@ fn write_match<W: Sink>(
 }
 
 /// The line of the first of the shortest matches, or `None` if there is no match of any length.
-fn find_match_line(
+fn find_match_line<P: Progress>(
     alloc: Global,
     request: &EverRequest,
     found: Checked,
     pattern: &Pattern,
+    progress: &mut P,
 ) -> Result<Option<Vec<u8>>, Halt>
     ensures line { IfOk result (HasLine request.now (system_of found) pattern.now) }
     ensures none { IfErr result (HasNoLine request.now (system_of found) pattern.now) }
@@ -98,7 +153,7 @@ fn find_match_line(
     let mut table = Table::new(alloc, found)?;
     // The contract of `start`: the table is sound.
     let _ = table.start();
-    match find_shortest_match(alloc, &mut table, pattern, request.states)? {
+    match find_shortest_match_with_progress(alloc, &mut table, pattern, request.states, progress)? {
         Some(found) => Ok(Some(format_match(alloc, &table, &found, request.explain)?)),
         None => Ok(None),
     }

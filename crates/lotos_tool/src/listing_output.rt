@@ -13,6 +13,7 @@ ghost use Rattle.lotos_tool.specs.WriteFaults.{is_write_fault};
 use crate::outcome::{Ended, Why};
 use crate::output_flush::{flush_complete, flush_stopped};
 use crate::output_lines::{format_line, format_sequence};
+use crate::progress_report::OutputProgress;
 use lotos_command::SearchRequest;
 use lotos_device::{DeviceFailed, Sink, write_bytes};
 use lotos_search::laws::items_decrease_remaining;
@@ -21,12 +22,14 @@ use lotos_terms::Label;
 use std::alloc::{AllocError, Global};
 
 /// Writes the line of each item as the search returns it, until the listing ends or stops. The search must not have
-/// ended or halted. One flush follows a listing that ends, or stops at the limit or at an oversized prefix.
-pub fn write_listing<W: Sink>(
+/// ended or halted. One flush follows a listing that ends, or stops at the limit or at an oversized prefix. The observer
+/// is told of each prefix that the search visits, and of each line before it is written.
+pub fn write_listing<W: Sink, P: OutputProgress>(
     alloc: Global,
     request: &SearchRequest,
     search: &mut Search,
     writer: &mut W,
+    progress: &mut P,
 ) -> Ended
     requires begun { search.old.stage ≡ running }
     requires limit { IfSome request.now.limit (λ n. 1 ≤ n) }
@@ -39,7 +42,7 @@ pub fn write_listing<W: Sink>(
     let mut last = None;
     let mut lines: u64 = 0;
     loop {
-        let found = match search.next() {
+        let found = match search.next_with_progress(progress) {
             Ok(Some(found)) => found,
             Ok(None) => return flush_complete(writer, last, lines),
             Err(halt) => {
@@ -47,6 +50,7 @@ pub fn write_listing<W: Sink>(
                 return Ended::Stopped { last, why };
             }
         };
+        progress.write_line();
         match write_item(alloc, search, &found, request.explain, writer) {
             Ok(text) => last = Some(text),
             Err(why) => return Ended::Stopped { last, why },

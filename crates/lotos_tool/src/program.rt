@@ -7,13 +7,13 @@ ghost use Rattle.lotos_command.specs.Request.{texts_of};
 ghost use Rattle.lotos_tool.specs.ProgramRuns.{HelpWritten, IsAnswerTo, Ran, check_status_of, ever_status_of, ever_stop_status_of, status_of, stop_status_of};
 
 use crate::check_command::check_text;
-use crate::ever_command::ever;
+use crate::ever_command::ever_with_report;
 use crate::messages::{
     report_ever_stop, report_failure, report_no_match, report_refusal, report_stop, report_text,
 };
 use crate::outcome::{Ended, EverEnded, EverWhy, Why};
 use crate::output_flush::write_and_flush;
-use crate::search_command::list;
+use crate::search_command::list_with_report;
 use lotos_command::{CommandFault, Request, request};
 use lotos_device::{DeviceFailed, Sink, Source};
 use std::alloc::Global;
@@ -41,15 +41,34 @@ pub fn run<R: Source, W: Sink, E: Write>(
     ensures given { R.given reader.new ≤ R.given reader.old + (max_text_length + 1) }
     ensures output { W.has_failed out.new ≡ (result == 6) }
 {
+    run_with_terminal(alloc, words, reader, out, err, false)
+}
+
+/// As [`run`]. `terminal` says whether `err` is a terminal: there a report of progress is one line, which is renewed.
+pub fn run_with_terminal<R: Source, W: Sink, E: Write>(
+    alloc: Global,
+    words: &[&str],
+    reader: &mut R,
+    out: &mut W,
+    err: &mut E,
+    terminal: bool,
+) -> u8
+    requires reader { R.has_failed reader.old ≡ false }
+    requires out { W.has_failed out.old ≡ false }
+    ensures ran { Ran (texts_of words.now) (R.left reader.old) (R.left reader.new)
+        (W.got out.old) (W.got out.new) (R.has_failed reader.new) result }
+    ensures given { R.given reader.new ≤ R.given reader.old + (max_text_length + 1) }
+    ensures output { W.has_failed out.new ≡ (result == 6) }
+{
     match request(alloc, words) {
         Ok(Request::Check) => report_check(&check_text(alloc, reader, out), err),
         Ok(Request::Search(search)) => report_search(
-            &list(alloc, &search, reader, out),
+            &list_with_report(alloc, &search, reader, out, err, terminal),
             search.terms,
             err,
         ),
         Ok(Request::Ever(question)) => report_ever(
-            &ever(alloc, &question, reader, out),
+            &ever_with_report(alloc, &question, reader, out, err, terminal),
             question.states,
             err,
         ),

@@ -12,6 +12,7 @@ ghost use Rattle.lotos_tool.specs.declared.outcome.Why.TheVariants.{Memory};
 
 use crate::listing_output::write_listing;
 use crate::outcome::{Ended, Why};
+use crate::progress_report::{OutputProgress, ProgressReport, Visited};
 use crate::refusal::Refusal;
 use crate::request_pattern::read_pattern;
 use crate::specification_input::{Rejection, read_specification};
@@ -20,9 +21,10 @@ use lotos_check::Checked;
 use lotos_command::SearchRequest;
 use lotos_device::{Sink, Source};
 use lotos_pattern::{Pattern, PatternFault};
-use lotos_search::{Mark, MarkFault, Search};
+use lotos_search::{Mark, MarkFault, NoProgress, Search};
 use lotos_terms::Table;
 use std::alloc::{AllocError, Global};
+use std::io::Write;
 
 /// Reads a specification and writes the listing of its sequences that match the request's pattern: what is observed of
 /// its derivations of at most the request's depth of steps, each sequence once, shorter ones first, then in the order
@@ -41,6 +43,27 @@ pub fn list<R: Source, W: Sink>(
     request: &SearchRequest,
     reader: &mut R,
     writer: &mut W,
+) -> Ended
+    requires bounds { HasSearchBounds request.now }
+    requires reader { R.has_failed reader.old ≡ false }
+    requires writer { W.has_failed writer.old ≡ false }
+    ensures answers { SearchOutcome request.now (R.left reader.old) (R.left reader.new)
+        (W.got writer.old) (W.got writer.new) result }
+    ensures given { R.given reader.new ≤ R.given reader.old + (max_text_length + 1) }
+    ensures input { R.has_failed reader.new ≡ is_input_fault result }
+    ensures output { W.has_failed writer.new ≡ is_output_fault result }
+{
+    list_with_progress(alloc, request, reader, writer, &mut NoProgress)
+}
+
+/// As [`list`], with an observer that is told of each prefix that the search visits, and of each line before it is
+/// written.
+pub fn list_with_progress<R: Source, W: Sink, P: OutputProgress>(
+    alloc: Global,
+    request: &SearchRequest,
+    reader: &mut R,
+    writer: &mut W,
+    progress: &mut P,
 ) -> Ended
     requires bounds { HasSearchBounds request.now }
     requires reader { R.has_failed reader.old ≡ false }
@@ -70,9 +93,37 @@ pub fn list<R: Source, W: Sink>(
         Err(AllocError) => return out_of_memory(),
     }
     match begin_search(alloc, request, found, pattern, mark) {
-        Ok(mut search) => write_listing(alloc, request, &mut search, writer),
+        Ok(mut search) => write_listing(alloc, request, &mut search, writer, progress),
         Err(AllocError) => out_of_memory(),
     }
+}
+
+/// As [`list`]. If the request asks for it, the progress of the search is reported to `err`; `terminal` says whether
+/// that is a terminal.
+pub(crate) fn list_with_report<R: Source, W: Sink, E: Write>(
+    alloc: Global,
+    request: &SearchRequest,
+    reader: &mut R,
+    writer: &mut W,
+    err: &mut E,
+    terminal: bool,
+) -> Ended
+    requires bounds { HasSearchBounds request.now }
+    requires reader { R.has_failed reader.old ≡ false }
+    requires writer { W.has_failed writer.old ≡ false }
+    ensures answers { SearchOutcome request.now (R.left reader.old) (R.left reader.new)
+        (W.got writer.old) (W.got writer.new) result }
+    ensures given { R.given reader.new ≤ R.given reader.old + (max_text_length + 1) }
+    ensures input { R.has_failed reader.new ≡ is_input_fault result }
+    ensures output { W.has_failed writer.new ≡ is_output_fault result }
+{
+    if !request.progress {
+        return list(alloc, request, reader, writer);
+    }
+    let mut report = ProgressReport::new(err, terminal, Visited::Prefixes);
+    let ended = list_with_progress(alloc, request, reader, writer, &mut report);
+    report.clear();
+    ended
 }
 
 /// The mark of the request's line, if one is given.

@@ -1,5 +1,5 @@
 //! Tests of searches through public items: tables of listings, marks, small specifications against two oracles, first
-//! matches, and the examples of `uses`.
+//! matches, what observers are told, and the examples of `uses`.
 //!
 //! They are a crate of their own, because a crate with tests inside is proved twice, and one crate, because each that
 //! runs tests is linked with all libraries below.
@@ -29,6 +29,8 @@ mod match_tests;
 mod oracle_comparison;
 #[cfg(test)]
 mod pattern_matching_tests;
+#[cfg(test)]
+mod progress_tests;
 #[cfg(test)]
 mod resumed_listing_tests;
 #[cfg(test)]

@@ -1,7 +1,8 @@
 //! First matches in small specifications.
 
 use super::accepted_text::{joined, table_of_text};
-use lotos_ever::{Found, Halt, find_shortest_match};
+use super::progress_tests::NONE;
+use lotos_ever::{Found, Halt, find_shortest_match, find_shortest_match_with_progress};
 use lotos_pattern::Pattern;
 use lotos_terms::{Label, Table};
 use std::alloc::Global;
@@ -361,12 +362,30 @@ fn search(
     find_shortest_match(alloc, table, pattern, states)
 }
 
-fn has_answer_in(alloc: Global, table: &mut Table, row: Row) -> Result<bool, Fail> {
-    let pattern = Pattern::read(alloc, row.words, row.strong)?;
-    Ok(is_answer(search(alloc, table, &pattern, row.states), row.answer))
+/// What the same search returns with an observer.
+fn observed_search(
+    alloc: Global,
+    table: &mut Table,
+    pattern: &Pattern,
+    states: usize,
+) -> Result<Option<Found>, Halt> {
+    let mut visits = NONE;
+    find_shortest_match_with_progress(alloc, table, pattern, states, &mut visits)
 }
 
-fn boxed_table(alloc: Global, behaviour: &str) -> Result<Box<Table>, Fail> {
+fn has_answer_in(alloc: Global, table: &mut Table, row: Row) -> Result<bool, Fail> {
+    let pattern = Pattern::read(alloc, row.words, row.strong)?;
+    Ok(
+        is_answer(search(alloc, table, &pattern, row.states), row.answer)
+            && is_answer(
+                observed_search(alloc, table, &pattern, row.states),
+                row.answer,
+            ),
+    )
+}
+
+/// The table of a specification, given by its functionality and its behaviour.
+pub fn boxed_table(alloc: Global, behaviour: &str) -> Result<Box<Table>, Fail> {
     Ok(Box::new(alloc, table_of(alloc, behaviour)?)?)
 }
 

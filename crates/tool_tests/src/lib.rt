@@ -36,6 +36,8 @@ mod output_failures;
 #[cfg(test)]
 mod program_run;
 #[cfg(test)]
+mod progress_runs;
+#[cfg(test)]
 mod search_runs;
 #[cfg(test)]
 mod text_input_tests;

@@ -19,11 +19,13 @@ returns-clause-app c =
     let one = adds _ _ _ _ _ c.in_ok-arg.ensures c.bare_ever_command.ensures.app c.states_arg.ensures.rule c.states_arg.ensures.local in
     let two = adds _ _ _ _ _ c.in_ok-arg-2.ensures one c.explain_arg.ensures.rule c.explain_arg.ensures.local in
     let three = adds _ _ _ _ _ c.in_ok-arg-3.ensures two c.strong_arg.ensures.rule c.strong_arg.ensures.local in
-    IfOk-weaker c.arg-4.result _ _ (λ m h. adds _ _ _ _ _ h three c.words_arg.ensures.rule c.words_arg.ensures.local) c.arg-4.ensures
+    let four = adds _ _ _ _ _ c.in_ok-arg-4.ensures three c.progress_arg.ensures.rule c.progress_arg.ensures.local in
+    IfOk-weaker c.arg-5.result _ _ (λ m h. adds _ _ _ _ _ h four c.words_arg.ensures.rule c.words_arg.ensures.local) c.arg-5.ensures
 
 pub returns-clause-local : goal.returns-clause-local
 returns-clause-local c =
     let one = stays_local _ _ _ c.in_ok-arg.ensures c.bare_ever_command.ensures.local c.states_arg.ensures.local in
     let two = stays_local _ _ _ c.in_ok-arg-2.ensures one c.explain_arg.ensures.local in
     let three = stays_local _ _ _ c.in_ok-arg-3.ensures two c.strong_arg.ensures.local in
-    IfOk-weaker c.arg-4.result _ _ (λ m h. stays_local _ _ _ h three c.words_arg.ensures.local) c.arg-4.ensures
+    let four = stays_local _ _ _ c.in_ok-arg-4.ensures three c.progress_arg.ensures.local in
+    IfOk-weaker c.arg-5.result _ _ (λ m h. stays_local _ _ _ h four c.words_arg.ensures.local) c.arg-5.ensures

@@ -7,7 +7,7 @@ use Rattle.clap.specs.declared.builder.command.Command.TheViews.{out-Command}
 use Rattle.lotos_command.proofs.command_line.lotosseq_command.Goals as goal
 
 abbrev bare_app : App
-bare_app = on_top (λ s. record s { subcommand_required = true }) (new_app (codes "lotosseq"))
+bare_app = on_top (λ s. record s { has_version = true; subcommand_required = true }) (new_app (codes "lotosseq"))
 
 -- adding a subcommand adds its app
 adds : (old sub new : Command) (app its : App) → AddsSubcommand old sub new → app_of old ≡ app → app_of sub ≡ its → (out-Command sub).has_globals ≡ false
@@ -18,5 +18,5 @@ pub returns : goal.returns
 returns c =
     let bare : app_of c.subcommand_required.result ≡ bare_app = search rules in
     let one = adds _ _ _ _ _ c.in_ok-subcommand.ensures bare c.in_ok-search_command.ensures.app c.in_ok-search_command.ensures.local in
-    let two = adds _ _ _ _ _ c.in_ok-subcommand-2.ensures one c.check_command.ensures.app c.check_command.ensures.local in
+    let two = adds _ _ _ _ _ c.in_ok-subcommand-2.ensures one c.in_ok-check_command.ensures.app c.in_ok-check_command.ensures.local in
     IfOk-weaker c.subcommand-3.result _ _ (λ m h. adds _ _ _ _ _ h two c.in_ok-ever_command.ensures.app c.in_ok-ever_command.ensures.local) c.subcommand-3.ensures

@@ -23,7 +23,8 @@ returns-clause-app c =
     let five = adds _ _ _ _ _ c.in_ok-arg-5.ensures four c.explain_arg.ensures.rule c.explain_arg.ensures.local in
     let six = adds _ _ _ _ _ c.in_ok-arg-6.ensures five c.strong_arg.ensures.rule c.strong_arg.ensures.local in
     let seven = adds _ _ _ _ _ c.in_ok-arg-7.ensures six c.known_arg.ensures.rule c.known_arg.ensures.local in
-    IfOk-weaker c.arg-8.result _ _ (λ m h. adds _ _ _ _ _ h seven c.words_arg.ensures.rule c.words_arg.ensures.local) c.arg-8.ensures
+    let eight = adds _ _ _ _ _ c.in_ok-arg-8.ensures seven c.progress_arg.ensures.rule c.progress_arg.ensures.local in
+    IfOk-weaker c.arg-9.result _ _ (λ m h. adds _ _ _ _ _ h eight c.words_arg.ensures.rule c.words_arg.ensures.local) c.arg-9.ensures
 
 pub returns-clause-local : goal.returns-clause-local
 returns-clause-local c =
@@ -34,4 +35,5 @@ returns-clause-local c =
     let five = stays_local _ _ _ c.in_ok-arg-5.ensures four c.explain_arg.ensures.local in
     let six = stays_local _ _ _ c.in_ok-arg-6.ensures five c.strong_arg.ensures.local in
     let seven = stays_local _ _ _ c.in_ok-arg-7.ensures six c.known_arg.ensures.local in
-    IfOk-weaker c.arg-8.result _ _ (λ m h. stays_local _ _ _ h seven c.words_arg.ensures.local) c.arg-8.ensures
+    let eight = stays_local _ _ _ c.in_ok-arg-8.ensures seven c.progress_arg.ensures.local in
+    IfOk-weaker c.arg-9.result _ _ (λ m h. stays_local _ _ _ h eight c.words_arg.ensures.local) c.arg-9.ensures

@@ -9,7 +9,7 @@ use Rattle.lotos_tool.proofs.MatchOutcomes.{handed_on, shown_now}
 use Rattle.lotos_tool.proofs.ever_command.find_match_line.Goals as goal
 
 pub returns-in_err-found-clause-none : goal.returns-in_err-found-clause-none
-returns-in_err-found-clause-none c =
+returns-in_err-found-clause-none g c =
     let halt = err_from_is_err_and c.from_residual-in_err-found.result c.from_residual-in_err-found.ensures.1 in
     let p = c.args.pattern.now in
     let q = match_question_of c.in_ok-table.table p in
@@ -20,14 +20,14 @@ returns-in_err-found-clause-none c =
     handed_on _ c.in_err-found.field-0.0 c.args.request.now (system_of c.args.found) p q (halt.1 ∙ ap (λ v. Err v) halt.2) asked c.in_err-found.ensures.too_many_states
 
 pub format_match-requires : goal.format_match-requires
-format_match-requires c =
+format_match-requires g c =
     let p = c.args.pattern.now in
     let q = match_question_of c.in_ok-table.table p in
     let found : IsFound q c.in-Some.found = subst (IsAnswer q) c.in-Some.is c.in_ok-found.ensures.answer in
-    record { printed = (item_of q found.word, shown_now c.in_ok-table.table c.find_shortest_match.new.table p c.in-Some.found c.in_ok-found.ensures.grows found) }
+    record { printed = (item_of q found.word, shown_now c.in_ok-table.table c.find_shortest_match_with_progress.new.table p c.in-Some.found c.in_ok-found.ensures.grows found) }
 
 pub returns-in-Some-clause-line : goal.returns-in-Some-clause-line
-returns-in-Some-clause-line c =
+returns-in-Some-clause-line g c =
     let p = c.args.pattern.now in
     let q = match_question_of c.in_ok-table.table p in
     let found : IsFound q c.in-Some.found = subst (IsAnswer q) c.in-Some.is c.in_ok-found.ensures.answer in
@@ -35,11 +35,11 @@ returns-in-Some-clause-line c =
       question = c.table_has_match_question.ensures (system_of c.args.found) c.in_ok-table.table p c.in_ok-table.ensures c.start.ensures.sound;
       pattern = refl;
     } in
-    let shown = shown_now c.in_ok-table.table c.find_shortest_match.new.table p c.in-Some.found c.in_ok-found.ensures.grows found in
+    let shown = shown_now c.in_ok-table.table c.find_shortest_match_with_progress.new.table p c.in-Some.found c.in_ok-found.ensures.grows found in
     (q, asked, (found.word, found.first, c.in_ok-format_match-in-Some.ensures (item_of q found.word) shown))
 
 pub returns-clause-line : goal.returns-clause-line
-returns-clause-line c =
+returns-clause-line g c =
     let p = c.args.pattern.now in
     let q = match_question_of c.in_ok-table.table p in
     let asked : IsEverQuestionFor (system_of c.args.found) p q = record {

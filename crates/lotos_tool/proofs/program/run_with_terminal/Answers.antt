@@ -12,7 +12,7 @@ use Rattle.lotos_tool.specs.declared.outcome.EverEnded.{EverEnded}
 use Rattle.lotos_command.specs.declared.command.EverRequest.{EverRequest}
 use Rattle.lotos_command.specs.declared.command.SearchRequest.{SearchRequest}
 use Rattle.lotos_tool.proofs.UnreadWords.{answered}
-use Rattle.lotos_tool.proofs.program.run.Goals as goal
+use Rattle.lotos_tool.proofs.program.run_with_terminal.Goals as goal
 
 module _ (words : List (List ℕ)) (left left' got got' : Option (List ℕ)) (broken : Bool) (status : ℕ) where
   searched : (asked : Request) (request : SearchRequest) (ended : Ended) → SearchOutcome request left left' got got' ended → broken ≡ is_input_fault ended
@@ -37,7 +37,7 @@ module _ (words : List (List ℕ)) (left left' got got' : Option (List ℕ)) (br
 
 pub returns-in-Ok-Ever-clause-ran : goal.returns-in-Ok-Ever-clause-ran
 returns-in-Ok-Ever-clause-ran g c =
-    inr (inr (inl (questioned _ _ _ _ _ _ _ c.in-Ok-Ever.field-0 _ c.ever.result c.ever.ensures.answers c.ever.ensures.input c.report_ever.ensures.status (search rules) c.in-Ok-Ever.ensures.is)))
+    inr (inr (inl (questioned _ _ _ _ _ _ _ c.in-Ok-Ever.field-0 _ c.ever_with_report.result c.ever_with_report.ensures.answers c.ever_with_report.ensures.input c.report_ever.ensures.status (search rules) c.in-Ok-Ever.ensures.is)))
 
 pub returns-in-Ok-Check-clause-ran : goal.returns-in-Ok-Check-clause-ran
 returns-in-Ok-Check-clause-ran g c =
@@ -45,7 +45,7 @@ returns-in-Ok-Check-clause-ran g c =
 
 pub returns-in-Ok-Search-clause-ran : goal.returns-in-Ok-Search-clause-ran
 returns-in-Ok-Search-clause-ran g c =
-    inl (searched _ _ _ _ _ _ _ c.in-Ok-Search.field-0 _ c.list.result c.list.ensures.answers c.list.ensures.input c.report_search.ensures.status (search rules) c.in-Ok-Search.ensures.is)
+    inl (searched _ _ _ _ _ _ _ c.in-Ok-Search.field-0 _ c.list_with_report.result c.list_with_report.ensures.answers c.list_with_report.ensures.input c.report_search.ensures.status (search rules) c.in-Ok-Search.ensures.is)
 
 pub returns-in-Err-clause-ran : goal.returns-in-Err-clause-ran
 returns-in-Err-clause-ran g c =

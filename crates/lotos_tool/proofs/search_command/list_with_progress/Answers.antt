@@ -1,7 +1,7 @@
 use Rattle.std.proofs.Common.{sym, ◌∙◌}
 use Rattle.lotos_check.specs.CheckedView.{system_of}
 use Rattle.lotos_tool.proofs.SearchSetup.{answered, asks, mark_refused, no_input_fault, unknown_refused}
-use Rattle.lotos_tool.proofs.search_command.list.Goals as goal
+use Rattle.lotos_tool.proofs.search_command.list_with_progress.Goals as goal
 
 pub returns-in-Ok-begin_search-clause-answers : goal.returns-in-Ok-begin_search-clause-answers
 returns-in-Ok-begin_search-clause-answers g c =

@@ -1,7 +1,7 @@
 use Rattle.std.proofs.Common.{◌∙◌, sym}
 use Rattle.lotos_check.specs.CheckedView.{system_of}
 use Rattle.lotos_tool.proofs.EverOutcomes.{foreign_answered, told_answered, told_was_read}
-use Rattle.lotos_tool.proofs.ever_command.ever.Goals as goal
+use Rattle.lotos_tool.proofs.ever_command.ever_with_progress.Goals as goal
 
 pub returns-in-Ok-None-clause-answers : goal.returns-in-Ok-None-clause-answers
 returns-in-Ok-None-clause-answers g c =

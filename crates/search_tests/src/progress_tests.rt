@@ -1,0 +1,283 @@
+//! What searches tell their observers.
+use super::listing_run::{Question, begin};
+use super::match_tests::boxed_table;
+use lotos_ever::find_shortest_match_with_progress;
+use lotos_pattern::Pattern;
+use lotos_search::{Found, Halt, NoProgress, Progress, Search};
+use lotos_terms::Table;
+use std::alloc::Global;
+use std::process::Abort;
+use std::test::Fail;
+
+/// An observer that counts.
+#[derive(Clone, Copy, Debug, PartialEq, Eq)]
+pub struct Visits {
+    pub count: usize,
+    /// The sum of the lengths.
+    pub lengths: usize,
+    pub longest: usize,
+}
+
+/// Before the first visit.
+pub const NONE: Visits = Visits {
+    count: 0,
+    lengths: 0,
+    longest: 0,
+};
+
+impl Progress for Visits {
+    fn visit(&mut self, length: usize) {
+        self.count = self.count.saturating_add(1);
+        self.lengths = self.lengths.saturating_add(length);
+        self.longest = self.longest.max(length);
+    }
+}
+
+/// A listing and what its search visits, worked out by hand: for each length up to the depth in turn, the prefixes of
+/// the tree up to that length.
+const LISTINGS: &[(Question, Visits)] = &[
+    // The empty prefix alone.
+    (
+        Question {
+            behaviour: "noexit behaviour i; i; a; stop",
+            words: &["A"],
+            strong: false,
+            depth: 2,
+            mark: None,
+            terms: 10,
+        },
+        NONE,
+    ),
+    // A and B; A, A B, B and B A.
+    (
+        Question {
+            behaviour: "noexit behaviour a; stop ||| b; stop",
+            words: &["<until>", "<deadlock>"],
+            strong: false,
+            depth: 2,
+            mark: None,
+            terms: 10,
+        },
+        Visits {
+            count: 6,
+            lengths: 8,
+            longest: 2,
+        },
+    ),
+    // A; A and A B; A and A B, which cannot go on.
+    (
+        Question {
+            behaviour: "noexit behaviour a; b; b; stop",
+            words: &["<until>", "B"],
+            strong: false,
+            depth: 3,
+            mark: None,
+            terms: 10,
+        },
+        Visits {
+            count: 5,
+            lengths: 7,
+            longest: 2,
+        },
+    ),
+    // The same sequences after a mark: nothing is skipped.
+    (
+        Question {
+            behaviour: "noexit behaviour a; stop ||| b; stop",
+            words: &["<until>", "<deadlock>"],
+            strong: false,
+            depth: 2,
+            mark: Some("A B"),
+            terms: 10,
+        },
+        Visits {
+            count: 6,
+            lengths: 8,
+            longest: 2,
+        },
+    ),
+    // A, and B, which reaches two terms: it is told of before its set is made.
+    (
+        Question {
+            behaviour: "noexit behaviour a; stop [] b; stop [] b; a; stop",
+            words: &["<any>"],
+            strong: false,
+            depth: 1,
+            mark: None,
+            terms: 1,
+        },
+        Visits {
+            count: 2,
+            lengths: 2,
+            longest: 1,
+        },
+    ),
+    // A and B; A, A C, B and B C; A, A C, A C C and B, below which no more is looked for, as B reaches what A does; and
+    // the same once more.
+    (
+        Question {
+            behaviour: "noexit behaviour a; c; c; stop [] b; c; c; stop",
+            words: &["<any>", "<any>", "<any>", "<any>"],
+            strong: false,
+            depth: 4,
+            mark: None,
+            terms: 10,
+        },
+        Visits {
+            count: 14,
+            lengths: 22,
+            longest: 3,
+        },
+    ),
+];
+
+/// Whether two calls return the same.
+fn are_same(left: &Result<Option<Found>, Halt>, right: &Result<Option<Found>, Halt>) -> bool {
+    match (left, right) {
+        (Ok(Some(one)), Ok(Some(other))) => {
+            one.sequence.as_slice() == other.sequence.as_slice()
+                && one.word.as_slice() == other.word.as_slice()
+        }
+        (Ok(None), Ok(None)) => true,
+        (Err(Halt::OverTerms(one)), Err(Halt::OverTerms(other))) => {
+            one.as_slice() == other.as_slice()
+        }
+        (Err(Halt::Failed), Err(Halt::Failed)) => true,
+        _ => false,
+    }
+}
+
+/// Whether the first calls of two searches return the same, with an observer and without one.
+fn return_same<P: Progress>(plain: &mut Search, observed: &mut Search, progress: &mut P) -> bool {
+    for _ in 0..8 {
+        if !are_same(&plain.next(), &observed.next_with_progress(progress)) {
+            return false;
+        }
+    }
+    true
+}
+
+/// What an observed search of the question visits, if it returns the same as one without an observer.
+fn visits_of(alloc: Global, question: Question) -> Result<Option<Visits>, Fail> {
+    let mut plain = begin(alloc, question)?;
+    let mut observed = begin(alloc, question)?;
+    let mut visits = NONE;
+    if return_same(&mut plain, &mut observed, &mut visits) {
+        Ok(Some(visits))
+    } else {
+        Ok(None)
+    }
+}
+
+fn assert_visits(rt: &impl Abort, question: Question, found: Option<Visits>, expected: Visits) {
+    assert_eq!(rt;
+        found,
+        Some(expected),
+        "{}: {:?}, depth {}, after {:?}",
+        question.behaviour,
+        question.words,
+        question.depth,
+        question.mark
+    );
+}
+
+#[test]
+fn observed_searches_return_the_same_and_visit_these_prefixes(rt: HostRuntime) -> Result<(), Fail> {
+    for (question, expected) in LISTINGS {
+        let found = visits_of(rt.alloc(), *question)?;
+        assert_visits(&rt, *question, found, *expected);
+    }
+    Ok(())
+}
+
+#[test]
+fn a_silent_observer_changes_nothing(rt: HostRuntime) -> Result<(), Fail> {
+    for (question, _) in LISTINGS {
+        let mut plain = begin(rt.alloc(), *question)?;
+        let mut observed = begin(rt.alloc(), *question)?;
+        assert!(rt; return_same(&mut plain, &mut observed, &mut NoProgress));
+    }
+    Ok(())
+}
+
+/// A question for a match of any length, and the states that its search stores, worked out by hand.
+struct Stored {
+    behaviour: &'static str,
+    words: &'static [&'static str],
+    states: usize,
+    visits: Visits,
+}
+
+const STORED: &[Stored] = &[
+    // The start, which is told of before the bound is reached.
+    Stored {
+        behaviour: "noexit behaviour a; stop",
+        words: &["a"],
+        states: 1,
+        visits: Visits {
+            count: 1,
+            lengths: 0,
+            longest: 0,
+        },
+    },
+    // The start, and the deadlock after a.
+    Stored {
+        behaviour: "noexit behaviour a; stop",
+        words: &["a"],
+        states: 10,
+        visits: Visits {
+            count: 2,
+            lengths: 1,
+            longest: 1,
+        },
+    },
+    // The start; b; stop and a; stop after one step; stop after two, by two derivations.
+    Stored {
+        behaviour: "noexit behaviour a; b; stop [] b; a; stop",
+        words: &["<any>", "<any>", "<any>"],
+        states: 10,
+        visits: Visits {
+            count: 4,
+            lengths: 4,
+            longest: 2,
+        },
+    },
+    // One state for each of the first four words; the last one never comes.
+    Stored {
+        behaviour: "noexit behaviour P[a,b] where process P [x,y] : noexit := x; y; P[x,y] endproc",
+        words: &["a", "b", "a", "b", "b"],
+        states: 10,
+        visits: Visits {
+            count: 5,
+            lengths: 10,
+            longest: 4,
+        },
+    },
+];
+
+/// What the observer of a search for a match is told.
+fn stored_in(
+    alloc: Global,
+    table: &mut Table,
+    words: &[&str],
+    states: usize,
+) -> Result<Visits, Fail> {
+    let pattern = Pattern::read(alloc, words, false)?;
+    let mut visits = NONE;
+    let _ = find_shortest_match_with_progress(alloc, table, &pattern, states, &mut visits);
+    Ok(visits)
+}
+
+fn stored_visits(alloc: Global, row: &Stored) -> Result<Visits, Fail> {
+    let mut table = boxed_table(alloc, row.behaviour)?;
+    stored_in(alloc, &mut table, row.words, row.states)
+}
+
+#[test]
+fn observed_searches_for_a_match_store_these_states(rt: HostRuntime) -> Result<(), Fail> {
+    for row in STORED {
+        let found = stored_visits(rt.alloc(), row)?;
+        assert_eq!(rt; found, row.visits, "{:?} of {}", row.words, row.behaviour);
+    }
+    Ok(())
+}

@@ -1,0 +1,317 @@
+//! Long searches that report their progress.
+
+use super::expected_output::{repeated, repeated_words};
+use super::memory_devices::{ArrayWriter, SliceReader};
+use lotos_device::{FromRead, FromWrite};
+use lotos_tool::{
+    EverEnded, EverRequest, OutputProgress, Progress, Request, ever_with_progress,
+    list_with_progress, request, run_args_with_terminal, run_with_terminal,
+};
+use std::alloc::{AllocError, Global};
+use std::io::{Error, ErrorKind};
+use std::process::Abort;
+
+/// Every sequence of this process is a number of labels `A`. Of each length there is one, and the search visits its
+/// prefixes, so the lengths up to `n` have n * (n + 1) / 2 visits: 990 up to 44, and 2,016 up to 63.
+const ONE_GATE: &[u8] =
+    b"specification S [a] : noexit behaviour P[a] where process P [x] : noexit := x; P[x] endproc endspec";
+
+/// All sequences of at most 70 labels, the empty one first.
+const ALL: &[&str] = &["lotosseq", "search", "--depth", "70", "<while>", "A"];
+
+const ALL_WITH_PROGRESS: &[&str] = &[
+    "lotosseq",
+    "search",
+    "--depth",
+    "70",
+    "--progress",
+    "<while>",
+    "A",
+];
+
+/// A run: its standard output and standard error, and its status.
+#[derive(Drop)]
+struct Ran {
+    out: ArrayWriter,
+    err: ArrayWriter,
+    status: u8,
+}
+
+/// Runs the words on the text. The output cannot be flushed if `flush_fails`, and the error stream takes `most` bytes.
+fn run_words(
+    alloc: Global,
+    words: &[&str],
+    text: &[u8],
+    terminal: bool,
+    flush_fails: bool,
+    most: usize,
+) -> Ran {
+    let mut reader = FromRead::new(SliceReader::new(text, 4096));
+    let mut writer = ArrayWriter::new(4096);
+    writer.flush_fails = flush_fails;
+    let mut out = FromWrite::new(writer);
+    let mut err = ArrayWriter::new(4096);
+    err.most = most;
+    let status = run_with_terminal(alloc, words, &mut reader, &mut out, &mut err, terminal);
+    Ran {
+        out: out.into_inner(),
+        err,
+        status,
+    }
+}
+
+/// Asserts the messages of a run, with a terminal and without one, and that its output and its status are those of
+/// the same run without progress.
+fn assert_reports(
+    rt: &impl Abort,
+    alloc: Global,
+    words: (&[&str], &[&str]),
+    text: &[u8],
+    flush_fails: bool,
+    expected: (&[u8], &[u8], u8),
+) {
+    let (plain_words, words) = words;
+    let (lines, renewed, status) = expected;
+    let plain = run_words(alloc, plain_words, text, false, flush_fails, 4096);
+    let elsewhere = run_words(alloc, words, text, false, flush_fails, 4096);
+    let terminal = run_words(alloc, words, text, true, flush_fails, 4096);
+    assert_eq!(rt; elsewhere.err.got(), lines);
+    assert_eq!(rt; terminal.err.got(), renewed);
+    assert_same(rt, &plain, &elsewhere);
+    assert_same(rt, &plain, &terminal);
+    assert_eq!(rt; plain.status, status);
+}
+
+/// Asserts that two runs have the same output and status.
+fn assert_same(rt: &impl Abort, one: &Ran, other: &Ran) {
+    assert_eq!(rt; one.out.got(), other.out.got());
+    assert_eq!(rt; one.out.flushes, other.out.flushes);
+    assert_eq!(rt; one.status, other.status);
+}
+
+#[test]
+fn a_listing_reports_prefixes_and_lines(rt: HostRuntime) {
+    assert_reports(
+        &rt,
+        rt.alloc(),
+        (ALL, ALL_WITH_PROGRESS),
+        ONE_GATE,
+        false,
+        (
+            b"lotosseq: length 44, 1024 prefixes, 45 lines\nlotosseq: length 63, 2048 prefixes, 64 lines\n",
+            b"\rlotosseq: length 44, 1024 prefixes, 45 lines\r\x1b[K\rlotosseq: length 63, 2048 prefixes, 64 lines\r\x1b[K",
+            0,
+        ),
+    );
+}
+
+/// No sequence of at most 62 labels has 63.
+#[test]
+fn a_terminal_is_cleared_before_a_message(rt: HostRuntime) -> Result<(), AllocError> {
+    let alloc = rt.alloc();
+    let plain = repeated_words(alloc, &["lotosseq", "search", "--depth", "62"], &["A"], 63)?;
+    let words = repeated_words(
+        alloc,
+        &["lotosseq", "search", "--depth", "62", "--progress"],
+        &["A"],
+        63,
+    )?;
+    assert_reports(
+        &rt,
+        alloc,
+        (plain.as_slice(), words.as_slice()),
+        ONE_GATE,
+        true,
+        (
+            b"lotosseq: length 44, 1024 prefixes, 0 lines\nlotosseq: stopped before the first line: output cannot be written\n",
+            b"\rlotosseq: length 44, 1024 prefixes, 0 lines\r\x1b[Klotosseq: stopped before the first line: output cannot be written\n",
+            6,
+        ),
+    );
+    Ok(())
+}
+
+/// Two sequences of 50 labels each, side by side: the states are the pairs of numbers up to 50. With at most `n` steps
+/// there are 990 of them for n = 43, 1,035 for 44, 2,040 for 67 and 2,073 for 68, and 2,601 in all.
+fn two_sequences(alloc: Global) -> Result<Vec<u8>, AllocError> {
+    let mut text = repeated(
+        alloc,
+        b"specification S [a,b,c] : noexit behaviour ",
+        b"a; ",
+        50,
+        b"stop ||| ",
+    )?;
+    let other = repeated(alloc, b"", b"b; ", 50, b"stop endspec")?;
+    text.extend_from_slice(other.as_slice())?;
+    Ok(text)
+}
+
+#[test]
+fn a_search_without_a_match_reports_states(rt: HostRuntime) -> Result<(), AllocError> {
+    let text = two_sequences(rt.alloc())?;
+    assert_reports(
+        &rt,
+        rt.alloc(),
+        (
+            &["lotosseq", "ever", "<until>", "C"],
+            &["lotosseq", "ever", "--progress", "<until>", "C"],
+        ),
+        text.as_slice(),
+        false,
+        (
+            b"lotosseq: 44 steps, 1024 states\nlotosseq: 68 steps, 2048 states\nlotosseq: it happens at no depth\n",
+            b"\rlotosseq: 44 steps, 1024 states\rlotosseq: 68 steps, 2048 states\r\x1b[Klotosseq: it happens at no depth\n",
+            1,
+        ),
+    );
+    Ok(())
+}
+
+#[test]
+fn a_terminal_is_cleared_before_a_match(rt: HostRuntime) -> Result<(), AllocError> {
+    let text = two_sequences(rt.alloc())?;
+    assert_reports(
+        &rt,
+        rt.alloc(),
+        (
+            &["lotosseq", "ever", "<until>", "<deadlock>"],
+            &["lotosseq", "ever", "--progress", "<until>", "<deadlock>"],
+        ),
+        text.as_slice(),
+        false,
+        (
+            b"lotosseq: 44 steps, 1024 states\nlotosseq: 68 steps, 2048 states\n",
+            b"\rlotosseq: 44 steps, 1024 states\rlotosseq: 68 steps, 2048 states\r\x1b[K",
+            0,
+        ),
+    );
+    Ok(())
+}
+
+/// With 44 steps at most the lengths have 990 visits.
+#[test]
+fn a_short_search_reports_nothing(rt: HostRuntime) {
+    assert_reports(
+        &rt,
+        rt.alloc(),
+        (
+            &["lotosseq", "search", "--depth", "44", "<while>", "A"],
+            &[
+                "lotosseq",
+                "search",
+                "--depth",
+                "44",
+                "--progress",
+                "<while>",
+                "A",
+            ],
+        ),
+        ONE_GATE,
+        false,
+        (b"", b"", 0),
+    );
+}
+
+#[test]
+fn an_error_stream_that_fails_changes_nothing(rt: HostRuntime) {
+    let plain = run_words(rt.alloc(), ALL, ONE_GATE, false, false, 4096);
+    for most in [0usize, 1, 50] {
+        for terminal in [false, true] {
+            let other = run_words(
+                rt.alloc(),
+                ALL_WITH_PROGRESS,
+                ONE_GATE,
+                terminal,
+                false,
+                most,
+            );
+            assert_same(&rt, &plain, &other);
+        }
+    }
+}
+
+/// An observer that counts.
+#[derive(Clone, Copy, Debug)]
+struct Counter {
+    visits: usize,
+    lines: usize,
+}
+
+impl Progress for Counter {
+    fn visit(&mut self, _length: usize) {
+        self.visits = self.visits.saturating_add(1);
+    }
+}
+
+impl OutputProgress for Counter {
+    fn write_line(&mut self) {
+        self.lines = self.lines.saturating_add(1);
+    }
+}
+
+/// Searches the two sequences for a match.
+fn ever_observed(
+    alloc: Global,
+    question: &EverRequest,
+    counter: &mut Counter,
+) -> Result<EverEnded, AllocError> {
+    let text = two_sequences(alloc)?;
+    let mut reader = FromRead::new(SliceReader::new(text.as_slice(), 4096));
+    let mut out = FromWrite::new(ArrayWriter::new(4096));
+    Ok(ever_with_progress(alloc, question, &mut reader, &mut out, counter))
+}
+
+/// What an observer of the command is told.
+fn observe(alloc: Global, words: &[&str]) -> Result<Counter, AllocError> {
+    let mut counter = Counter {
+        visits: 0,
+        lines: 0,
+    };
+    match request(alloc, words) {
+        Ok(Request::Search(search)) => {
+            let mut reader = FromRead::new(SliceReader::new(ONE_GATE, 4096));
+            let mut out = FromWrite::new(ArrayWriter::new(4096));
+            let _ = list_with_progress(alloc, &search, &mut reader, &mut out, &mut counter);
+        }
+        Ok(Request::Ever(question)) => {
+            let _ = ever_observed(alloc, &question, &mut counter)?;
+        }
+        _ => {}
+    }
+    Ok(counter)
+}
+
+#[test]
+fn an_observer_is_told_of_all_visits_and_lines(rt: HostRuntime) -> Result<(), AllocError> {
+    let listed = observe(rt.alloc(), ALL)?;
+    assert_eq!(rt; listed.visits, 2_485);
+    assert_eq!(rt; listed.lines, 71);
+    let unmatched = observe(rt.alloc(), &["lotosseq", "ever", "<until>", "C"])?;
+    assert_eq!(rt; unmatched.visits, 2_601);
+    assert_eq!(rt; unmatched.lines, 0);
+    let matched = observe(rt.alloc(), &["lotosseq", "ever", "<until>", "<deadlock>"])?;
+    assert_eq!(rt; matched.visits, 2_601);
+    assert_eq!(rt; matched.lines, 1);
+    Ok(())
+}
+
+#[test]
+fn arguments_that_cannot_be_read_by_a_terminal(rt: HostRuntime) {
+    for terminal in [false, true] {
+        let mut reader = FromRead::new(SliceReader::new(ONE_GATE, 4096));
+        let mut out = FromWrite::new(ArrayWriter::new(4096));
+        let mut err = ArrayWriter::new(4096);
+        let args = Err(Error::from(ErrorKind::InvalidData));
+        let status = run_args_with_terminal(
+            rt.alloc(),
+            args,
+            &mut reader,
+            &mut out,
+            &mut err,
+            terminal,
+        );
+        assert_eq!(rt; err.got(), b"lotosseq: E99 out of memory\n".as_slice());
+        assert_eq!(rt; status, 5);
+        assert!(rt; out.into_inner().got().is_empty());
+    }
+}
