@@ -10,7 +10,9 @@
 
 mod arguments;
 mod check_command;
+mod diagnosis;
 mod ever_command;
+mod hints;
 mod label_texts;
 mod listing_output;
 mod messages;
@@ -27,7 +29,9 @@ mod unknown_gates;
 pub use arguments::run_args;
 pub use check_command::check_text;
 pub use ever_command::ever;
-pub use lotos_command::{CommandFault, EverRequest, Request, SearchRequest, request};
+pub use lotos_command::{
+    CommandFault, DiagnoseRequest, EverRequest, Request, SearchRequest, request,
+};
 pub use lotos_device::{DeviceFailed, FromRead, FromWrite, Sink, Source};
 pub use outcome::{Ended, EverEnded, EverWhy, Why};
 pub use program::{answer_fault, report_check, report_ever, report_search, run};
