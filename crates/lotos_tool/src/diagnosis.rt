@@ -59,7 +59,8 @@ fn diagnose_text<W: Sink, E: Write>(
     }
 }
 
-/// Writes the lines of an accepted specification's processes, and then its warnings if they are asked for.
+/// Writes the lines of an accepted specification's processes, and then, if that did not fail, its warnings if they are
+/// asked for.
 fn report_processes<W: Sink, E: Write>(
     alloc: Global,
     asked: &DiagnoseRequest,
@@ -74,7 +75,7 @@ fn report_processes<W: Sink, E: Write>(
 {
     let ended = write_processes(alloc, found, out);
     let status = report_check(&ended, err);
-    if asked.warn {
+    if asked.warn && status == 0 {
         warn(alloc, text, found, err);
     }
     status

@@ -52,7 +52,7 @@ returns-in-Ok-Check-clause-ran g c =
 
 pub returns-in-Ok-Diagnose-clause-ran : goal.returns-in-Ok-Diagnose-clause-ran
 returns-in-Ok-Diagnose-clause-ran g c =
-    inr (inl (diagnosed _ _ _ _ _ _ _ _ c.in-Ok-Diagnose.field-0 c.diagnose.ensures.reported (search rules) c.in-Ok-Diagnose.ensures.is))
+    inr (inl (diagnosed _ _ _ _ _ _ _ c.in-Ok-Diagnose.field-0 c.in-Ok-Diagnose.asked c.diagnose.ensures.reported (search rules) c.in-Ok-Diagnose.ensures.is))
 
 pub returns-in-Ok-Search-clause-ran : goal.returns-in-Ok-Search-clause-ran
 returns-in-Ok-Search-clause-ran g c =
