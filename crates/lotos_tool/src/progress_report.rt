@@ -67,7 +67,7 @@ impl<'a, E: Write> ProgressReport<'a, E> {
         }
     }
 
-    /// Neither number of a report ever falls, so a renewed line covers the one before.
+    /// No number of a report ever falls, so a renewed line covers the one before.
     fn report(&mut self) {
         let _ = if self.terminal {
             write!(self.err, "\rlotosseq: {}", self.counts)
