@@ -2,7 +2,11 @@
 use Rattle.std.specs.Prelude.{◌≡◌, ℕ, ◌⊎◌, ◌==◌, Bool, List, Option, false, if◌then◌else◌, string_bytes}
 use Rattle.std.specs.Io.KnownBytes.{Appends, Keeps}
 use Rattle.lotos_tool.specs.ListingOutcome.{SearchOutcome}
-use Rattle.lotos_tool.specs.CheckOutcome.{CheckOutcome}
+use Rattle.lotos_check.specs.AcceptedText.{Accepted}
+use Rattle.lotos_check.specs.Flat.{System}
+use Rattle.lotos_tool.specs.CheckOutcome.{CheckOutcome, ProcessesOutcome}
+use Rattle.lotos_tool.specs.RejectedText.{IsRejection, end_of}
+use Rattle.lotos_tool.specs.declared.specification_input.Rejection.{Rejection}
 use Rattle.lotos_tool.specs.OutcomeFlags.{is_input_fault}
 use Rattle.lotos_command.specs.CommandFaults.{AreAccepted, AreRejected, AskForHelp}
 use Rattle.lotos_command.specs.Request.{RequestOf, request_view}
@@ -17,6 +21,7 @@ use Rattle.lotos_tool.specs.declared.outcome.EverEnded.TheVariants as ever
 use Rattle.lotos_tool.specs.declared.outcome.EverWhy.{EverWhy}
 use Rattle.lotos_tool.specs.declared.outcome.EverWhy.TheVariants as ever_why
 use Rattle.lotos_command.specs.declared.command.SearchRequest.{SearchRequest}
+use Rattle.lotos_command.specs.declared.command.DiagnoseRequest.{DiagnoseRequest}
 use Rattle.lotos_command.specs.declared.command.EverRequest.{EverRequest}
 use Rattle.lotos_command.specs.declared.command.Request.TheVariants as command
 use Rattle.lotos_command.specs.declared.command.CommandFault.{CommandFault}
@@ -52,14 +57,37 @@ check_status_of (Complete lines) = 0
 check_status_of (Refused cause) = 2
 check_status_of (Stopped last cause) = stop_status_of cause
 
--- the words ask for a check, which had an outcome, and the status is that of the outcome
-pub record CheckRan (words : List (List ℕ)) (left left' got got' : Option (List ℕ)) (failed : Bool) (status : ℕ) : Type 0 where
-  pub asked : RequestOf words (request_view command.Check)
+-- the words ask for a check, with diagnostics or without
+abbrev pub AskForCheck : List (List ℕ) → Type 0
+AskForCheck words =
+    RequestOf words (request_view command.Check)
+    ⊎ ((request : DiagnoseRequest) × RequestOf words (request_view (command.Diagnose request)))
+
+-- a check had an outcome, and the status is that of the outcome
+pub record CheckReported (left left' got got' : Option (List ℕ)) (failed : Bool) (status : ℕ) : Type 0 where
   pub ended : Ended
   pub answered : CheckOutcome left left' got got' ended
   -- the reader failed exactly if the outcome says so
   pub input : failed ≡ is_input_fault ended
   pub status_is : status ≡ check_status_of ended
+
+-- the lines of an accepted specification's processes were written with an outcome, and the status is that of the outcome
+pub record ProcessesReported (system : System) (got got' : Option (List ℕ)) (status : ℕ) : Type 0 where
+  pub ended : Ended
+  pub outcome : ProcessesOutcome system got got' ended
+  pub status_is : status ≡ check_status_of ended
+
+-- the check of a text that was read: the text is accepted and its lines were written, or it is rejected with nothing
+-- written
+pub data TextReported (text : List ℕ) (got got' : Option (List ℕ)) (status : ℕ) : Type 0 where
+  accepted : (system : System) → Accepted text system → ProcessesReported system got got' status → TextReported text got got' status
+  rejected : (cause : Rejection) → IsRejection text cause → Keeps got got' → status ≡ check_status_of (end_of cause)
+      → TextReported text got got' status
+
+-- the words ask for a check, which had an outcome, and the status is that of the outcome
+pub record CheckRan (words : List (List ℕ)) (left left' got got' : Option (List ℕ)) (failed : Bool) (status : ℕ) : Type 0 where
+  pub asked : AskForCheck words
+  pub reported : CheckReported left left' got got' failed status
 
 -- the status of a search for a match that stopped: 4 if there are too many states, 5 out of memory, 6 if the output
 -- could not be written
@@ -101,7 +129,7 @@ IsAnswerTo fault.Memory got got' status = (status ≡ 5) × Keeps got got'
 
 -- the output and the status if no command ran
 pub data MessageOutput (words : List (List ℕ)) (got got' : Option (List ℕ)) (status : ℕ) : Type 0 where
-  -- help, if the words ask for it; which text it is stays open
+  -- help or the version, if the words ask for it; which text it is stays open
   helped : AskForHelp words → (text : List ℕ) → HelpWritten got got' text status → MessageOutput words got got' status
   -- nothing and 2, if the words fit no command
   wrong : AreRejected words → status ≡ 2 → Keeps got got' → MessageOutput words got got' status

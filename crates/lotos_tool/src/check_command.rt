@@ -1,13 +1,15 @@
 //! The command `check`, from the text to the lines of its processes.
 ghost use Rattle.std.specs.Prelude.{◌≡◌, ◌+◌, ◌≤◌, false};
 ghost use Rattle.lotos_text.specs.Limits.{max_text_length};
-ghost use Rattle.lotos_tool.specs.CheckOutcome.{CheckOutcome};
+ghost use Rattle.lotos_check.specs.CheckedView.{system_of};
+ghost use Rattle.lotos_tool.specs.CheckOutcome.{CheckOutcome, ProcessesOutcome};
 ghost use Rattle.lotos_tool.specs.OutcomeFlags.{is_input_fault, is_output_fault};
 
 use crate::outcome::{Ended, Why};
 use crate::output_flush::flush_complete;
 use crate::output_lines::format_processes;
-use crate::specification_input::{Rejection, read_specification};
+use crate::specification_input::{end_of, read_specification};
+use lotos_check::Checked;
 use lotos_device::{DeviceFailed, Sink, Source, write_bytes};
 use std::alloc::Global;
 
@@ -30,12 +32,17 @@ pub fn check_text<R: Source, W: Sink>(alloc: Global, reader: &mut R, writer: &mu
 {
     let found = match read_specification(alloc, reader) {
         Ok(found) => found,
-        Err(Rejection::Refused(refusal)) => return Ended::Refused(refusal),
-        Err(Rejection::Memory) => return Ended::Stopped {
-            last: None,
-            why: Why::Memory,
-        },
+        Err(rejection) => return end_of(rejection),
     };
+    write_processes(alloc, &found, writer)
+}
+
+/// Writes a line for each process of an accepted specification, and flushes the output if no write fails.
+pub fn write_processes<W: Sink>(alloc: Global, found: &Checked, writer: &mut W) -> Ended
+    requires { W.has_failed writer.old ≡ false }
+    ensures outcome { ProcessesOutcome (system_of found.now) (W.got writer.old) (W.got writer.new) result }
+    ensures failed { W.has_failed writer.new ≡ is_output_fault result }
+{
     let Ok(lines) = format_processes(alloc, found.processes()) else {
         return Ended::Stopped {
             last: None,

@@ -129,7 +129,7 @@ fn write_match<W: Sink, P: OutputProgress>(
 {
     match find_match_line(alloc, request, found, pattern, progress) {
         Ok(Some(line)) => {
-            progress.write_line();
+            progress.before_line();
             write_line(writer, line.as_slice())
         }
         Ok(None) => end_without_match(writer),

@@ -10,7 +10,9 @@
 
 mod arguments;
 mod check_command;
+mod diagnosis;
 mod ever_command;
+mod hints;
 mod label_texts;
 mod listing_output;
 mod messages;
@@ -28,7 +30,9 @@ mod unknown_gates;
 pub use arguments::{run_args, run_args_with_terminal};
 pub use check_command::check_text;
 pub use ever_command::{ever, ever_with_progress};
-pub use lotos_command::{CommandFault, EverRequest, Request, SearchRequest, request};
+pub use lotos_command::{
+    CommandFault, DiagnoseRequest, EverRequest, Request, SearchRequest, request,
+};
 pub use lotos_device::{DeviceFailed, FromRead, FromWrite, Sink, Source};
 pub use lotos_search::{NoProgress, Progress};
 pub use outcome::{Ended, EverEnded, EverWhy, Why};

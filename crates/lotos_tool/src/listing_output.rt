@@ -50,7 +50,7 @@ pub fn write_listing<W: Sink, P: OutputProgress>(
                 return Ended::Stopped { last, why };
             }
         };
-        progress.write_line();
+        progress.before_line();
         match write_item(alloc, search, &found, request.explain, writer) {
             Ok(text) => last = Some(text),
             Err(why) => return Ended::Stopped { last, why },

@@ -7,7 +7,9 @@ ghost use Rattle.lotos_command.specs.Request.{texts_of};
 ghost use Rattle.lotos_tool.specs.ProgramRuns.{HelpWritten, IsAnswerTo, Ran, check_status_of, ever_status_of, ever_stop_status_of, status_of, stop_status_of};
 
 use crate::check_command::check_text;
+use crate::diagnosis::diagnose;
 use crate::ever_command::ever_with_report;
+use crate::hints::{hint_after_ever, hint_after_fault, hint_after_search};
 use crate::messages::{
     report_ever_stop, report_failure, report_no_match, report_refusal, report_stop, report_text,
 };
@@ -20,12 +22,12 @@ use std::alloc::Global;
 use std::io::Write;
 
 /// Runs the command that the words ask for and returns its exit status: 0 for a complete output with lines, an accepted
-/// specification, a match, or help; 1 for a listing without lines, or no match; 2 for words, a pattern, a mark, or a
+/// specification, a match, help, or the version; 1 for a listing without lines, or no match; 2 for words, a pattern, a mark, or a
 /// specification that is refused, or input that cannot be read; 3 at the limit of lines; 4 for a prefix with too many
 /// terms, or too many states; 5 out of memory; 6 for output that cannot be written.
 ///
-/// The first of the words is the program's own name. The lines of the command, or the help if the words ask for it, go
-/// to `out`, and every message to `err`; errors of `err` change no status. At most one byte more than a text may have
+/// The first of the words is the program's own name. The lines of the command, or the help or the version if the words
+/// ask for it, go to `out`, and every message to `err`; errors of `err` change no status. At most one byte more than a text may have
 /// is taken from the reader, whatever it returns. Neither the reader nor `out` may have failed before.
 pub fn run<R: Source, W: Sink, E: Write>(
     alloc: Global,
@@ -62,21 +64,60 @@ pub fn run_with_terminal<R: Source, W: Sink, E: Write>(
 {
     match request(alloc, words) {
         Ok(Request::Check) => report_check(&check_text(alloc, reader, out), err),
-        Ok(Request::Search(search)) => report_search(
+        Ok(Request::Diagnose(asked)) => diagnose(alloc, &asked, reader, out, err),
+        Ok(Request::Search(search)) => end_search(
             &list_with_report(alloc, &search, reader, out, err, terminal),
             search.terms,
+            search.words.as_slice(),
             err,
         ),
-        Ok(Request::Ever(question)) => report_ever(
+        Ok(Request::Ever(question)) => end_ever(
             &ever_with_report(alloc, &question, reader, out, err, terminal),
             question.states,
+            question.words.as_slice(),
             err,
         ),
-        Err(fault) => answer_fault(&fault, out, err),
+        Err(fault) => end_without_command(&fault, words, out, err),
     }
 }
 
-/// Writes the help that the words ask for to `out`, or reports to `err` why they make no request. Returns the status: 0
+/// Reports a search, with a hint if one of its words names a file, and returns its status.
+fn end_search<E: Write>(ended: &Ended, terms: usize, words: &[String], err: &mut E) -> u8
+    ensures status { result ≡ status_of ended.now }
+    ensures output { is_output_fault ended.now ≡ (result == 6) }
+{
+    let status = report_search(ended, terms, err);
+    hint_after_search(ended, words, err);
+    status
+}
+
+/// Reports a search for a match, with a hint if one of its words names a file, and returns its status.
+fn end_ever<E: Write>(ended: &EverEnded, states: usize, words: &[String], err: &mut E) -> u8
+    ensures status { result ≡ ever_status_of ended.now }
+    ensures output { is_ever_output_fault ended.now ≡ (result == 6) }
+{
+    let status = report_ever(ended, states, err);
+    hint_after_ever(ended, words, err);
+    status
+}
+
+/// Answers words that make no request, with a hint if one of them names a file, and returns the status.
+fn end_without_command<W: Sink, E: Write>(
+    fault: &CommandFault,
+    words: &[&str],
+    out: &mut W,
+    err: &mut E,
+) -> u8
+    requires { W.has_failed out.old ≡ false }
+    ensures answer { IsAnswerTo fault.now (W.got out.old) (W.got out.new) result }
+    ensures output { W.has_failed out.new ≡ (result == 6) }
+{
+    let status = answer_fault(fault, out, err);
+    hint_after_fault(fault, words, err);
+    status
+}
+
+/// Writes the help or the version that the words ask for to `out`, or reports to `err` why they make no request. Returns the status: 0
 /// for help, 2 for words that fit no command, 5 out of memory, and 6 if the output fails, which must not have failed
 /// before. The text that says why words fit no command has line feeds of its own.
 pub fn answer_fault<W: Sink, E: Write>(fault: &CommandFault, out: &mut W, err: &mut E) -> u8

@@ -8,11 +8,11 @@ use std::io::Write;
 /// An observer of a command that searches. It is told what the search visits, and when a line is written.
 pub trait OutputProgress: Progress {
     /// Is told that a line of the output is written next.
-    fn write_line(&mut self);
+    fn before_line(&mut self);
 }
 
 impl OutputProgress for NoProgress {
-    fn write_line(&mut self) {}
+    fn before_line(&mut self) {}
 }
 
 /// What a search visits.
@@ -67,7 +67,7 @@ impl<'a, E: Write> ProgressReport<'a, E> {
         }
     }
 
-    /// Neither number of a report ever falls, so a renewed line covers the one before.
+    /// No number of a report ever falls, so a renewed line covers the one before.
     fn report(&mut self) {
         let _ = if self.terminal {
             write!(self.err, "\rlotosseq: {}", self.counts)
@@ -90,7 +90,7 @@ impl<E: Write> Progress for ProgressReport<'_, E> {
 }
 
 impl<E: Write> OutputProgress for ProgressReport<'_, E> {
-    fn write_line(&mut self) {
+    fn before_line(&mut self) {
         self.counts.lines = self.counts.lines.saturating_add(1);
         self.clear();
     }

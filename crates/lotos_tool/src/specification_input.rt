@@ -6,8 +6,10 @@ ghost use Rattle.lotos_check.specs.CheckedView.{system_of};
 ghost use Rattle.lotos_check.specs.FaultOffsets.{offset_of};
 ghost use Rattle.lotos_tool.specs.AcceptedText.{ReadsAccepted};
 ghost use Rattle.lotos_tool.specs.RefusalCauses.{IsPositionOf};
-ghost use Rattle.lotos_tool.specs.RejectedText.{IsRejection, IsInputRejection, is_input_failure};
+ghost use Rattle.lotos_device.specs.TextInput.{ReadsAll};
+ghost use Rattle.lotos_tool.specs.RejectedText.{IsRejection, IsInputRejection, end_of, is_input_failure};
 
+use crate::outcome::{Ended, Why};
 use crate::refusal::Refusal;
 use lotos_check::{AcceptFault, CheckFault, Checked, accept};
 use lotos_device::{ReadFault, Source, read_text};
@@ -32,22 +34,32 @@ pub fn read_specification<R: Source>(alloc: Global, reader: &mut R) -> Result<Ch
     ensures given { R.given reader.new ≤ R.given reader.old + (max_text_length + 1) }
     ensures failed { R.has_failed reader.new ≡ is_input_failure result }
 {
-    let text = match read_text(alloc, reader) {
-        Ok(text) => text,
-        Err(ReadFault::Device) => return Err(Rejection::Refused(Refusal::E47)),
-        Err(ReadFault::TooLong) => {
-            return Err(Rejection::Refused(Refusal::Text {
-                fault: TextFault::E03,
-                place: None,
-            }));
-        }
-        Err(ReadFault::Memory) => return Err(Rejection::Memory),
-    };
+    let text = read_input(alloc, reader)?;
     accept_text(alloc, text.as_slice())
 }
 
+/// Reads a whole text. At most one byte more than a text may have is taken from the reader, whatever it returns. The
+/// text is refused with E47 if the reader fails, and with E03 if it is too long.
+pub fn read_input<R: Source>(alloc: Global, reader: &mut R) -> Result<Vec<u8>, Rejection>
+    requires { R.has_failed reader.old ≡ false }
+    ensures whole { IfOk result (λ text. ReadsAll (R.left reader.old) (R.left reader.new) text.items) }
+    ensures refused { IfErr result (IsInputRejection (R.left reader.old) (R.left reader.new)) }
+    ensures given { R.given reader.new ≤ R.given reader.old + (max_text_length + 1) }
+    ensures failed { R.has_failed reader.new ≡ is_input_failure result }
+{
+    match read_text(alloc, reader) {
+        Ok(text) => Ok(text),
+        Err(ReadFault::Device) => Err(Rejection::Refused(Refusal::E47)),
+        Err(ReadFault::TooLong) => Err(Rejection::Refused(Refusal::Text {
+            fault: TextFault::E03,
+            place: None,
+        })),
+        Err(ReadFault::Memory) => Err(Rejection::Memory),
+    }
+}
+
 /// The specification of a text, if it is accepted.
-fn accept_text(alloc: Global, text: &[u8]) -> Result<Checked, Rejection>
+pub fn accept_text(alloc: Global, text: &[u8]) -> Result<Checked, Rejection>
     requires { length text.now ≤ max_text_length }
     ensures accepted { IfOk result (λ found. Accepted text.now (system_of found)) }
     ensures refused { IfErr result (IsRejection text.now) }
@@ -55,6 +67,19 @@ fn accept_text(alloc: Global, text: &[u8]) -> Result<Checked, Rejection>
     match accept(alloc, text) {
         Ok(found) => Ok(found),
         Err(fault) => Err(reject(text, fault)),
+    }
+}
+
+/// How a check ends whose input is rejected.
+pub fn end_of(rejection: Rejection) -> Ended
+    ensures { result ≡ end_of rejection }
+{
+    match rejection {
+        Rejection::Refused(refusal) => Ended::Refused(refusal),
+        Rejection::Memory => Ended::Stopped {
+            last: None,
+            why: Why::Memory,
+        },
     }
 }
 

@@ -1,8 +1,8 @@
-//! Runs that ask for help.
+//! Runs that ask for help or for the version.
 
 use super::memory_devices::{ArrayWriter, SliceReader, WhenFull, run_on};
 
-/// Command lines that ask for help, and the first line of that help.
+/// Command lines that ask for help or for the version, and the first line of the text.
 const ROWS: &[(&[&str], &[u8])] = &[
     (
         &["lotosseq", "check", "--help"],
@@ -19,6 +19,10 @@ const ROWS: &[(&[&str], &[u8])] = &[
     (
         &["lotosseq", "ever", "--help"],
         b"Finds a shortest match, of any length\n",
+    ),
+    (
+        &["lotosseq", "--version"],
+        b"lotosseq 0.1.0 (proved, logic dac8208d650f15bf)\n",
     ),
 ];
 
@@ -58,6 +62,26 @@ fn help_that_cannot_be_written(rt: HostRuntime) {
             assert_eq!(rt; status, 6, "after {most}");
             assert_eq!(rt; reader.reads, 0, "after {most}");
         }
+    }
+}
+
+#[test]
+fn version_that_cannot_be_written(rt: HostRuntime) {
+    let line: &[u8] = b"lotosseq 0.1.0 (proved, logic dac8208d650f15bf)\n";
+    for most in 0..line.len() {
+        let reader = SliceReader::new(b"", 1);
+        let mut out = ArrayWriter::new(5);
+        out.most = most;
+        let err = ArrayWriter::new(4096);
+        let words = ["lotosseq", "-V"];
+        let (status, _reader, out, err) = run_on(rt.alloc(), words.as_slice(), reader, out, err);
+        assert_eq!(rt; out.got(), &line[..most], "after {most}");
+        assert_eq!(rt;
+            err.got(),
+            b"lotosseq: output cannot be written\n".as_slice(),
+            "after {most}"
+        );
+        assert_eq!(rt; status, 6, "after {most}");
     }
 }
 

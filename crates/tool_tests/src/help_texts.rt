@@ -1,4 +1,4 @@
-//! The whole help of the program and of each command, line by line.
+//! The whole help of the program and of each command, and the version, line by line.
 
 use super::memory_devices::{ArrayWriter, SliceReader, run_on};
 use std::alloc::Global;
@@ -56,6 +56,9 @@ const PROGRAM: &[&str] = &[
     "Options:",
     "  -h, --help",
     "          Print help (see a summary with '-h')",
+    "",
+    "  -V, --version",
+    "          Print version",
     "",
     "Statuses:",
     "  0  the specification is accepted, the listing is complete and has lines, or there is",
@@ -174,6 +177,12 @@ const SEARCH: &[&str] = &[
     "          the command `lotosseq search --depth 2 --known B exit` is refused with",
     "            E49 word 1 is no gate of the specification",
     "",
+    "      --progress",
+    "          Tells on standard error how far the search is",
+    "          ",
+    "          At a terminal this is one line, which is renewed; else a line is written now and then.",
+    "          Output and status stay the same.",
+    "",
     "  -h, --help",
     "          Print help (see a summary with '-h')",
     "",
@@ -261,6 +270,12 @@ const EVER: &[&str] = &[
     "          match it like other labels. For example, `i; i; a; stop` with `--strong i i A` gives",
     "            i i A",
     "",
+    "      --progress",
+    "          Tells on standard error how far the search is",
+    "          ",
+    "          At a terminal this is one line, which is renewed; else a line is written now and then.",
+    "          Output and status stay the same.",
+    "",
     "  -h, --help",
     "          Print help (see a summary with '-h')",
     "",
@@ -288,9 +303,32 @@ const CHECK: &[&str] = &[
     "the command `lotosseq check` lists",
     "  P 1 noexit",
     "",
-    "Usage: lotosseq check",
+    "Usage: lotosseq check [OPTIONS]",
     "",
     "Options:",
+    "      --explain",
+    "          Explains a fault",
+    "          ",
+    "          The message of a fault in the specification is followed on standard error by its line",
+    "          with a mark under the place, and by what to do; where a word or a sign does not fit,",
+    "          also by what is there and what could be there. Output and status stay the same. For",
+    "          example, for `behaviour a stop` it has",
+    "            behaviour a stop",
+    "                        ^",
+    "            `stop` is a reserved word",
+    "            could be here, among others: `;` `[` `[]` `|[` `||` `|||` `[>` `>>` `where` `endspec`",
+    "            Put what is missing before it, or remove it.",
+    "",
+    "      --warn",
+    "          Warns of what is allowed and may be a mistake",
+    "          ",
+    "          If the specification is accepted, standard error has a line with the place of each",
+    "            process that no call names,",
+    "            gate of the specification or of a process that its behaviour does not use,",
+    "            gate in `|[..]|` that the left side or the right side never offers.",
+    "          Output and status stay the same. For example, it warns of the gate `b` of",
+    "            specification S [a,b] : noexit behaviour a; stop endspec",
+    "",
     "  -h, --help",
     "          Print help (see a summary with '-h')",
     "",
@@ -314,7 +352,8 @@ const PROGRAM_SUMMARY: &[&str] = &[
     "  help    Print this message or the help of the given subcommand(s)",
     "",
     "Options:",
-    "  -h, --help  Print help (see more with '--help')",
+    "  -h, --help     Print help (see more with '--help')",
+    "  -V, --version  Print version",
     "",
     "Statuses:",
     "  0  the specification is accepted, the listing is complete and has lines, or there is",
@@ -345,6 +384,7 @@ const SEARCH_SUMMARY: &[&str] = &[
     "      --explain       Writes the least word of each sequence too",
     "      --strong        Makes the internal action `i` a label like others",
     "      --known         Refuses words that name no gate of the specification",
+    "      --progress      Tells on standard error how far the search is",
     "  -h, --help          Print help (see more with '--help')",
     "",
     "Statuses:",
@@ -371,6 +411,7 @@ const EVER_SUMMARY: &[&str] = &[
     "      --states <N>  The most states that may be reached, 1 to 100000000 [default: 1000000]",
     "      --explain     Writes the word of the derivation too",
     "      --strong      Makes the internal action `i` a label like others",
+    "      --progress    Tells on standard error how far the search is",
     "  -h, --help        Print help (see more with '--help')",
     "",
     "Statuses:",
@@ -386,10 +427,12 @@ const EVER_SUMMARY: &[&str] = &[
 const CHECK_SUMMARY: &[&str] = &[
     "Checks the static rules and lists the processes",
     "",
-    "Usage: lotosseq check",
+    "Usage: lotosseq check [OPTIONS]",
     "",
     "Options:",
-    "  -h, --help  Print help (see more with '--help')",
+    "      --explain  Explains a fault",
+    "      --warn     Warns of what is allowed and may be a mistake",
+    "  -h, --help     Print help (see more with '--help')",
     "",
     "Statuses:",
     "  0  the specification is accepted",
@@ -398,7 +441,10 @@ const CHECK_SUMMARY: &[&str] = &[
     "  6  the output cannot be written",
 ];
 
-/// Words that ask for help, and its lines.
+/// `lotosseq --version`
+const VERSION: &[&str] = &["lotosseq 0.1.0 (proved, logic dac8208d650f15bf)"];
+
+/// Words that ask for help or for the version, and the lines.
 const ROWS: &[(&[&str], &[&str])] = &[
     (&["lotosseq", "--help"], PROGRAM),
     (&["lotosseq", "search", "--help"], SEARCH),
@@ -408,6 +454,8 @@ const ROWS: &[(&[&str], &[&str])] = &[
     (&["lotosseq", "search", "-h"], SEARCH_SUMMARY),
     (&["lotosseq", "ever", "-h"], EVER_SUMMARY),
     (&["lotosseq", "check", "-h"], CHECK_SUMMARY),
+    (&["lotosseq", "--version"], VERSION),
+    (&["lotosseq", "-V"], VERSION),
 ];
 
 #[test]

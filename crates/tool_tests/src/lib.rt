@@ -10,6 +10,8 @@ mod byte_output_tests;
 #[cfg(test)]
 mod check_runs;
 #[cfg(test)]
+mod diagnosis_runs;
+#[cfg(test)]
 mod ever_runs;
 #[cfg(test)]
 mod expected_output;
@@ -19,6 +21,8 @@ mod grammar_runs;
 mod help;
 #[cfg(test)]
 mod help_texts;
+#[cfg(test)]
+mod hints;
 #[cfg(test)]
 mod hostile;
 #[cfg(test)]

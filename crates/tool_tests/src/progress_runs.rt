@@ -244,7 +244,7 @@ impl Progress for Counter {
 }
 
 impl OutputProgress for Counter {
-    fn write_line(&mut self) {
+    fn before_line(&mut self) {
         self.lines = self.lines.saturating_add(1);
     }
 }

@@ -3,12 +3,13 @@ use Rattle.lotos_tool.specs.ListingOutcome.{SearchOutcome}
 use Rattle.lotos_tool.specs.CheckOutcome.{CheckOutcome}
 use Rattle.lotos_tool.specs.OutcomeFlags.{is_input_fault}
 use Rattle.lotos_command.specs.Request.{RequestOf, request_view}
-use Rattle.lotos_tool.specs.ProgramRuns.{CheckRan, EverRan, SearchRan, check_status_of, ever_status_of, status_of}
+use Rattle.lotos_tool.specs.ProgramRuns.{CheckRan, CheckReported, EverRan, SearchRan, check_status_of, ever_status_of, status_of}
 use Rattle.lotos_tool.specs.declared.outcome.Ended.{Ended}
 use Rattle.lotos_command.specs.declared.command.Request.{Request}
 use Rattle.lotos_command.specs.declared.command.Request.TheVariants as one
 use Rattle.lotos_tool.specs.EverOutcomeContracts.{EverOutcome, is_ever_input_fault}
 use Rattle.lotos_tool.specs.declared.outcome.EverEnded.{EverEnded}
+use Rattle.lotos_command.specs.declared.command.DiagnoseRequest.{DiagnoseRequest}
 use Rattle.lotos_command.specs.declared.command.EverRequest.{EverRequest}
 use Rattle.lotos_command.specs.declared.command.SearchRequest.{SearchRequest}
 use Rattle.lotos_tool.proofs.UnreadWords.{answered}
@@ -26,7 +27,13 @@ module _ (words : List (List ℕ)) (left left' got got' : Option (List ℕ)) (br
       → asked ≡ one.Check → RequestOf words (request_view asked) → CheckRan words left left' got got' broken status
   inspected asked ended answers input status_is is asks =
       let Asks : Request → Type 0 = λ r. RequestOf words (request_view r) in
-      record { asked = subst Asks is asks; ended = ended; answered = answers; input = input; status_is = status_is }
+      record { asked = inl (subst Asks is asks); reported = record { ended = ended; answered = answers; input = input; status_is = status_is } }
+
+  diagnosed : (asked : Request) (request : DiagnoseRequest) → CheckReported left left' got got' broken status → asked ≡ one.Diagnose request
+      → RequestOf words (request_view asked) → CheckRan words left left' got got' broken status
+  diagnosed asked request reported is asks =
+      let Asks : Request → Type 0 = λ r. RequestOf words (request_view r) in
+      record { asked = inr (request, subst Asks is asks); reported = reported }
 
   questioned : (asked : Request) (request : EverRequest) (ended : EverEnded) → EverOutcome request left left' got got' ended → broken ≡ is_ever_input_fault ended
       → status ≡ ever_status_of ended → asked ≡ one.Ever request → RequestOf words (request_view asked)
@@ -37,16 +44,20 @@ module _ (words : List (List ℕ)) (left left' got got' : Option (List ℕ)) (br
 
 pub returns-in-Ok-Ever-clause-ran : goal.returns-in-Ok-Ever-clause-ran
 returns-in-Ok-Ever-clause-ran g c =
-    inr (inr (inl (questioned _ _ _ _ _ _ _ c.in-Ok-Ever.field-0 _ c.ever_with_report.result c.ever_with_report.ensures.answers c.ever_with_report.ensures.input c.report_ever.ensures.status (search rules) c.in-Ok-Ever.ensures.is)))
+    inr (inr (inl (questioned _ _ _ _ _ _ _ c.in-Ok-Ever.field-0 _ c.ever_with_report.result c.ever_with_report.ensures.answers c.ever_with_report.ensures.input c.end_ever.ensures.status (search rules) c.in-Ok-Ever.ensures.is)))
 
 pub returns-in-Ok-Check-clause-ran : goal.returns-in-Ok-Check-clause-ran
 returns-in-Ok-Check-clause-ran g c =
     inr (inl (inspected _ _ _ _ _ _ _ _ c.check_text.result c.check_text.ensures.answers c.check_text.ensures.input c.report_check.ensures.status (search rules) c.in-Ok-Check.ensures.is))
 
+pub returns-in-Ok-Diagnose-clause-ran : goal.returns-in-Ok-Diagnose-clause-ran
+returns-in-Ok-Diagnose-clause-ran g c =
+    inr (inl (diagnosed _ _ _ _ _ _ _ c.in-Ok-Diagnose.field-0 c.in-Ok-Diagnose.asked c.diagnose.ensures.reported (search rules) c.in-Ok-Diagnose.ensures.is))
+
 pub returns-in-Ok-Search-clause-ran : goal.returns-in-Ok-Search-clause-ran
 returns-in-Ok-Search-clause-ran g c =
-    inl (searched _ _ _ _ _ _ _ c.in-Ok-Search.field-0 _ c.list_with_report.result c.list_with_report.ensures.answers c.list_with_report.ensures.input c.report_search.ensures.status (search rules) c.in-Ok-Search.ensures.is)
+    inl (searched _ _ _ _ _ _ _ c.in-Ok-Search.field-0 _ c.list_with_report.result c.list_with_report.ensures.answers c.list_with_report.ensures.input c.end_search.ensures.status (search rules) c.in-Ok-Search.ensures.is)
 
 pub returns-in-Err-clause-ran : goal.returns-in-Err-clause-ran
 returns-in-Err-clause-ran g c =
-    inr (inr (inr (answered _ c.in-Err.fault _ _ _ _ _ (search rules) c.in-Err.ensures.fault c.in-Err.ensures.taken c.answer_fault.ensures.answer)))
+    inr (inr (inr (answered _ c.in-Err.fault _ _ _ _ _ (search rules) c.in-Err.ensures.fault c.in-Err.ensures.taken c.end_without_command.ensures.answer)))

@@ -1,0 +1,113 @@
+//! The check with diagnostics: what `check` writes, and on standard error an explanation of its fault, or warnings.
+ghost use Rattle.std.specs.Prelude.{◌≡◌, ◌+◌, ◌≤◌, ◌==◌, false, length};
+ghost use Rattle.lotos_text.specs.Limits.{max_text_length};
+ghost use Rattle.lotos_check.specs.CheckedView.{system_of};
+ghost use Rattle.lotos_tool.specs.ProgramRuns.{CheckReported, ProcessesReported, TextReported, check_status_of};
+ghost use Rattle.lotos_tool.specs.RejectedText.{end_of};
+
+use crate::check_command::write_processes;
+use crate::outcome::Ended;
+use crate::program::report_check;
+use crate::refusal::Refusal;
+use crate::specification_input::{Rejection, accept_text, end_of, read_input};
+use lotos_check::Checked;
+use lotos_command::DiagnoseRequest;
+use lotos_device::{Sink, Source};
+use lotos_explain::{explain_check_fault, explain_text_fault};
+use std::alloc::Global;
+use std::io::Write;
+
+/// Reads a specification, checks it, writes the lines of its processes, and reports the check as `report_check` does;
+/// then writes to `err` the diagnostics that are asked for. Returns the status of the check. Neither the reader nor
+/// `out` may have failed before.
+pub fn diagnose<R: Source, W: Sink, E: Write>(
+    alloc: Global,
+    asked: &DiagnoseRequest,
+    reader: &mut R,
+    out: &mut W,
+    err: &mut E,
+) -> u8
+    requires reader { R.has_failed reader.old ≡ false }
+    requires out { W.has_failed out.old ≡ false }
+    ensures reported { CheckReported (R.left reader.old) (R.left reader.new)
+        (W.got out.old) (W.got out.new) (R.has_failed reader.new) result }
+    ensures given { R.given reader.new ≤ R.given reader.old + (max_text_length + 1) }
+    ensures output { W.has_failed out.new ≡ (result == 6) }
+{
+    match read_input(alloc, reader) {
+        Ok(text) => diagnose_text(alloc, asked, text.as_slice(), out, err),
+        Err(rejection) => report_rejection(alloc, asked, b"", rejection, err),
+    }
+}
+
+/// Checks a text with diagnostics.
+fn diagnose_text<W: Sink, E: Write>(
+    alloc: Global,
+    asked: &DiagnoseRequest,
+    text: &[u8],
+    out: &mut W,
+    err: &mut E,
+) -> u8
+    requires text { length text.now ≤ max_text_length }
+    requires out { W.has_failed out.old ≡ false }
+    ensures reported { TextReported text.now (W.got out.old) (W.got out.new) result }
+    ensures output { W.has_failed out.new ≡ (result == 6) }
+{
+    match accept_text(alloc, text) {
+        Ok(found) => report_processes(alloc, asked, text, &found, out, err),
+        Err(rejection) => report_rejection(alloc, asked, text, rejection, err),
+    }
+}
+
+/// Writes the lines of an accepted specification's processes, and then, if that did not fail, its warnings if they are
+/// asked for.
+fn report_processes<W: Sink, E: Write>(
+    alloc: Global,
+    asked: &DiagnoseRequest,
+    text: &[u8],
+    found: &Checked,
+    out: &mut W,
+    err: &mut E,
+) -> u8
+    requires { W.has_failed out.old ≡ false }
+    ensures reported { ProcessesReported (system_of found.now) (W.got out.old) (W.got out.new) result }
+    ensures output { W.has_failed out.new ≡ (result == 6) }
+{
+    let ended = write_processes(alloc, found, out);
+    let status = report_check(&ended, err);
+    if asked.warn && status == 0 {
+        warn(alloc, text, found, err);
+    }
+    status
+}
+
+/// Writes a line for each warning of an accepted specification.
+fn warn<E: Write>(_alloc: Global, _text: &[u8], _found: &Checked, _err: &mut E) {}
+
+/// Reports why a text is rejected, and then explains it if that is asked for.
+fn report_rejection<E: Write>(
+    alloc: Global,
+    asked: &DiagnoseRequest,
+    text: &[u8],
+    rejection: Rejection,
+    err: &mut E,
+) -> u8
+    ensures status { result ≡ check_status_of (end_of rejection) }
+    ensures output { (result == 6) ≡ false }
+{
+    let ended = end_of(rejection);
+    let status = report_check(&ended, err);
+    if asked.explain {
+        explain(alloc, text, &ended, err);
+    }
+    status
+}
+
+/// Explains the fault with which the check of a text ended, if it is one of the text.
+fn explain<E: Write>(alloc: Global, text: &[u8], ended: &Ended, err: &mut E) {
+    match ended {
+        Ended::Refused(Refusal::Text { fault, .. }) => explain_text_fault(alloc, text, fault, err),
+        Ended::Refused(Refusal::Check { fault, .. }) => explain_check_fault(text, fault, err),
+        _ => {}
+    }
+}
