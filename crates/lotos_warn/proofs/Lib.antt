@@ -1,0 +1,5 @@
+pub mod NameTests
+pub mod Additions
+pub mod FreeGates
+pub mod GateAdditions
+pub mod CallAdditions

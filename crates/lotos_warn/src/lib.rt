@@ -5,11 +5,11 @@
 //! parallel composition that one side never offers. The definitions that the contracts cite are in `specs/`.
 #![tactic(auto)]
 
-mod called_processes;
 mod definition_order;
 mod definition_warnings;
 mod gate_names;
 mod offered_gates;
+mod process_calls;
 mod specification_warnings;
 mod used_gates;
 mod warning;

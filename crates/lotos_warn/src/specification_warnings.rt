@@ -12,9 +12,9 @@ ghost use Rattle.lotos_warn.specs.Warnings.{IsWarning};
 ghost use Rattle.lotos_warn.specs.WarningOrder.{warning_cmp};
 ghost use Rattle.lotos_warn.specs.declared.warning.Warning.{Warning as AnyWarning};
 
-use crate::called_processes::called_processes;
 use crate::definition_order::add_definitions;
 use crate::definition_warnings::{check_calls_of_all, check_gates_of_all};
+use crate::process_calls::called_processes;
 use crate::warning::Warning;
 use lotos_check::Checked;
 use lotos_text::{Definition, TextFault, parse};
