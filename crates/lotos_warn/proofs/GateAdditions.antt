@@ -111,13 +111,19 @@ pub offers_call : (old new : List Name) (p : Placed) (gs : List Placed) → Adds
 offers_call = form_call OffersFree IsNone offered_by_form
 
 -- a parallel composition offers what its sides offer, which were found apart
-pub offers_par : (old mid new none_left by_left none_right by_right : List Name) (l : BehaviourView) (s : SyncView) (r : BehaviourView) →
+pub offers_par : (old new none_left by_left none_right by_right : List Name) (l : BehaviourView) (s : SyncView) (r : BehaviourView) →
     none_left ≡ [] → Adds none_left by_left (OffersFree l) → none_right ≡ [] → Adds none_right by_right (OffersFree r) →
-    Adds old mid (λ n. In n by_left) → Adds mid new (λ n. In n by_right) → Adds old new (OffersFree (par l s r))
-offers_par old mid new none_left by_left none_right by_right l s r e h f k m p =
+    Adds old new (λ n. In n by_left ⊎ In n by_right) → Adds old new (OffersFree (par l s r))
+offers_par old new none_left by_left none_right by_right l s r e h f k m =
     let left = adds_alone none_left by_left (OffersFree l) e h in
     let right = adds_alone none_right by_right (OffersFree r) f k in
-    form_par OffersFree IsNone offered_by_form old mid mid new l s r
-    (adds_as old mid (λ n. In n by_left) (OffersFree l) left m)
-    (adds_nothing mid (IsNone s) (λ n i. i))
-    (adds_as mid new (λ n. In n by_right) (OffersFree r) right p)
+    made OffersFree IsNone offered_by_form old new (par l s r)
+    (adds_as old new (λ n. In n by_left ⊎ In n by_right) (HasIn IsNone (par l s r))
+    (λ n. (
+      (λ i. elim i [ inl j ↦ inl ((offered_by_form l n).0 ((left n).0 j)) | inr j ↦ inr (inr ((offered_by_form r n).0 ((right n).0 j))) ]),
+      (λ i. elim i [
+        | inl j ↦ inl ((left n).1 ((offered_by_form l n).1 j))
+        | inr (inl j) ↦ absurd j
+        | inr (inr j) ↦ inr ((right n).1 ((offered_by_form r n).1 j))
+      ]),
+    )) m)

@@ -3,3 +3,9 @@ pub mod Additions
 pub mod FreeGates
 pub mod GateAdditions
 pub mod CallAdditions
+pub mod ListWarnings
+pub mod DefinitionParts
+pub mod SortedWarnings
+pub mod CalledNames
+pub mod WholeWarnings
+pub mod DefinitionWarnings

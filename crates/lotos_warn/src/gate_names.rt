@@ -1,5 +1,5 @@
 //! Sets of gate names.
-ghost use Rattle.std.specs.Prelude.{◌≡◌, OnOk, map};
+ghost use Rattle.std.specs.Prelude.{◌≡◌, ◌⊎◌, OnOk, map};
 ghost use Rattle.lotos_text.specs.AstOf.{sync_view};
 ghost use Rattle.lotos_check.specs.NameLists.{In, texts};
 ghost use Rattle.lotos_warn.specs.Additions.{AddsNames, IsActionNamed, IsListed, IsVisible};
@@ -58,11 +58,21 @@ pub(crate) fn insert_list<'a>(
     }
 }
 
-/// Adds all names of a set.
-pub(crate) fn insert_all<'a>(
+/// Adds all names of two sets.
+pub(crate) fn insert_both<'a>(
     into: &mut IndexSet<&'a str>,
-    from: &[&'a str],
+    first: &[&'a str],
+    second: &[&'a str],
 ) -> Result<(), AllocError>
+    ensures { OnOk result (AddsNames (λ k. k.now) into.old.keys into.new.keys
+        (λ n. In n (map (λ k. k.now) first.now) ⊎ In n (map (λ k. k.now) second.now))) }
+{
+    insert_all(into, first)?;
+    insert_all(into, second)
+}
+
+/// Adds all names of a set.
+fn insert_all<'a>(into: &mut IndexSet<&'a str>, from: &[&'a str]) -> Result<(), AllocError>
     ensures { OnOk result (AddsNames (λ k. k.now) into.old.keys into.new.keys
         (λ n. In n (map (λ k. k.now) from.now))) }
 {

@@ -5,7 +5,7 @@ ghost use Rattle.lotos_check.specs.NameLists.{In};
 ghost use Rattle.lotos_warn.specs.Additions.{Adds, AddsNames, IsMissing, IsMissingGate, IsMissingOn};
 ghost use Rattle.lotos_warn.specs.Warnings.{IsListWarning, OffersFree};
 
-use crate::gate_names::{insert_action, insert_all, insert_names, insert_visible};
+use crate::gate_names::{insert_action, insert_both, insert_names, insert_visible};
 use crate::warning::{Side, Warning, copy_placed};
 use indexmap::IndexSet;
 use lotos_text::{Behaviour, Placed, SyncSet};
@@ -40,8 +40,7 @@ pub(crate) fn check_lists<'a>(
             let mut by_right = IndexSet::new(alloc);
             check_lists(alloc, right, &mut by_right, found)?;
             check_list(alloc, sync, &by_left, &by_right, found)?;
-            insert_all(offered, by_left.as_slice())?;
-            insert_all(offered, by_right.as_slice())
+            insert_both(offered, by_left.as_slice(), by_right.as_slice())
         }
         Behaviour::Hide { gates, body } => {
             let mut inside = IndexSet::new(alloc);

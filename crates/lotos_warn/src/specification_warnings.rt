@@ -17,6 +17,7 @@ use crate::definition_warnings::{check_calls_of_all, check_gates_of_all};
 use crate::process_calls::called_processes;
 use crate::warning::Warning;
 use lotos_check::Checked;
+use lotos_check::laws::{binding_is_unique, calls_fit};
 use lotos_text::{Definition, TextFault, parse};
 use std::alloc::{AllocError, Global};
 
@@ -65,6 +66,8 @@ fn unsorted_warnings(
     ensures { IfOk result (λ found. (w : AnyWarning) →
         In w found.items ↔ IsWarning (definition_view whole.now) w) }
 {
+    binding_is_unique();
+    calls_fit();
     let mut definitions = Vec::new(alloc);
     add_definitions(whole, &mut definitions)?;
     let called = called_processes(alloc, system)?;
