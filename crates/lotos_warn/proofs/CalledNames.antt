@@ -157,16 +157,20 @@ pub record IsCalledByName (spec : DefinitionView) (k : ℕ) : Type 0 where
 -- the laws of the static check
 module _ (one : (scope : Scope) → IsDistinctScope scope → BindsOnce scope)
     (named : (spec : DefinitionView) (s : System) → IsAccepted spec s → (v : ScopedDefinition) → In v (all_definitions spec) →
-        (b : Flat) → Resolves v.scope (body_of v.definition) b → (k : ℕ) (gates : List Name) → ContainsCall b k gates → GoesToNamed s v k gates)
+    (b : Flat) → Resolves v.scope (body_of v.definition) b → (k : ℕ) (gates : List Name) → ContainsCall b k gates → GoesToNamed s v k gates)
     (spec : DefinitionView) (s : System) (a : IsAccepted spec s) where
-  top : ScopedDefinition
+  abbrev top : ScopedDefinition
   top = record { scope = within spec 0 []; definition = spec }
 
   by_name : (k : ℕ) (v : ScopedDefinition) → In v (all_definitions spec) → (b : Flat) → Resolves v.scope (body_of v.definition) b → ContainsCallOf b k → IsCalledByName spec k
   by_name k v i b r c =
       let n = (named spec s a v i b r k c.0 c.1).named in
       record {
-        scope = v.scope; in_scope = n.there; callee = n.called; actuals = n.actuals; definition = n.definition;
+        scope = v.scope;
+        in_scope = n.there;
+        callee = n.called;
+        actuals = n.actuals;
+        definition = n.definition;
         occurs = record { definition = v.definition; located = i; inside = n.inside };
         means = n.means;
       }
@@ -183,7 +187,7 @@ module _ (one : (scope : Scope) → IsDistinctScope scope → BindsOnce scope)
   by_number k v i there callee actuals d inside means =
       let once = one v.scope (visible_distinct spec a.typed.distinct v i) in
       let found = (λ (c : Flat) (r : Resolves v.scope (body_of v.definition) c).
-          number_called v.scope once (texts (formals_of v.definition)) (body_of v.definition) c there callee actuals k d r inside means) in
+      number_called v.scope once (texts (formals_of v.definition)) (body_of v.definition) c there callee actuals k d r inside means) in
       elim i [
         | inl e ↦ inl (found s.start (subst (λ u. Resolves u.scope (body_of u.definition) s.start) e a.flat.start))
         | inr j ↦ (let at = process_at (processes_of spec) s.processes a.flat.processes v j in inr (at.0, at.1, found at.0.body at.2.body))

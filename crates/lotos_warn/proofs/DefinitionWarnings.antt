@@ -1,11 +1,12 @@
 -- The warnings about definitions, one after the other.
-use Rattle.std.proofs.Common.{◌≡◌, ◌↔◌, ◌⊎◌, ℕ, suc, List, [], ◌∷◌, refl, sym, subst, inl, inr}
+use Rattle.std.proofs.Common.{◌≡◌, ◌↔◌, ◌⊎◌, ℕ, ◌+◌, ◌<◌, suc, List, [], ◌∷◌, map, length, drop, get_or, refl, sym, subst, inl, inr, arith}
 use Rattle.lotos_text.specs.AstView.{DefinitionView, name_of, formals_of, body_of}
 use Rattle.lotos_text.specs.declared.ast.Placed.{Placed}
 use Rattle.lotos_check.specs.NameLists.{Name, In}
 use Rattle.lotos_warn.specs.declared.warning.Warning.{Warning}
 use Rattle.lotos_warn.specs.declared.warning.Warning.TheVariants.{UncalledProcess, UnusedGate, UnofferedGate}
 use Rattle.lotos_warn.specs.Warnings.{UsesFree}
+use Rattle.lotos_warn.proofs.Additions.{from_place}
 use Rattle.lotos_warn.specs.Additions.{IsUnusedAmong, IsUnusedIn, IsGateWarning, IsGateWarningOfAny, IsUncalledAt, IsUncalledAmong}
 
 -- an unused gate of a list is the first, or one of the others
@@ -71,3 +72,18 @@ pub uncalled_never : (called : List ℕ) (number : ℕ) (d : DefinitionView) →
 uncalled_never called number d some (UncalledProcess p) h = h.1 some
 uncalled_never called number d some (UnusedGate gate name) h = h
 uncalled_never called number d some (UnofferedGate gate side) h = h
+
+-- of the processes from a number on, one that is not called is the first, or one of the others
+pub uncalled_next : {K : Type 0} (view : K → DefinitionView) (called : List ℕ) (ps : List K) (n : ℕ) (d y : K) → n < length ps → y ≡ get_or ps n d → (w : Warning) →
+    IsUncalledAmong called n (map view (drop n ps)) w ↔ (IsUncalledAt called n (view y) w ⊎ IsUncalledAmong called (n + 1) (map view (drop (n + 1) ps)) w)
+uncalled_next view called ps n d y within at w =
+    let next = from_place ps n d y within at in
+    let step : suc n ≡ n + 1 = omega arith in
+    let rest = map view (drop (n + 1) ps) in
+    subst (λ xs. IsUncalledAmong called n (map view xs) w ↔ (IsUncalledAt called n (view y) w ⊎ IsUncalledAmong called (n + 1) rest w)) (sym next)
+    (subst (λ m. (IsUncalledAt called n (view y) w ⊎ IsUncalledAmong called (suc n) rest w) ↔ (IsUncalledAt called n (view y) w ⊎ IsUncalledAmong called m rest w)) step
+    ((λ h. h), (λ h. h)))
+
+-- there is none after the last
+pub uncalled_end : {K : Type 0} (view : K → DefinitionView) (called : List ℕ) (n : ℕ) (ps : List K) → ps ≡ [] → (w : Warning) → IsUncalledAmong called n (map view ps) w → ⊥
+uncalled_end view called n ps none w h = subst (λ xs. IsUncalledAmong called n (map view xs) w) none h

@@ -9,3 +9,4 @@ pub mod SortedWarnings
 pub mod CalledNames
 pub mod WholeWarnings
 pub mod DefinitionWarnings
+pub mod SpelledTexts

@@ -1,5 +1,5 @@
 -- Warnings after sorting and removing repeats.
-use Rattle.std.proofs.Common.{◌≡◌, ◌↔◌, ℕ, ◌<◌, zero, suc, List, [], ◌∷◌, refl, sym, ap, subst, inl, inr, true, arith, length, get_or}
+use Rattle.std.proofs.Common.{◌≡◌, ◌↔◌, ℕ, ◌<◌, zero, suc, List, [], ◌∷◌, refl, sym, ◌∙◌, ap, subst, inl, inr, true, arith, length, get_or}
 use Rattle.std.specs.Ordering.{nat_cmp, eq_by_cmp, is_eq, ordering_then}
 use Rattle.std.specs.declared.cmp.Ordering.{Ordering}
 use Rattle.std.specs.declared.cmp.Ordering.TheVariants.{Less, Equal, Greater}
@@ -61,8 +61,14 @@ is_equal Less e = cc
 is_equal Equal e = refl
 is_equal Greater e = cc
 
+abbrev the_placed : Name → ℕ → Placed
+the_placed n a = record { name = n; at = a }
+
 placed_same : (p q : Placed) → p.at ≡ q.at → p.name ≡ q.name → p ≡ q
-placed_same p q e f = cc
+placed_same p q e f =
+    let named : p ≡ record { name = q.name; at = p.at } = ap (λ (n : Name). the_placed n p.at) f in
+    let there : record { name = q.name; at = p.at } ≡ q = ap (λ (a : ℕ). the_placed q.name a) e in
+    named ∙ there
 
 side_same : (s r : Side) → side_rank s ≡ side_rank r → s ≡ r
 side_same Left Left e = refl

@@ -1,6 +1,6 @@
 -- The warnings about a specification are those about its definitions.
-use Rattle.std.proofs.Common.{◌≡◌, ◌↔◌, ◌⊎◌, ℕ, ◌+◌, zero, suc, List, [], ◌∷◌, ◌++◌, Some, slice_get, map, refl, sym, ◌∙◌, ap, subst, inl, inr, arith}
-use Rattle.std.proofs.lemmas.List.{map-append}
+use Rattle.std.proofs.Common.{◌≡◌, ◌↔◌, ◌⊎◌, ℕ, ◌+◌, ◌-◌, ◌≤◌, length, take, drop, zero, suc, List, [], ◌∷◌, ◌++◌, Some, slice_get, map, refl, sym, ◌∙◌, ap, subst, inl, inr, arith}
+use Rattle.std.proofs.lemmas.List.{map-append, take_all}
 use Rattle.lotos_text.specs.AstView.{BehaviourView, gates, par, DefinitionView, def, DefinitionListView, no_defs, more_defs, name_of, formals_of, body_of, inner_of}
 use Rattle.lotos_text.specs.declared.ast.Placed.{Placed}
 use Rattle.lotos_check.specs.NameLists.{Name, In, texts}
@@ -34,6 +34,16 @@ everywhere (def name formals declared body inner) =
 pub in_order : (whole : DefinitionView) → definitions_in whole ≡ whole ∷ definitions_in_list (inner_of whole)
 in_order (def name formals declared body inner) = refl
 
+-- the definitions after the first are those inside it
+pub after_first : {K : Type 0} (view : K → DefinitionView) (xs : List K) (whole : DefinitionView) → map view xs ≡ definitions_in whole →
+    map view (take (length xs - 1) (drop 1 xs)) ≡ definitions_in_list (inner_of whole)
+after_first view [] whole e = let f = e ∙ in_order whole in cc
+after_first view (x ∷ xs) whole e =
+    let within : length xs ≤ length (x ∷ xs) - 1 = omega arith in
+    let f : view x ∷ map view xs ≡ whole ∷ definitions_in_list (inner_of whole) = e ∙ in_order whole in
+    let others : map view xs ≡ definitions_in_list (inner_of whole) = cc in
+    ap (map view) (take_all (length (x ∷ xs) - 1) xs within) ∙ others
+
 scope_of : (d : DefinitionView) (vs : List ScopedDefinition) → In d (map (λ v. v.definition) vs) → (scope : Scope) × In {X = ScopedDefinition} (record { scope = scope; definition = d }) vs
 scope_of d [] i = absurd i
 scope_of d (v ∷ vs) (inl e) = (v.scope, inl (ap (λ x. record { scope = v.scope; definition = x }) e))
@@ -63,9 +73,14 @@ module _ (whole : DefinitionView) where
   module _ (gate : Placed) (side : Side) where
     occurrence : (scope : Scope) (d : DefinitionView) → IsDefinition whole scope d → WarnsFrom gate side (texts (formals_of d)) (body_of d) → IsUnofferedGate whole gate side
     occurrence scope d i f = record {
-      scope = scope; in_scope = f.hidden; left = f.left; list = f.list; right = f.right;
+      scope = scope;
+      in_scope = f.hidden;
+      left = f.left;
+      list = f.list;
+      right = f.right;
       occurs = record { definition = d; located = i; inside = f.inside };
-      listed = f.listed; unoffered = f.unoffered;
+      listed = f.listed;
+      unoffered = f.unoffered;
     }
 
     unoffered : IsGateWarningOfAny (definitions_in whole) (UnofferedGate gate side) ↔ IsUnofferedGate whole gate side
@@ -75,9 +90,12 @@ module _ (whole : DefinitionView) where
         | inr u ↦ (let at = scoped d i in
             occurrence at.0 d at.1 (from_form gate side (texts (formals_of d)) (body_of d) ((warns_by_form gate side (body_of d)).0 u)))
       ]),
-      (λ h. (h.occurs.definition, unscoped h.scope h.occurs.definition h.occurs.located,
-          inr ((warns_by_form gate side (body_of h.occurs.definition)).1
-          (to_form gate side (texts (formals_of h.occurs.definition)) h.in_scope (body_of h.occurs.definition) h.left h.right h.list h.occurs.inside h.listed h.unoffered)))),
+      (λ h. (
+        h.occurs.definition,
+        unscoped h.scope h.occurs.definition h.occurs.located,
+        inr ((warns_by_form gate side (body_of h.occurs.definition)).1
+            (to_form gate side (texts (formals_of h.occurs.definition)) h.in_scope (body_of h.occurs.definition) h.left h.right h.list h.occurs.inside h.listed h.unoffered)),
+      )),
     )
 
 -- of the processes one has the name, and its number is not among those called
@@ -122,7 +140,6 @@ not_process_side called (d ∷ ds) first gate side (inl h) = h
 not_process_side called (d ∷ ds) first gate side (inr h) = not_process_side called ds (suc first) gate side h
 
 module _ (whole : DefinitionView) (called : List ℕ) (by_name : (k : ℕ) → In k called ↔ IsCalledByName whole k) where
-
   inner_row : definitions_in_list (inner_of whole) ≡ map (λ v. v.definition) (processes_of whole)
   inner_row = listed_row (within whole 0 []) 0 (inner_of whole)
 
@@ -131,10 +148,19 @@ module _ (whole : DefinitionView) (called : List ℕ) (by_name : (k : ℕ) → I
       let counted = r.counted in
       let n : r.number ≡ r.index = omega arith in
       record {
-        process = r.index; scoped = r.scoped; located = r.located; named = r.named;
+        process = r.index;
+        scoped = r.scoped;
+        located = r.located;
+        named = r.named;
         uncalled = λ scope in_scope callee actuals d occurs means.
             r.uncalled (subst (λ k. In k called) (sym n) ((by_name r.index).1 (record {
-              scope = scope; in_scope = in_scope; callee = callee; actuals = actuals; definition = d; occurs = occurs; means = means;
+              scope = scope;
+              in_scope = in_scope;
+              callee = callee;
+              actuals = actuals;
+              definition = d;
+              occurs = occurs;
+              means = means;
             })));
       }
 

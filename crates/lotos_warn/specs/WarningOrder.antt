@@ -3,7 +3,8 @@
 use Rattle.std.specs.Prelude.{ℕ}
 use Rattle.std.specs.Ordering.{nat_cmp, on, then_cmp}
 use Rattle.std.specs.declared.cmp.Ordering.{Ordering}
-use Rattle.std.specs.Cmp.Lexicographic.{slice_cmp}
+use Rattle.std.specs.Cmp.{IsTotalOrder, then_total, on_total, nat_cmp_total}
+use Rattle.std.specs.Cmp.Lexicographic.{slice_cmp, nat_list_cmp_total}
 use Rattle.lotos_check.specs.NameLists.{Name}
 use Rattle.lotos_warn.specs.declared.warning.Side.{Side}
 use Rattle.lotos_warn.specs.declared.warning.Side.TheVariants.{Left, Right}
@@ -43,3 +44,8 @@ context_of (UnofferedGate gate side) = gate.name
 abbrev pub warning_cmp : Warning → Warning → Ordering
 warning_cmp = then_cmp (on offset_of nat_cmp) (then_cmp (on rank_of nat_cmp)
     (then_cmp (on subject_of (slice_cmp nat_cmp)) (on context_of (slice_cmp nat_cmp))))
+
+-- it is total
+pub warning_total : IsTotalOrder warning_cmp
+warning_total = then_total (on_total offset_of nat_cmp_total) (then_total (on_total rank_of nat_cmp_total)
+    (then_total (on_total subject_of nat_list_cmp_total) (on_total context_of nat_list_cmp_total)))

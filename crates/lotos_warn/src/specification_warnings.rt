@@ -1,11 +1,12 @@
 //! The warnings about a specification.
-ghost use Rattle.std.specs.Prelude.{◌↔◌, IfOk};
+ghost use Rattle.std.specs.Prelude.{◌≡◌, ◌↔◌, IfOk};
 ghost use Rattle.std.specs.List.Sorted.{IsStrictlySortedBy};
 ghost use Rattle.lotos_text.specs.AstView.{DefinitionView};
 ghost use Rattle.lotos_text.specs.AstOf.{definition_view};
 ghost use Rattle.lotos_text.specs.Spelled.{Spelled};
+ghost use Rattle.lotos_text.specs.TextFaults.{SpellsNoSpecification};
 ghost use Rattle.lotos_check.specs.Acceptance.{IsAccepted};
-ghost use Rattle.lotos_check.specs.AcceptedText.{Accepted};
+ghost use Rattle.lotos_check.specs.AcceptedText.{Accepted, is_memory_fault};
 ghost use Rattle.lotos_check.specs.CheckedView.{system_of};
 ghost use Rattle.lotos_check.specs.NameLists.{In};
 ghost use Rattle.lotos_warn.specs.Warnings.{IsWarning};
@@ -35,9 +36,25 @@ pub fn warnings(alloc: Global, text: &[u8], system: &Checked) -> Result<Vec<Warn
 {
     match parse(alloc, text) {
         Ok(specification) => warnings_of(alloc, &specification.whole, system),
-        Err(TextFault::E99(error)) => Err(error),
-        Err(_) => unreachable!(),
+        Err(fault) => Err(memory_error(text, system, &fault)),
     }
+}
+
+/// The error of the allocator, for a fault of an accepted text.
+fn memory_error(text: &[u8], system: &Checked, fault: &TextFault) -> AllocError
+    requires accepted { Accepted text.now (system_of system.now) }
+    requires nothing { SpellsNoSpecification text.now fault.now }
+{
+    if !is_memory_fault(fault) {
+        unreachable!();
+    }
+    AllocError
+}
+
+fn is_memory_fault(fault: &TextFault) -> bool
+    ensures { result ≡ is_memory_fault fault.now }
+{
+    matches!(fault, TextFault::E99(_))
 }
 
 /// The warnings about the specification that the system is of.

@@ -1,10 +1,9 @@
 //! Warnings, their texts and their order.
-ghost use Rattle.std.specs.Prelude.{◌≡◌, IfOk};
-ghost use Rattle.std.proofs.Common.{rules};
-ghost use Rattle.std.specs.Cmp.{partial_order_from_own_ties};
-ghost use Rattle.std.specs.Cmp.Rules.{comparing};
+ghost use Rattle.std.specs.Prelude.{◌≡◌, IfOk, refl};
+ghost use Rattle.std.proofs.lemmas.Cmp.{eq_by_cmp_equiv};
+ghost use Rattle.std.specs.Cmp.{partial_equiv_from_equiv, partial_order_from_own_ties, partial_order_from_total};
 ghost use Rattle.std.specs.Ordering.{as_partial_cmp, eq_by_cmp};
-ghost use Rattle.lotos_warn.specs.WarningOrder.{context_of, offset_of, rank_of, side_rank, subject_of, warning_cmp};
+ghost use Rattle.lotos_warn.specs.WarningOrder.{context_of, offset_of, rank_of, side_rank, subject_of, warning_cmp, warning_total};
 
 use lotos_text::{Name, Placed};
 use std::alloc::{AllocError, Global};
@@ -92,7 +91,7 @@ impl Warning {
 impl PartialEq for Warning {
     ghost eq = { eq_by_cmp warning_cmp };
 
-    ghost laws = { Prim.search (comparing, rules) };
+    ghost laws = { partial_equiv_from_equiv (eq_by_cmp_equiv warning_total) };
 
     fn eq(&self, other: &Warning) -> bool {
         self.cmp(other).is_eq()
@@ -100,13 +99,13 @@ impl PartialEq for Warning {
 }
 
 impl Eq for Warning {
-    ghost laws = { Prim.search (comparing, rules) };
+    ghost laws = { eq_by_cmp_equiv warning_total };
 }
 
 impl PartialOrd for Warning {
     ghost partial_cmp = { as_partial_cmp warning_cmp };
 
-    ghost laws = { partial_order_from_own_ties (Prim.search (comparing, rules)) (Prim.search (comparing, rules)) };
+    ghost laws = { partial_order_from_own_ties (partial_order_from_total warning_total) (λ v w. refl) };
 
     fn partial_cmp(&self, other: &Warning) -> Option<Ordering> {
         Some(self.cmp(other))
@@ -116,11 +115,11 @@ impl PartialOrd for Warning {
 impl Ord for Warning {
     ghost cmp = { warning_cmp };
 
-    ghost total = { Prim.search (comparing, rules) };
+    ghost total = { warning_total };
 
-    ghost matches_partial_cmp = { Prim.search (comparing, rules) };
+    ghost matches_partial_cmp = { λ v w. refl };
 
-    ghost matches_eq = { Prim.search (comparing, rules) };
+    ghost matches_eq = { λ v w. refl };
 
     fn cmp(&self, other: &Warning) -> Ordering {
         let subjects = self.subject().cmp(other.subject());

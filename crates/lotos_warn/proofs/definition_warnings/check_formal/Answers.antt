@@ -14,8 +14,8 @@ returns-in_ok-push c =
     let name = c.args.definition.now in
     let missing = name_missing (λ k. k.now) c.text.result.now c.args.used.now.keys (sym c.contains.ensures ∙ c.if-not-contains.true) in
     let none = subst (λ n. In n used → ⊥) c.text.ensures.bytes missing in
-    let pushed = c.in_ok-push.ensures.items ∙ (ap (λ g. c.args.found.now.items ++ UnusedGate g _ ∷ []) c.in_ok-gate.ensures
-        ∙ ap (λ n. c.args.found.now.items ++ UnusedGate gate n ∷ []) c.in_ok-definition.ensures) in
+    let pushed = c.in_ok-push.ensures.items ∙ (ap (λ g. c.args.found.now.items ++ UnusedGate g c.in_ok-definition.definition ∷ []) c.in_ok-gate.ensures
+    ∙ ap (λ n. c.args.found.now.items ++ UnusedGate gate n ∷ []) c.in_ok-definition.ensures) in
     subst (λ ws. Adds c.args.found.now.items ws (IsUnusedAmong used name (gate ∷ []))) (sym pushed)
     (adds_as c.args.found.now.items (c.args.found.now.items ++ UnusedGate gate name ∷ []) (λ w. UnusedGate gate name ≡ w)
     (IsUnusedAmong used name (gate ∷ [])) (unused_one used name gate none)
