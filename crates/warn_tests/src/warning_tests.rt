@@ -352,3 +352,36 @@ fn warns_about_each_gate_of_a_long_text(rt: HostRuntime) -> Result<(), Fail> {
     assert_eq!(rt; right, GATES);
     Ok(())
 }
+
+/// How many lists are around the call.
+const LISTS: usize = 190;
+
+/// A specification with a call that has 20,000 gates inside 190 compositions, each of which has one gate in its list
+/// and `stop` on its left side.
+fn nested_text(alloc: Global) -> Result<String, AllocError> {
+    let gates = numbered(alloc, "a", ",", 20000)?;
+    let mut text = String::new(alloc);
+    text.push_str("specification S[")?;
+    text.push_str(gates.as_str())?;
+    text.push_str("] : noexit behaviour ")?;
+    for _ in 0..LISTS {
+        text.push_str("stop |[a0]| ")?;
+    }
+    text.push_str("P[")?;
+    text.push_str(gates.as_str())?;
+    text.push_str("] where process P[")?;
+    text.push_str(gates.as_str())?;
+    text.push_str("] : noexit := i; P[")?;
+    text.push_str(gates.as_str())?;
+    text.push_str("] endproc endspec")?;
+    Ok(text)
+}
+
+#[test]
+fn warns_about_lists_around_a_call_with_many_gates(rt: HostRuntime) -> Result<(), Fail> {
+    let text = nested_text(rt.alloc())?;
+    let (all, right) = warning_counts(rt.alloc(), text.as_str())?;
+    assert_eq!(rt; all, LISTS);
+    assert_eq!(rt; right, 0);
+    Ok(())
+}
