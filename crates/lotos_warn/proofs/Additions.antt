@@ -33,6 +33,13 @@ module _ {X : Type 0} where
     ])),
   )
 
+  -- what is added to the second list by the first is added to the first by the second
+  pub adds_other : (first second new : List X) → Adds second new (λ x. In x first) → Adds first new (λ x. In x second)
+  adds_other first second new added x = (
+    (λ i. elim ((added x).0 i) [ inl j ↦ inr j | inr j ↦ inl j ]),
+    (λ h. (added x).1 (elim h [ inl j ↦ inr j | inr j ↦ inl j ])),
+  )
+
   -- what is added to an empty list is all of the list
   pub adds_alone : (old new : List X) (P : X → Type 0) → old ≡ [] → Adds old new P → (x : X) → In x new ↔ P x
   adds_alone old new P empty added x =

@@ -7,6 +7,7 @@ ghost use Rattle.lotos_warn.specs.Additions.{AddsNames, IsActionNamed, IsListed,
 use indexmap::IndexSet;
 use lotos_text::{Action, Name, Placed, SyncSet};
 use std::alloc::{AllocError, Global};
+use std::mem::replace;
 
 /// Adds a name.
 pub(crate) fn insert_name<'a>(
@@ -61,14 +62,28 @@ pub(crate) fn insert_list<'a>(
 /// Adds all names of two sets.
 pub(crate) fn insert_both<'a>(
     into: &mut IndexSet<&'a str>,
-    first: &[&'a str],
-    second: &[&'a str],
+    first: IndexSet<&'a str>,
+    second: IndexSet<&'a str>,
 ) -> Result<(), AllocError>
     ensures { OnOk result (AddsNames (λ k. k.now) into.old.keys into.new.keys
-        (λ n. In n (map (λ k. k.now) first.now) ⊎ In n (map (λ k. k.now) second.now))) }
+        (λ n. In n (map (λ k. k.now) first.entry.keys) ⊎ In n (map (λ k. k.now) second.entry.keys))) }
 {
-    insert_all(into, first)?;
-    insert_all(into, second)
+    merge(into, first)?;
+    merge(into, second)
+}
+
+/// Adds all names of a set. The names of the smaller set go into the larger one, so that a name that goes through many
+/// sets is moved at most as often as their sizes double.
+fn merge<'a>(into: &mut IndexSet<&'a str>, from: IndexSet<&'a str>) -> Result<(), AllocError>
+    ensures { OnOk result (AddsNames (λ k. k.now) into.old.keys into.new.keys
+        (λ n. In n (map (λ k. k.now) from.entry.keys))) }
+{
+    if into.len() < from.len() {
+        let fewer = replace(into, from);
+        insert_all(into, fewer.as_slice())
+    } else {
+        insert_all(into, from.as_slice())
+    }
 }
 
 /// Adds all names of a set.

@@ -40,7 +40,7 @@ pub(crate) fn check_lists<'a>(
             let mut by_right = IndexSet::new(alloc);
             check_lists(alloc, right, &mut by_right, found)?;
             check_list(alloc, sync, &by_left, &by_right, found)?;
-            insert_both(offered, by_left.as_slice(), by_right.as_slice())
+            insert_both(offered, by_left, by_right)
         }
         Behaviour::Hide { gates, body } => {
             let mut inside = IndexSet::new(alloc);

@@ -6,7 +6,7 @@ use Rattle.lotos_warn.proofs.gate_names.insert_both.Goals as goal
 
 pub returns : goal.returns
 returns c =
-    on_ok_weaker c.insert_all-2.result
-    (λ h. adds_both (map (λ k. k.now) c.args.into.now.keys) (map (λ k. k.now) c.insert_all.new.into.keys) (map (λ k. k.now) c.insert_all-2.new.into.keys)
-    (λ n. In n (map (λ k. k.now) c.args.first.now)) (λ n. In n (map (λ k. k.now) c.args.second.now)) c.in_ok-insert_all.ensures h)
-    c.insert_all-2.ensures
+    on_ok_weaker c.merge-2.result
+    (λ h. adds_both (map (λ k. k.now) c.args.into.now.keys) (map (λ k. k.now) c.merge.new.into.keys) (map (λ k. k.now) c.merge-2.new.into.keys)
+    (λ n. In n (map (λ k. k.now) c.args.first.keys)) (λ n. In n (map (λ k. k.now) c.args.second.keys)) c.in_ok-merge.ensures h)
+    c.merge-2.ensures

@@ -43,7 +43,7 @@ returns-in_ok-check_list-in-Par-clause-offers t c =
     (behaviour_view c.in-Par.left.value) (sync_view c.in-Par.sync) (behaviour_view c.in-Par.right.value)
     (ap (map (λ k. k.now)) c.new-by_left.ensures.empty) (rw c.deref-in-Par.ensures at c.in_ok-check_lists-in-Par.ensures.offers)
     (ap (map (λ k. k.now)) c.new-by_right.ensures.empty) (rw c.deref-in-Par-2.ensures at c.in_ok-check_lists-in-Par-2.ensures.offers)
-    (rw c.as_slice-in-Par.ensures.keys at (rw c.as_slice.ensures.keys at h)))
+    h)
     c.insert_both.ensures)
 
 pub returns-in_ok-check_list-in-Par-clause-warns : goal.returns-in_ok-check_list-in-Par-clause-warns
@@ -67,7 +67,7 @@ returns-in_ok-check_lists-in-Hide-clause-offers t c =
     (map (λ k. k.now) c.new-inside.result.keys) (map (λ k. k.now) c.check_lists-in-Hide.new.offered.keys)
     c.in-Hide.gates.items (behaviour_view c.in-Hide.body.value) (ap (map (λ k. k.now)) c.new-inside.ensures.empty)
     (rw c.deref-in-Hide.ensures at c.in_ok-check_lists-in-Hide.ensures.offers)
-    (rw c.as_slice-in-Hide-2.ensures.value at (rw c.as_slice-in-Hide.ensures.keys at h)))
+    (rw c.as_slice-in-Hide.ensures.value at (rw c.as_slice.ensures.keys at h)))
     c.insert_visible.ensures)
 
 pub returns-in_ok-check_lists-in-Hide-clause-warns : goal.returns-in_ok-check_lists-in-Hide-clause-warns
