@@ -1,5 +1,5 @@
 -- What is added step by step.
-use Rattle.std.proofs.Common.{◌≡◌, ◌↔◌, ◌⊎◌, ℕ, ◌+◌, ◌<◌, suc, List, [], ◌∷◌, map, refl, sym, ap, subst, inl, inr, length, drop, get_or, add-one, drop-cons}
+use Rattle.std.proofs.Common.{◌≡◌, ◌↔◌, ◌⊎◌, ℕ, ◌+◌, ◌<◌, suc, List, [], ◌∷◌, sym, ap, subst, inl, inr, length, drop, get_or, add-one, drop-cons}
 use Rattle.lotos_check.specs.NameLists.{In}
 use Rattle.lotos_warn.specs.Additions.{Adds}
 

@@ -1,7 +1,7 @@
 -- The calls of a behaviour, from those of its parts.
-use Rattle.std.proofs.Common.{◌≡◌, ◌↔◌, ◌⊎◌, ℕ, List, [], ◌∷◌, Option, refl, sym, subst, inl, inr}
-use Rattle.lotos_check.specs.NameLists.{Name, In}
-use Rattle.lotos_check.specs.Flat.{Flat, stop, exit, prefix, choice, par, hide, enable, disable, call, FlatProcess, System}
+use Rattle.std.proofs.Common.{◌≡◌, ◌↔◌, ◌⊎◌, ℕ, List, ◌∷◌, Option, refl, sym, subst, inl, inr}
+use Rattle.lotos_check.specs.NameLists.{Name}
+use Rattle.lotos_check.specs.Flat.{Flat, stop, exit, prefix, choice, par, hide, enable, disable, call, FlatProcess}
 use Rattle.lotos_check.specs.Bodies.{ContainsCall, itself, under_prefix, left_choice, right_choice, left_par, right_par, under_hide, left_enable, right_enable, left_disable, right_disable}
 use Rattle.lotos_warn.specs.Additions.{Adds, ContainsCallOf, IsCalledByAny}
 use Rattle.lotos_warn.proofs.Additions.{adds_as, adds_both, adds_nothing}

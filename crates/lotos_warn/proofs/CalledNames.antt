@@ -1,10 +1,10 @@
 -- The calls of a flat system are those of the specification by name.
-use Rattle.std.proofs.Common.{◌≡◌, ◌↔◌, ◌⊎◌, ℕ, ◌+◌, zero, suc, List, [], ◌∷◌, ◌++◌, Some, slice_get, refl, sym, ◌∙◌, ap, subst, inl, inr}
+use Rattle.std.proofs.Common.{◌≡◌, ◌↔◌, ◌⊎◌, ℕ, ◌+◌, zero, suc, List, [], ◌∷◌, ◌++◌, Some, slice_get, refl, ap, subst, inl, inr}
 use Rattle.lotos_text.specs.AstView as t
 use Rattle.lotos_text.specs.AstView.{BehaviourView, DefinitionView, def, DefinitionListView, no_defs, more_defs, name_of, formals_of, body_of, inner_of}
 use Rattle.lotos_text.specs.declared.ast.Placed.{Placed}
 use Rattle.lotos_check.specs.NameLists.{Name, In, texts}
-use Rattle.lotos_check.specs.Scope.{Scope, Where, ScopedDefinition, Binds, IsDistinctScope, IsDefinition, within, definitions_in_scope, processes_of, all_definitions, count, declared_names}
+use Rattle.lotos_check.specs.Scope.{Scope, Where, ScopedDefinition, Binds, IsDistinctScope, within, definitions_in_scope, processes_of, all_definitions, count}
 use Rattle.lotos_check.specs.Subexpressions as parts
 use Rattle.lotos_check.specs.Subexpressions.{IsSubexpression, in_prefix, in_choice_left, in_choice_right, in_par_left, in_par_right, in_hide, in_enable_left, in_enable_right, in_disable_left, in_disable_right}
 use Rattle.lotos_check.specs.StaticFaults.{Occurs, IsDistinct}

@@ -1,15 +1,15 @@
 -- The warnings about a specification are those about its definitions.
 use Rattle.std.proofs.Common.{◌≡◌, ◌↔◌, ◌⊎◌, ℕ, ◌+◌, ◌-◌, ◌≤◌, length, take, drop, zero, suc, List, [], ◌∷◌, ◌++◌, Some, slice_get, map, refl, sym, ◌∙◌, ap, subst, inl, inr, arith}
 use Rattle.std.proofs.lemmas.List.{map-append, take_all}
-use Rattle.lotos_text.specs.AstView.{BehaviourView, gates, par, DefinitionView, def, DefinitionListView, no_defs, more_defs, name_of, formals_of, body_of, inner_of}
+use Rattle.lotos_text.specs.AstView.{DefinitionView, def, DefinitionListView, no_defs, more_defs, name_of, formals_of, body_of, inner_of}
 use Rattle.lotos_text.specs.declared.ast.Placed.{Placed}
 use Rattle.lotos_check.specs.NameLists.{Name, In, texts}
 use Rattle.lotos_check.specs.Scope.{Scope, ScopedDefinition, IsDefinition, within, definitions_in_scope, processes_of, all_definitions, definitions_in, definitions_in_list, count}
 use Rattle.lotos_warn.specs.declared.warning.Side.{Side}
 use Rattle.lotos_warn.specs.declared.warning.Warning.{Warning}
 use Rattle.lotos_warn.specs.declared.warning.Warning.TheVariants.{UncalledProcess, UnusedGate, UnofferedGate}
-use Rattle.lotos_warn.specs.Warnings.{IsUnusedGate, IsUnofferedGate, IsUncalledProcess, IsUnofferedIn, IsWarning}
-use Rattle.lotos_warn.specs.Additions.{IsGateWarning, IsGateWarningOfAny, IsUncalledAt, IsUncalledAmong}
+use Rattle.lotos_warn.specs.Warnings.{IsUnusedGate, IsUnofferedGate, IsUncalledProcess, IsWarning}
+use Rattle.lotos_warn.specs.Additions.{IsGateWarningOfAny, IsUncalledAmong}
 use Rattle.lotos_warn.proofs.ListWarnings.{to_form, from_form, warns_by_form, WarnsFrom}
 use Rattle.lotos_warn.proofs.CalledNames.{IsCalledByName}
 

@@ -1,7 +1,6 @@
-use Rattle.std.proofs.Common.{◌≡◌, List, [], ◌∷◌, ◌++◌, refl, sym, ap, ◌∙◌, subst}
+use Rattle.std.proofs.Common.{◌≡◌, [], ◌∷◌, ◌++◌, sym, ap, ◌∙◌, subst}
 use Rattle.lotos_text.specs.AstView.{name_of}
 use Rattle.lotos_text.specs.AstOf.{definition_view}
-use Rattle.lotos_check.specs.NameLists.{In}
 use Rattle.lotos_warn.specs.declared.warning.Warning.TheVariants.{UncalledProcess}
 use Rattle.lotos_warn.specs.Additions.{Adds, IsUncalledAt}
 use Rattle.lotos_warn.proofs.Additions.{adds_as, adds_nothing}

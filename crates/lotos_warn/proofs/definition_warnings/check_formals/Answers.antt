@@ -1,4 +1,4 @@
-use Rattle.std.proofs.Common.{◌<◌, ◌≤◌, List, [], ◌∷◌, length, map, arith}
+use Rattle.std.proofs.Common.{◌<◌, ◌≤◌, [], ◌∷◌, length, map, arith}
 use Rattle.std.proofs.lemmas.List.{drop_all}
 use Rattle.lotos_warn.specs.Additions.{IsUnusedAmong}
 use Rattle.lotos_warn.proofs.Additions.{from_place, loop_next, loop_end}

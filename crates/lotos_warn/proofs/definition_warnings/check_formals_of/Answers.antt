@@ -1,6 +1,6 @@
-use Rattle.std.proofs.Common.{◌≡◌, ◌↔◌, map, ap, ◌∙◌, subst}
+use Rattle.std.proofs.Common.{◌↔◌, map, ap, ◌∙◌, subst}
 use Rattle.std.proofs.lemmas.Result.{on_ok_weaker}
-use Rattle.lotos_text.specs.AstView.{name_of, formals_of, body_of}
+use Rattle.lotos_text.specs.AstView.{name_of, formals_of}
 use Rattle.lotos_text.specs.AstOf.{behaviour_view, definition_view}
 use Rattle.lotos_text.specs.declared.ast.Definition.{out-Definition}
 use Rattle.lotos_check.specs.NameLists.{Name, In}

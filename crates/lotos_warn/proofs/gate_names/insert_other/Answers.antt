@@ -1,4 +1,4 @@
-use Rattle.std.proofs.Common.{◌≡◌, map, refl, sym, ◌∙◌, subst}
+use Rattle.std.proofs.Common.{◌≡◌, map, sym, ◌∙◌, subst}
 use Rattle.lotos_check.specs.NameLists.{In}
 use Rattle.lotos_warn.proofs.Additions.{adds_as, adds_nothing}
 use Rattle.lotos_warn.proofs.NameTests.{name_found, name_missing}

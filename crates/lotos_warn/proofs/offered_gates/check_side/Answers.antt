@@ -1,4 +1,4 @@
-use Rattle.std.proofs.Common.{◌≡◌, List, [], ◌∷◌, ◌++◌, map, refl, sym, ap, ◌∙◌, subst}
+use Rattle.std.proofs.Common.{◌≡◌, [], ◌∷◌, ◌++◌, map, sym, ap, ◌∙◌, subst}
 use Rattle.lotos_check.specs.NameLists.{In}
 use Rattle.lotos_warn.specs.declared.warning.Warning.TheVariants.{UnofferedGate}
 use Rattle.lotos_warn.specs.Additions.{Adds, IsMissingOn}

@@ -1,5 +1,5 @@
-use Rattle.std.proofs.Common.{◌⊎◌, map}
-use Rattle.lotos_check.specs.CheckedView.{flat_of, process_of, system_of}
+use Rattle.std.proofs.Common.{◌⊎◌}
+use Rattle.lotos_check.specs.CheckedView.{system_of}
 use Rattle.lotos_warn.specs.Additions.{ContainsCallOf, IsCalledByAny, IsCalledIn}
 use Rattle.lotos_warn.proofs.Additions.{adds_as, adds_both, adds_alone}
 use Rattle.lotos_warn.proofs.CalledNames.{called_in}

@@ -1,4 +1,4 @@
-use Rattle.std.proofs.Common.{◌≡◌, ◌↔◌, ◌⊎◌, ◌++◌, ℕ, map, sym, ap, ◌∙◌, subst}
+use Rattle.std.proofs.Common.{◌≡◌, ◌↔◌, ◌⊎◌, ◌++◌, ℕ, map, ap, ◌∙◌, subst}
 use Rattle.lotos_text.specs.AstOf.{definition_view}
 use Rattle.lotos_check.specs.CheckedView.{system_of}
 use Rattle.lotos_check.specs.NameLists.{In}
