@@ -1,0 +1,95 @@
+-- The calls of a behaviour, from those of its parts.
+use Rattle.std.proofs.Common.{◌≡◌, ◌↔◌, ◌⊎◌, ℕ, List, ◌∷◌, Option, refl, sym, subst, inl, inr}
+use Rattle.lotos_check.specs.NameLists.{Name}
+use Rattle.lotos_check.specs.Flat.{Flat, stop, exit, prefix, choice, par, hide, enable, disable, call, FlatProcess}
+use Rattle.lotos_check.specs.Bodies.{ContainsCall, itself, under_prefix, left_choice, right_choice, left_par, right_par, under_hide, left_enable, right_enable, left_disable, right_disable}
+use Rattle.lotos_warn.specs.Additions.{Adds, ContainsCallOf, IsCalledByAny}
+use Rattle.lotos_warn.proofs.Additions.{adds_as, adds_both, adds_nothing}
+
+from_stop : (k : ℕ) → ContainsCallOf stop k → ⊥
+from_stop k (gs, h) = elim h [ ]
+
+from_exit : (k : ℕ) → ContainsCallOf exit k → ⊥
+from_exit k (gs, h) = elim h [ ]
+
+prefix_part : {a : Option Name} {b : Flat} {k : ℕ} {gs : List Name} → ContainsCall (prefix a b) k gs → ContainsCall b k gs
+prefix_part (under_prefix h) = h
+
+hide_part : {hidden : List Name} {b : Flat} {k : ℕ} {gs : List Name} → ContainsCall (hide hidden b) k gs → ContainsCall b k gs
+hide_part (under_hide h) = h
+
+choice_parts : {l r : Flat} {k : ℕ} {gs : List Name} → ContainsCall (choice l r) k gs → ContainsCall l k gs ⊎ ContainsCall r k gs
+choice_parts (left_choice h) = inl h
+choice_parts (right_choice h) = inr h
+
+par_parts : {l r : Flat} {s : Option (List Name)} {k : ℕ} {gs : List Name} → ContainsCall (par l s r) k gs → ContainsCall l k gs ⊎ ContainsCall r k gs
+par_parts (left_par h) = inl h
+par_parts (right_par h) = inr h
+
+enable_parts : {l r : Flat} {k : ℕ} {gs : List Name} → ContainsCall (enable l r) k gs → ContainsCall l k gs ⊎ ContainsCall r k gs
+enable_parts (left_enable h) = inl h
+enable_parts (right_enable h) = inr h
+
+disable_parts : {l r : Flat} {k : ℕ} {gs : List Name} → ContainsCall (disable l r) k gs → ContainsCall l k gs ⊎ ContainsCall r k gs
+disable_parts (left_disable h) = inl h
+disable_parts (right_disable h) = inr h
+
+called_number : {j k : ℕ} {gs names : List Name} → ContainsCall (call j gs) k names → j ≡ k
+called_number itself = refl
+
+-- a form with two operands
+both_parts : (whole l r : Flat) (k : ℕ) → ((gs : List Name) → ContainsCall whole k gs → ContainsCall l k gs ⊎ ContainsCall r k gs) →
+    ((gs : List Name) → ContainsCall l k gs → ContainsCall whole k gs) → ((gs : List Name) → ContainsCall r k gs → ContainsCall whole k gs) →
+    (ContainsCallOf l k ⊎ ContainsCallOf r k) ↔ ContainsCallOf whole k
+both_parts whole l r k down left right = (
+  (λ h. elim h [ inl c ↦ (c.0, left c.0 c.1) | inr c ↦ (c.0, right c.0 c.1) ]),
+  (λ c. elim (down c.0 c.1) [ inl i ↦ inl (c.0, i) | inr i ↦ inr (c.0, i) ]),
+)
+
+pub calls_stop : (ks : List ℕ) → Adds ks ks (ContainsCallOf stop)
+calls_stop ks = adds_nothing ks (ContainsCallOf stop) from_stop
+
+pub calls_exit : (ks : List ℕ) → Adds ks ks (ContainsCallOf exit)
+calls_exit ks = adds_nothing ks (ContainsCallOf exit) from_exit
+
+pub calls_prefix : (old new : List ℕ) (a : Option Name) (b : Flat) → Adds old new (ContainsCallOf b) → Adds old new (ContainsCallOf (prefix a b))
+calls_prefix old new a b = adds_as old new (ContainsCallOf b) (ContainsCallOf (prefix a b))
+    (λ k. ((λ c. (c.0, under_prefix c.1)), (λ c. (c.0, prefix_part c.1))))
+
+pub calls_hide : (old new : List ℕ) (hidden : List Name) (b : Flat) → Adds old new (ContainsCallOf b) → Adds old new (ContainsCallOf (hide hidden b))
+calls_hide old new hidden b = adds_as old new (ContainsCallOf b) (ContainsCallOf (hide hidden b))
+    (λ k. ((λ c. (c.0, under_hide c.1)), (λ c. (c.0, hide_part c.1))))
+
+module _ (old mid new : List ℕ) (l r : Flat) (first : Adds old mid (ContainsCallOf l)) (second : Adds mid new (ContainsCallOf r)) where
+  both : Adds old new (λ k. ContainsCallOf l k ⊎ ContainsCallOf r k)
+  both = adds_both old mid new (ContainsCallOf l) (ContainsCallOf r) first second
+
+  pub calls_choice : Adds old new (ContainsCallOf (choice l r))
+  calls_choice = adds_as old new (λ k. ContainsCallOf l k ⊎ ContainsCallOf r k) (ContainsCallOf (choice l r))
+      (λ k. both_parts (choice l r) l r k (λ gs h. choice_parts h) (λ gs h. left_choice h) (λ gs h. right_choice h)) both
+
+  pub calls_par : (s : Option (List Name)) → Adds old new (ContainsCallOf (par l s r))
+  calls_par s = adds_as old new (λ k. ContainsCallOf l k ⊎ ContainsCallOf r k) (ContainsCallOf (par l s r))
+      (λ k. both_parts (par l s r) l r k (λ gs h. par_parts h) (λ gs h. left_par h) (λ gs h. right_par h)) both
+
+  pub calls_enable : Adds old new (ContainsCallOf (enable l r))
+  calls_enable = adds_as old new (λ k. ContainsCallOf l k ⊎ ContainsCallOf r k) (ContainsCallOf (enable l r))
+      (λ k. both_parts (enable l r) l r k (λ gs h. enable_parts h) (λ gs h. left_enable h) (λ gs h. right_enable h)) both
+
+  pub calls_disable : Adds old new (ContainsCallOf (disable l r))
+  calls_disable = adds_as old new (λ k. ContainsCallOf l k ⊎ ContainsCallOf r k) (ContainsCallOf (disable l r))
+      (λ k. both_parts (disable l r) l r k (λ gs h. disable_parts h) (λ gs h. left_disable h) (λ gs h. right_disable h)) both
+
+call_of : (j k : ℕ) (gs : List Name) → j ≡ k → ContainsCallOf (call j gs) k
+call_of j k gs e = subst (ContainsCallOf (call j gs)) e (gs, itself)
+
+pub calls_call : (old new : List ℕ) (j : ℕ) (gs : List Name) → Adds old new (λ k. j ≡ k) → Adds old new (ContainsCallOf (call j gs))
+calls_call old new j gs = adds_as old new (λ k. j ≡ k) (ContainsCallOf (call j gs))
+    (λ k. (call_of j k gs, (λ c. called_number c.1)))
+
+-- of some processes one calls it: the first, or one of the others
+pub any_split : (p : FlatProcess) (ps : List FlatProcess) (k : ℕ) → IsCalledByAny (p ∷ ps) k ↔ (ContainsCallOf p.body k ⊎ IsCalledByAny ps k)
+any_split p ps k = (
+  (λ (q, i, c). elim i [ inl e ↦ inl (subst (λ r. ContainsCallOf r.body k) (sym e) c) | inr j ↦ inr (q, j, c) ]),
+  (λ h. elim h [ inl c ↦ (p, inl refl, c) | inr (q, j, c) ↦ (q, inr j, c) ]),
+)

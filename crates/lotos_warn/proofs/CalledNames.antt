@@ -1,0 +1,202 @@
+-- The calls of a flat system are those of the specification by name.
+use Rattle.std.proofs.Common.{◌≡◌, ◌↔◌, ◌⊎◌, ℕ, ◌+◌, zero, suc, List, [], ◌∷◌, ◌++◌, Some, slice_get, refl, ap, subst, inl, inr}
+use Rattle.lotos_text.specs.AstView as t
+use Rattle.lotos_text.specs.AstView.{BehaviourView, DefinitionView, def, DefinitionListView, no_defs, more_defs, name_of, formals_of, body_of, inner_of}
+use Rattle.lotos_text.specs.declared.ast.Placed.{Placed}
+use Rattle.lotos_check.specs.NameLists.{Name, In, texts}
+use Rattle.lotos_check.specs.Scope.{Scope, Where, ScopedDefinition, Binds, IsDistinctScope, within, definitions_in_scope, processes_of, all_definitions, count}
+use Rattle.lotos_check.specs.Subexpressions as parts
+use Rattle.lotos_check.specs.Subexpressions.{IsSubexpression, in_prefix, in_choice_left, in_choice_right, in_par_left, in_par_right, in_hide, in_enable_left, in_enable_right, in_disable_left, in_disable_right}
+use Rattle.lotos_check.specs.StaticFaults.{Occurs, IsDistinct}
+use Rattle.lotos_check.specs.Flat.{Flat, FlatProcess, System, Pairwise, no_pair, one_pair, IsProcess, Resolves, of_stop, of_exit, of_prefix, of_choice, of_par, of_par_all, of_hide, of_enable, of_disable, of_call}
+use Rattle.lotos_check.specs.Bodies.{ContainsCall, itself, under_prefix, left_choice, right_choice, left_par, right_par, under_hide, left_enable, right_enable, left_disable, right_disable, IsBodyOf, of_whole, of_process, GoesToNamed}
+use Rattle.lotos_check.specs.Acceptance.{IsAccepted}
+use Rattle.lotos_warn.specs.Additions.{ContainsCallOf, IsCalledByAny, IsCalledIn}
+use Rattle.lotos_warn.proofs.NameTests.{in_front, in_back, in_either}
+
+-- a member is at an index
+pub located : {X : Type 0} (x : X) (xs : List X) → In x xs → (k : ℕ) × (slice_get xs k ≡ Some x)
+located x [] i = absurd i
+located x (y ∷ ys) (inl e) = (zero, ap Some e)
+located x (y ∷ ys) (inr i) = let r = located x ys i in (suc r.0, r.1)
+
+-- what is at an index is a member
+pub member : {X : Type 0} (x : X) (xs : List X) (k : ℕ) → slice_get xs k ≡ Some x → In x xs
+member x [] k e = cc
+member x (y ∷ ys) zero e = inl cc
+member x (y ∷ ys) (suc k) e = inr (member x ys k e)
+
+body_called : (system : System) (k : ℕ) (b : Flat) → IsBodyOf system b → ContainsCallOf b k → ContainsCallOf system.start k ⊎ IsCalledByAny system.processes k
+body_called system k b of_whole c = inl c
+body_called system k b (of_process p process e) c = inr (process, member process system.processes p e, c)
+
+any_called : (system : System) (k : ℕ) → IsCalledByAny system.processes k → IsCalledIn system k
+any_called system k (process, i, c) =
+    let p = located process system.processes i in
+    record { body = process.body; located = of_process p.0 process p.1; calls = c }
+
+-- a process is called in the behaviour or by one of the processes
+pub called_in : (system : System) (k : ℕ) → (ContainsCallOf system.start k ⊎ IsCalledByAny system.processes k) ↔ IsCalledIn system k
+called_in system k = (
+  (λ h. elim h [ inl c ↦ record { body = system.start; located = of_whole; calls = c } | inr c ↦ any_called system k c ]),
+  (λ h. body_called system k h.body h.located h.calls),
+)
+
+-- a `where` of the specification
+record IsWhereOf (spec : DefinitionView) (w : Where) : Type 0 where
+  scoped : ScopedDefinition
+  among : In scoped (all_definitions spec)
+  same : w.defs ≡ inner_of scoped.definition
+
+abbrev AllWheres : DefinitionView → Scope → Type 0
+AllWheres spec scope = (w : Where) → In w scope → IsWhereOf spec w
+
+more_wheres : (spec : DefinitionView) (w : Where) (scope : Scope) → IsWhereOf spec w → AllWheres spec scope → AllWheres spec (w ∷ scope)
+more_wheres spec w scope h each x (inl e) = subst (IsWhereOf spec) e h
+more_wheres spec w scope h each x (inr i) = each x i
+
+listed_wheres : (spec : DefinitionView) (scope : Scope) (k : ℕ) (ds : DefinitionListView) →
+    ((v : ScopedDefinition) → In v (definitions_in_scope scope k ds) → In v (all_definitions spec)) →
+    AllWheres spec scope → (v : ScopedDefinition) → In v (definitions_in_scope scope k ds) → AllWheres spec v.scope
+listed_wheres spec scope k no_defs sub each v i = absurd i
+listed_wheres spec scope k (more_defs (def name formals declared body inner) ds) sub each v i =
+    let own = record { defs = inner; first = k + 1 } ∷ scope in
+    let this : ScopedDefinition = record { scope = own; definition = def name formals declared body inner } in
+    let deep = definitions_in_scope own (k + 1) inner in
+    let rest = definitions_in_scope scope (k + 1 + count inner) ds in
+    let here : IsWhereOf spec (record { defs = inner; first = k + 1 }) = record { scoped = this; among = sub this (inl refl); same = refl } in
+    let within_own = more_wheres spec (record { defs = inner; first = k + 1 }) scope here each in
+    elim i [
+      | inl e ↦ subst (λ t. AllWheres spec t.scope) e within_own
+      | inr j ↦ elim (in_either v deep rest j) [
+        | inl d ↦ listed_wheres spec own (k + 1) inner (λ x y. sub x (inr (in_front x deep rest y))) within_own v d
+        | inr r ↦ listed_wheres spec scope (k + 1 + count inner) ds (λ x y. sub x (inr (in_back x deep rest y))) each v r
+      ]
+    ]
+
+visible_wheres : (spec : DefinitionView) (v : ScopedDefinition) → In v (all_definitions spec) → AllWheres spec v.scope
+visible_wheres spec v i =
+    let own : Where = record { defs = inner_of spec; first = 0 } in
+    let top : ScopedDefinition = record { scope = own ∷ []; definition = spec } in
+    let here : IsWhereOf spec own = record { scoped = top; among = inl refl; same = refl } in
+    let each = more_wheres spec own [] here (λ w x. absurd x) in
+    elim i [
+      | inl e ↦ subst (λ t. AllWheres spec t.scope) e each
+      | inr j ↦ listed_wheres spec (own ∷ []) 0 (inner_of spec) (λ x y. inr y) each v j
+    ]
+
+-- where names are distinct, no visible `where` declares one twice
+visible_distinct : (spec : DefinitionView) → IsDistinct spec → (v : ScopedDefinition) → In v (all_definitions spec) → IsDistinctScope v.scope
+visible_distinct spec distinct v i w j p s =
+    let h = visible_wheres spec v i w j in
+    let e = h.same in
+    distinct.processes p (record { scope = h.scoped.scope; definition = h.scoped.definition; located = h.among; second = rw e at s })
+
+-- each name of the scope has one binding
+abbrev pub BindsOnce : Scope → Type 0
+BindsOnce scope = (n : Name) (i j : ℕ) (d e : DefinitionView) → Binds scope n i d → Binds scope n j e → (i ≡ j) × (d ≡ e)
+
+-- a call by name is one by number
+number_called : (scope : Scope) → BindsOnce scope → (start : List Name) (b : BehaviourView) (c : Flat) (there : List Name) (callee : Placed) (actuals : List Placed) (k : ℕ) (d : DefinitionView) →
+    Resolves scope b c → IsSubexpression start b there (t.call callee actuals) → Binds scope callee.name k d → ContainsCallOf c k
+number_called scope one start b c there callee actuals k d (of_call {p = p} {gs = gs} {k = j} {d = e} m) parts.whole h =
+    subst (ContainsCallOf _) (one callee.name j k e d m h).0 (texts actuals, itself)
+number_called scope one start b c there callee actuals k d (of_prefix x) (in_prefix i) h =
+    let r = number_called scope one start _ _ there callee actuals k d x i h in (r.0, under_prefix r.1)
+number_called scope one start b c there callee actuals k d (of_choice x y) (in_choice_left i) h =
+    let r = number_called scope one start _ _ there callee actuals k d x i h in (r.0, left_choice r.1)
+number_called scope one start b c there callee actuals k d (of_choice x y) (in_choice_right i) h =
+    let r = number_called scope one start _ _ there callee actuals k d y i h in (r.0, right_choice r.1)
+number_called scope one start b c there callee actuals k d (of_par x s y) (in_par_left i) h =
+    let r = number_called scope one start _ _ there callee actuals k d x i h in (r.0, left_par r.1)
+number_called scope one start b c there callee actuals k d (of_par x s y) (in_par_right i) h =
+    let r = number_called scope one start _ _ there callee actuals k d y i h in (r.0, right_par r.1)
+number_called scope one start b c there callee actuals k d (of_par_all x y) (in_par_left i) h =
+    let r = number_called scope one start _ _ there callee actuals k d x i h in (r.0, left_par r.1)
+number_called scope one start b c there callee actuals k d (of_par_all x y) (in_par_right i) h =
+    let r = number_called scope one start _ _ there callee actuals k d y i h in (r.0, right_par r.1)
+number_called scope one start b c there callee actuals k d (of_hide {gs = gs} s x) (in_hide i) h =
+    let r = number_called scope one (texts gs ++ start) _ _ there callee actuals k d x i h in (r.0, under_hide r.1)
+number_called scope one start b c there callee actuals k d (of_enable x y) (in_enable_left i) h =
+    let r = number_called scope one start _ _ there callee actuals k d x i h in (r.0, left_enable r.1)
+number_called scope one start b c there callee actuals k d (of_enable x y) (in_enable_right i) h =
+    let r = number_called scope one start _ _ there callee actuals k d y i h in (r.0, right_enable r.1)
+number_called scope one start b c there callee actuals k d (of_disable x y) (in_disable_left i) h =
+    let r = number_called scope one start _ _ there callee actuals k d x i h in (r.0, left_disable r.1)
+number_called scope one start b c there callee actuals k d (of_disable x y) (in_disable_right i) h =
+    let r = number_called scope one start _ _ there callee actuals k d y i h in (r.0, right_disable r.1)
+number_called scope one start b c there callee actuals k d of_stop i h = elim i [ ]
+number_called scope one start b c there callee actuals k d of_exit i h = elim i [ ]
+
+definition_at : (vs : List ScopedDefinition) (ps : List FlatProcess) → Pairwise IsProcess vs ps → (i : ℕ) (p : FlatProcess) → slice_get ps i ≡ Some p →
+    (v : ScopedDefinition) × In v vs × IsProcess v p
+definition_at [] [] no_pair i p e = cc
+definition_at (v ∷ vs) (q ∷ ps) (one_pair h hs) zero p e = let f : q ≡ p = cc in (v, inl refl, subst (IsProcess v) f h)
+definition_at (v ∷ vs) (q ∷ ps) (one_pair h hs) (suc i) p e = let r = definition_at vs ps hs i p e in (r.0, inr r.1, r.2)
+definition_at [] (q ∷ ps) h i p e = elim h [ ]
+definition_at (v ∷ vs) [] h i p e = elim h [ ]
+
+process_at : (vs : List ScopedDefinition) (ps : List FlatProcess) → Pairwise IsProcess vs ps → (v : ScopedDefinition) → In v vs →
+    (p : FlatProcess) × In p ps × IsProcess v p
+process_at [] [] no_pair v i = absurd i
+process_at (u ∷ vs) (q ∷ ps) (one_pair h hs) v (inl e) = (q, inl refl, subst (λ x. IsProcess x q) e h)
+process_at (u ∷ vs) (q ∷ ps) (one_pair h hs) v (inr i) = let r = process_at vs ps hs v i in (r.0, inr r.1, r.2)
+process_at [] (q ∷ ps) h v i = elim h [ ]
+process_at (u ∷ vs) [] h v i = elim h [ ]
+
+-- a call anywhere that is bound to the process
+pub record IsCalledByName (spec : DefinitionView) (k : ℕ) : Type 0 where
+  pub scope : Scope
+  pub in_scope : List Name
+  pub callee : Placed
+  pub actuals : List Placed
+  pub definition : DefinitionView
+  pub occurs : Occurs spec scope in_scope (t.call callee actuals)
+  pub means : Binds scope callee.name k definition
+
+-- the laws of the static check
+module _ (one : (scope : Scope) → IsDistinctScope scope → BindsOnce scope)
+    (named : (spec : DefinitionView) (s : System) → IsAccepted spec s → (v : ScopedDefinition) → In v (all_definitions spec) →
+    (b : Flat) → Resolves v.scope (body_of v.definition) b → (k : ℕ) (gates : List Name) → ContainsCall b k gates → GoesToNamed s v k gates)
+    (spec : DefinitionView) (s : System) (a : IsAccepted spec s) where
+  abbrev top : ScopedDefinition
+  top = record { scope = within spec 0 []; definition = spec }
+
+  by_name : (k : ℕ) (v : ScopedDefinition) → In v (all_definitions spec) → (b : Flat) → Resolves v.scope (body_of v.definition) b → ContainsCallOf b k → IsCalledByName spec k
+  by_name k v i b r c =
+      let n = (named spec s a v i b r k c.0 c.1).named in
+      record {
+        scope = v.scope;
+        in_scope = n.there;
+        callee = n.called;
+        actuals = n.actuals;
+        definition = n.definition;
+        occurs = record { definition = v.definition; located = i; inside = n.inside };
+        means = n.means;
+      }
+
+  process_by_name : (k : ℕ) (b : Flat) → IsBodyOf s b → ContainsCallOf b k → IsCalledByName spec k
+  process_by_name k b of_whole c = by_name k top (inl refl) s.start a.flat.start c
+  process_by_name k b (of_process p process e) c =
+      let at = definition_at (processes_of spec) s.processes a.flat.processes p process e in
+      by_name k at.0 (inr at.1) process.body at.2.body c
+
+  by_number : (k : ℕ) (v : ScopedDefinition) → In v (all_definitions spec) → (there : List Name) (callee : Placed) (actuals : List Placed) (d : DefinitionView) →
+      IsSubexpression (texts (formals_of v.definition)) (body_of v.definition) there (t.call callee actuals) → Binds v.scope callee.name k d →
+      ContainsCallOf s.start k ⊎ IsCalledByAny s.processes k
+  by_number k v i there callee actuals d inside means =
+      let once = one v.scope (visible_distinct spec a.typed.distinct v i) in
+      let found = (λ (c : Flat) (r : Resolves v.scope (body_of v.definition) c).
+      number_called v.scope once (texts (formals_of v.definition)) (body_of v.definition) c there callee actuals k d r inside means) in
+      elim i [
+        | inl e ↦ inl (found s.start (subst (λ u. Resolves u.scope (body_of u.definition) s.start) e a.flat.start))
+        | inr j ↦ (let at = process_at (processes_of spec) s.processes a.flat.processes v j in inr (at.0, at.1, found at.0.body at.2.body))
+      ]
+
+  -- a process is called in the system exactly if a call anywhere is bound to it
+  pub called_by_name : (k : ℕ) → IsCalledIn s k ↔ IsCalledByName spec k
+  called_by_name k = (
+    (λ h. process_by_name k h.body h.located h.calls),
+    (λ h. (called_in s k).0 (by_number k (record { scope = h.scope; definition = h.occurs.definition }) h.occurs.located
+        h.in_scope h.callee h.actuals h.definition h.occurs.inside h.means)),
+  )

@@ -1,0 +1,89 @@
+-- The warnings about definitions, one after the other.
+use Rattle.std.proofs.Common.{◌≡◌, ◌↔◌, ◌⊎◌, ℕ, ◌+◌, ◌<◌, suc, List, [], ◌∷◌, map, length, drop, get_or, refl, sym, subst, inl, inr, arith}
+use Rattle.lotos_text.specs.AstView.{DefinitionView, name_of, formals_of, body_of}
+use Rattle.lotos_text.specs.declared.ast.Placed.{Placed}
+use Rattle.lotos_check.specs.NameLists.{Name, In}
+use Rattle.lotos_warn.specs.declared.warning.Warning.{Warning}
+use Rattle.lotos_warn.specs.declared.warning.Warning.TheVariants.{UncalledProcess, UnusedGate, UnofferedGate}
+use Rattle.lotos_warn.specs.Warnings.{UsesFree}
+use Rattle.lotos_warn.proofs.Additions.{from_place}
+use Rattle.lotos_warn.specs.Additions.{IsUnusedAmong, IsUnusedIn, IsGateWarning, IsGateWarningOfAny, IsUncalledAt, IsUncalledAmong}
+
+-- an unused gate of a list is the first, or one of the others
+pub unused_split : (used : List Name) (name : Name) (g : Placed) (gs : List Placed) (w : Warning) →
+    IsUnusedAmong used name (g ∷ gs) w ↔ (IsUnusedAmong used name (g ∷ []) w ⊎ IsUnusedAmong used name gs w)
+unused_split used name g gs (UncalledProcess p) = ((λ h. absurd h), (λ h. elim h [ inl i ↦ i | inr i ↦ i ]))
+unused_split used name g gs (UnofferedGate p s) = ((λ h. absurd h), (λ h. elim h [ inl i ↦ i | inr i ↦ i ]))
+unused_split used name g gs (UnusedGate gate d) = (
+  (λ h. elim h.0 [ inl e ↦ inl (inl e, h.1, h.2) | inr i ↦ inr (i, h.1, h.2) ]),
+  (λ h. elim h [
+    | inl m ↦ elim m.0 [ inl e ↦ (inl e, m.1, m.2) | inr i ↦ absurd i ]
+    | inr m ↦ (inr m.0, m.1, m.2)
+  ]),
+)
+
+pub unused_none : (used : List Name) (name : Name) (w : Warning) → IsUnusedAmong used name [] w → ⊥
+unused_none used name (UncalledProcess p) h = h
+unused_none used name (UnofferedGate p s) h = h
+unused_none used name (UnusedGate gate d) h = h.0
+
+-- the warning about a gate that is not used
+pub unused_one : (used : List Name) (name : Name) (gate : Placed) → (In gate.name used → ⊥) → (w : Warning) →
+    (UnusedGate gate name ≡ w) ↔ IsUnusedAmong used name (gate ∷ []) w
+unused_one used name gate none (UncalledProcess p) = ((λ e. cc), (λ h. absurd h))
+unused_one used name gate none (UnofferedGate p s) = ((λ e. cc), (λ h. absurd h))
+unused_one used name gate none (UnusedGate other d) = (
+  (λ e. let same : gate ≡ other = cc in let named : d ≡ name = cc in (inl same, named, subst (λ g. In g.name used → ⊥) same none)),
+  (λ h. elim h.0 [ inl same ↦ (let named = h.1 in cc) | inr i ↦ absurd i ]),
+)
+
+-- none about a gate that is
+pub unused_never : (used : List Name) (name : Name) (gate : Placed) → In gate.name used → (w : Warning) → IsUnusedAmong used name (gate ∷ []) w → ⊥
+unused_never used name gate some (UncalledProcess p) h = h
+unused_never used name gate some (UnofferedGate p s) h = h
+unused_never used name gate some (UnusedGate other d) h = elim h.0 [ inl same ↦ h.2 (subst (λ g. In g.name used) same some) | inr i ↦ i ]
+
+-- the names that are used are those that the body uses
+pub unused_in : (d : DefinitionView) (used : List Name) → ((n : Name) → In n used ↔ UsesFree (body_of d) n) → (w : Warning) →
+    IsUnusedAmong used (name_of d).name (formals_of d) w ↔ IsUnusedIn d w
+unused_in d used same (UncalledProcess p) = ((λ h. h), (λ h. h))
+unused_in d used same (UnofferedGate p s) = ((λ h. h), (λ h. h))
+unused_in d used same (UnusedGate gate name) = (
+  (λ h. (h.0, h.1, (λ u. h.2 ((same gate.name).1 u)))),
+  (λ h. (h.0, h.1, (λ i. h.2 ((same gate.name).0 i)))),
+)
+
+-- a warning about the gates of some definition is one about the first, or about one of the others
+pub gates_split : (d : DefinitionView) (ds : List DefinitionView) (w : Warning) → IsGateWarningOfAny (d ∷ ds) w ↔ (IsGateWarning d w ⊎ IsGateWarningOfAny ds w)
+gates_split d ds w = (
+  (λ (e, i, h). elim i [ inl same ↦ inl (subst (λ x. IsGateWarning x w) (sym same) h) | inr j ↦ inr (e, j, h) ]),
+  (λ h. elim h [ inl g ↦ (d, inl refl, g) | inr (e, j, g) ↦ (e, inr j, g) ]),
+)
+
+-- the warning about a process that is not called
+pub uncalled_one : (called : List ℕ) (number : ℕ) (d : DefinitionView) → (In number called → ⊥) → (w : Warning) →
+    (UncalledProcess (name_of d) ≡ w) ↔ IsUncalledAt called number d w
+uncalled_one called number d none (UncalledProcess p) = ((λ e. ((let named : p ≡ name_of d = cc in named), none)), (λ h. let named = h.0 in cc))
+uncalled_one called number d none (UnusedGate gate name) = ((λ e. cc), (λ h. absurd h))
+uncalled_one called number d none (UnofferedGate gate side) = ((λ e. cc), (λ h. absurd h))
+
+-- none about a process that is
+pub uncalled_never : (called : List ℕ) (number : ℕ) (d : DefinitionView) → In number called → (w : Warning) → IsUncalledAt called number d w → ⊥
+uncalled_never called number d some (UncalledProcess p) h = h.1 some
+uncalled_never called number d some (UnusedGate gate name) h = h
+uncalled_never called number d some (UnofferedGate gate side) h = h
+
+-- of the processes from a number on, one that is not called is the first, or one of the others
+pub uncalled_next : {K : Type 0} (view : K → DefinitionView) (called : List ℕ) (ps : List K) (n : ℕ) (d y : K) → n < length ps → y ≡ get_or ps n d → (w : Warning) →
+    IsUncalledAmong called n (map view (drop n ps)) w ↔ (IsUncalledAt called n (view y) w ⊎ IsUncalledAmong called (n + 1) (map view (drop (n + 1) ps)) w)
+uncalled_next view called ps n d y within at w =
+    let next = from_place ps n d y within at in
+    let step : suc n ≡ n + 1 = omega arith in
+    let rest = map view (drop (n + 1) ps) in
+    subst (λ xs. IsUncalledAmong called n (map view xs) w ↔ (IsUncalledAt called n (view y) w ⊎ IsUncalledAmong called (n + 1) rest w)) (sym next)
+    (subst (λ m. (IsUncalledAt called n (view y) w ⊎ IsUncalledAmong called (suc n) rest w) ↔ (IsUncalledAt called n (view y) w ⊎ IsUncalledAmong called m rest w)) step
+    ((λ h. h), (λ h. h)))
+
+-- there is none after the last
+pub uncalled_end : {K : Type 0} (view : K → DefinitionView) (called : List ℕ) (n : ℕ) (ps : List K) → ps ≡ [] → (w : Warning) → IsUncalledAmong called n (map view ps) w → ⊥
+uncalled_end view called n ps none w h = subst (λ xs. IsUncalledAmong called n (map view xs) w) none h

@@ -1,0 +1,12 @@
+pub mod NameTests
+pub mod Additions
+pub mod FreeGates
+pub mod GateAdditions
+pub mod CallAdditions
+pub mod ListWarnings
+pub mod DefinitionParts
+pub mod SortedWarnings
+pub mod CalledNames
+pub mod WholeWarnings
+pub mod DefinitionWarnings
+pub mod SpelledTexts

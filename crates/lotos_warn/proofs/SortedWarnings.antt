@@ -1,0 +1,130 @@
+-- Warnings after sorting and removing repeats.
+use Rattle.std.proofs.Common.{◌≡◌, ◌↔◌, ℕ, ◌<◌, zero, suc, List, [], ◌∷◌, refl, sym, ◌∙◌, ap, subst, inl, inr, true, arith, length, get_or}
+use Rattle.std.specs.Ordering.{nat_cmp, eq_by_cmp, is_eq, ordering_then}
+use Rattle.std.specs.declared.cmp.Ordering.{Ordering}
+use Rattle.std.specs.declared.cmp.Ordering.TheVariants.{Less, Equal, Greater}
+use Rattle.std.specs.Cmp.{ranked, IsTotalOrder, IsEquivalence}
+use Rattle.std.specs.Cmp.Lexicographic.{slice_cmp}
+use Rattle.std.specs.List.{Contains, dedup}
+use Rattle.std.specs.List.Retain.{IsFiltered, DiffersFromLast}
+use Rattle.std.specs.List.Sorted.{IsPermutation, IsSorted, IsStrictlySortedBy}
+use Rattle.std.proofs.lemmas.List.Filters.{dedup_is}
+use Rattle.std.proofs.lemmas.List.Kept.{Contains-dedup, Contains-from_dedup, IsStrictlySortedBy-dedup}
+use Rattle.std.proofs.lemmas.List.Sorted.{Contains-permutation, IsPermutation-sym}
+use Rattle.lotos_text.specs.declared.ast.Placed.{Placed}
+use Rattle.lotos_check.specs.NameLists.{Name, In}
+use Rattle.lotos_warn.specs.declared.warning.Side.{Side}
+use Rattle.lotos_warn.specs.declared.warning.Side.TheVariants.{Left, Right}
+use Rattle.lotos_warn.specs.declared.warning.Warning.{Warning}
+use Rattle.lotos_warn.specs.declared.warning.Warning.TheVariants.{UncalledProcess, UnusedGate, UnofferedGate}
+use Rattle.lotos_warn.specs.WarningOrder.{warning_cmp, offset_of, rank_of, side_rank, subject_of, context_of}
+
+-- a member of the list is at an index
+placed_in : {X : Type 0} (x : X) (xs : List X) → In x xs → Contains xs x
+placed_in x [] i = absurd i
+placed_in x (y ∷ ys) (inl e) = (zero, omega arith, e)
+placed_in x (y ∷ ys) (inr i) = let c = placed_in x ys i in (suc c.0, (let within = c.1 in omega arith), c.2)
+
+-- what is at an index is a member
+member_at : {X : Type 0} (x : X) (xs : List X) (k : ℕ) → k < length xs → get_or xs k x ≡ x → In x xs
+member_at x [] k within e = absurd (omega arith)
+member_at x (y ∷ ys) zero within e = inl e
+member_at x (y ∷ ys) (suc k) within e = inr (member_at x ys k (omega arith) e)
+
+-- the parts of an order one after the other are equal where the whole is
+first_equal : (r s : Ordering) → ordering_then r s ≡ Equal → r ≡ Equal
+first_equal Less s e = cc
+first_equal Equal s e = refl
+first_equal Greater s e = cc
+
+second_equal : (r s : Ordering) → ordering_then r s ≡ Equal → s ≡ Equal
+second_equal Less s e = cc
+second_equal Equal s e = e
+second_equal Greater s e = cc
+
+-- numbers that compare as equal are
+equal_numbers : (a b : ℕ) → nat_cmp a b ≡ Equal → a ≡ b
+equal_numbers a b e = ranked a b Equal (sym e)
+
+-- texts that compare as equal are
+equal_texts : (x y : Name) → slice_cmp nat_cmp x y ≡ Equal → x ≡ y
+equal_texts [] [] e = refl
+equal_texts [] (b ∷ y) e = cc
+equal_texts (a ∷ x) [] e = cc
+equal_texts (a ∷ x) (b ∷ y) e =
+    let first = equal_numbers a b (first_equal (nat_cmp a b) (slice_cmp nat_cmp x y) e) in
+    let others = equal_texts x y (second_equal (nat_cmp a b) (slice_cmp nat_cmp x y) e) in
+    cc
+
+is_equal : (r : Ordering) → is_eq r ≡ true → r ≡ Equal
+is_equal Less e = cc
+is_equal Equal e = refl
+is_equal Greater e = cc
+
+abbrev the_placed : Name → ℕ → Placed
+the_placed n a = record { name = n; at = a }
+
+placed_same : (p q : Placed) → p.at ≡ q.at → p.name ≡ q.name → p ≡ q
+placed_same p q e f =
+    let named : p ≡ record { name = q.name; at = p.at } = ap (λ (n : Name). the_placed n p.at) f in
+    let there : record { name = q.name; at = p.at } ≡ q = ap (λ (a : ℕ). the_placed q.name a) e in
+    named ∙ there
+
+side_same : (s r : Side) → side_rank s ≡ side_rank r → s ≡ r
+side_same Left Left e = refl
+side_same Left Right e = absurd (omega arith)
+side_same Right Left e = absurd (omega arith)
+side_same Right Right e = refl
+
+not_side : (s : Side) (n : ℕ) → n < 2 → n ≡ side_rank s → ⊥
+not_side Left n h e = omega arith
+not_side Right n h e = omega arith
+
+-- a warning is known by its offset, its rank and its names
+same_warning : (v w : Warning) → offset_of v ≡ offset_of w → rank_of v ≡ rank_of w → subject_of v ≡ subject_of w → context_of v ≡ context_of w → v ≡ w
+same_warning (UncalledProcess p) (UncalledProcess q) a r s c = ap UncalledProcess (placed_same p q a s)
+same_warning (UncalledProcess p) (UnusedGate h d) a r s c = absurd (omega arith)
+same_warning (UncalledProcess p) (UnofferedGate h t) a r s c = absurd (not_side t 0 (omega arith) r)
+same_warning (UnusedGate g d) (UncalledProcess q) a r s c = absurd (omega arith)
+same_warning (UnusedGate g d) (UnusedGate h e) a r s c = let same = placed_same g h a s in cc
+same_warning (UnusedGate g d) (UnofferedGate h t) a r s c = absurd (not_side t 1 (omega arith) r)
+same_warning (UnofferedGate g t) (UncalledProcess q) a r s c = absurd (not_side t 0 (omega arith) (sym r))
+same_warning (UnofferedGate g t) (UnusedGate h e) a r s c = absurd (not_side t 1 (omega arith) (sym r))
+same_warning (UnofferedGate g t) (UnofferedGate h u) a r s c = let same = placed_same g h a s in let there = side_same t u r in cc
+
+-- warnings that compare as equal are the same
+equal_warnings : (v w : Warning) → eq_by_cmp warning_cmp v w ≡ true → v ≡ w
+equal_warnings v w e =
+    let subjects = slice_cmp nat_cmp (subject_of v) (subject_of w) in
+    let contexts = slice_cmp nat_cmp (context_of v) (context_of w) in
+    let ranks = nat_cmp (rank_of v) (rank_of w) in
+    let offsets = nat_cmp (offset_of v) (offset_of w) in
+    let all = is_equal (warning_cmp v w) e in
+    let after = second_equal offsets (ordering_then ranks (ordering_then subjects contexts)) all in
+    let last = second_equal ranks (ordering_then subjects contexts) after in
+    same_warning v w
+    (equal_numbers _ _ (first_equal offsets (ordering_then ranks (ordering_then subjects contexts)) all))
+    (equal_numbers _ _ (first_equal ranks (ordering_then subjects contexts) after))
+    (equal_texts _ _ (first_equal subjects contexts last))
+    (equal_texts _ _ (second_equal subjects contexts last))
+
+module _ (total : IsTotalOrder warning_cmp) (laws : IsEquivalence (eq_by_cmp warning_cmp)) (old sorted new : List Warning)
+    (moved : IsPermutation old sorted) (filtered : IsFiltered (DiffersFromLast (eq_by_cmp warning_cmp)) [] sorted new) where
+  kept : new ≡ dedup (eq_by_cmp warning_cmp) sorted
+  kept = dedup_is (eq_by_cmp warning_cmp) sorted new filtered
+
+  -- the same warnings are left
+  pub same_left : (w : Warning) → In w new ↔ In w old
+  same_left w = (
+    (λ i.
+        let c = Contains-permutation sorted old w (IsPermutation-sym old sorted moved)
+        (Contains-from_dedup (eq_by_cmp warning_cmp) sorted w (placed_in w (dedup (eq_by_cmp warning_cmp) sorted) (subst (In w) kept i))) in
+        member_at w old c.0 c.1 c.2),
+    (λ i.
+        let c = Contains-dedup laws equal_warnings sorted w (Contains-permutation old sorted w moved (placed_in w old i)) in
+        subst (In w) (sym kept) (member_at w (dedup (eq_by_cmp warning_cmp) sorted) c.0 c.1 c.2)),
+  )
+
+  -- and they are in order
+  pub in_order : IsSorted warning_cmp sorted → IsStrictlySortedBy warning_cmp new
+  in_order orders = subst (IsStrictlySortedBy warning_cmp) (sym kept) (IsStrictlySortedBy-dedup total (λ v w. refl) sorted orders)

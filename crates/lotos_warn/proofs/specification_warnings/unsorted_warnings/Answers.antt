@@ -1,0 +1,39 @@
+use Rattle.std.proofs.Common.{◌≡◌, ◌↔◌, ◌⊎◌, ◌++◌, ℕ, map, ap, ◌∙◌, subst}
+use Rattle.lotos_text.specs.AstOf.{definition_view}
+use Rattle.lotos_check.specs.CheckedView.{system_of}
+use Rattle.lotos_check.specs.NameLists.{In}
+use Rattle.lotos_check.specs.Scope.{definitions_in, definitions_in_list}
+use Rattle.lotos_text.specs.AstView.{inner_of}
+use Rattle.lotos_warn.specs.Warnings.{IsWarning}
+use Rattle.lotos_warn.specs.Additions.{Adds, IsGateWarningOfAny, IsUncalledAmong}
+use Rattle.lotos_warn.proofs.Additions.{adds_as, adds_both, adds_alone}
+use Rattle.lotos_warn.proofs.CalledNames.{IsCalledByName, called_by_name}
+use Rattle.lotos_warn.proofs.WholeWarnings.{after_first, all_warnings}
+use Rattle.lotos_warn.proofs.specification_warnings.unsorted_warnings.Goals as goal
+
+pub returns : goal.returns
+returns c =
+    let whole = definition_view c.args.whole.now in
+    let system = system_of c.args.system.now in
+    let called = c.in_ok-called.called.keys in
+    let by_number = called_by_name c.binding_is_unique.ensures c.calls_fit.ensures.named whole system c.requires.accepted in
+    let by_name : (k : ℕ) → In k called ↔ IsCalledByName whole k = λ k. (
+      (λ i. (by_number k).0 ((c.in_ok-called.ensures k).0 i)),
+      (λ h. (c.in_ok-called.ensures k).1 ((by_number k).1 h)),
+    ) in
+    let items = c.add_definitions.new.into.items in
+    let all : map (λ d. definition_view d.now) items ≡ definitions_in whole =
+    c.in_ok-add_definitions.ensures ∙ ap (λ xs. map (λ d. definition_view d.now) xs ++ definitions_in whole) c.new-definitions.ensures.items in
+    let slice : map (λ d. definition_view d.now) c.as_slice.result.now ≡ definitions_in whole =
+    ap (map (λ d. definition_view d.now)) c.as_slice.ensures.value ∙ all in
+    let others = after_first (λ d. definition_view d.now) c.deref.result.now whole
+    (ap (map (λ d. definition_view d.now)) c.deref.ensures.value ∙ all) in
+    let old = c.new-found.result.items in
+    let mid = c.check_gates_of_all.new.found.items in
+    let new = c.check_calls_of_all.new.found.items in
+    let gates = subst (λ ds. Adds old mid (IsGateWarningOfAny ds)) slice c.in_ok-check_gates_of_all.ensures in
+    let calls = subst (λ ds. Adds mid new (IsUncalledAmong called 0 ds)) others c.in_ok-check_calls_of_all.ensures in
+    adds_alone old new (IsWarning whole) c.new-found.ensures.items
+    (adds_as old new (λ w. IsGateWarningOfAny (definitions_in whole) w ⊎ IsUncalledAmong called 0 (definitions_in_list (inner_of whole)) w) (IsWarning whole)
+    (all_warnings whole called by_name)
+    (adds_both old mid new (IsGateWarningOfAny (definitions_in whole)) (IsUncalledAmong called 0 (definitions_in_list (inner_of whole))) gates calls))

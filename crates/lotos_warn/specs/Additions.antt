@@ -1,0 +1,106 @@
+-- What each step adds to a set of names or of numbers, or to a list of warnings.
+use Rattle.std.specs.Prelude.{◌≡◌, ◌↔◌, ◌⊎◌, ℕ, suc, List, [], ◌∷◌, map}
+use Rattle.lotos_text.specs.AstView.{SyncView, gates, all, DefinitionView, name_of, formals_of, body_of}
+use Rattle.lotos_text.specs.declared.ast.Placed.{Placed}
+use Rattle.lotos_text.specs.declared.ast.Action.{Action}
+use Rattle.lotos_text.specs.declared.ast.Action.TheVariants.{Internal, Gate}
+use Rattle.lotos_check.specs.NameLists.{Name, In, texts}
+use Rattle.lotos_check.specs.Flat.{Flat, FlatProcess, System}
+use Rattle.lotos_check.specs.Bodies.{ContainsCall, IsBodyOf}
+use Rattle.lotos_warn.specs.declared.warning.Side.{Side}
+use Rattle.lotos_warn.specs.declared.warning.Side.TheVariants.{Left, Right}
+use Rattle.lotos_warn.specs.declared.warning.Warning.{Warning}
+use Rattle.lotos_warn.specs.declared.warning.Warning.TheVariants.{UncalledProcess, UnusedGate, UnofferedGate}
+use Rattle.lotos_warn.specs.Warnings.{UsesFree, IsListWarning}
+
+-- the second list has exactly the items of the first and those with the property
+abbrev pub Adds : {X : Type 0} → List X → List X → (X → Type 0) → Type 0
+Adds {X} old new added = (x : X) → In x new ↔ (In x old ⊎ added x)
+
+-- the second keys have exactly the names of the first and those with the property
+abbrev pub AddsNames : {K : Type 0} → (K → Name) → List K → List K → (Name → Type 0) → Type 0
+AddsNames now old new added = Adds (map now old) (map now new) added
+
+-- the action is by a gate of this name
+abbrev pub IsActionNamed : Action → Name → Type 0
+IsActionNamed Internal n = ⊥
+IsActionNamed (Gate g) n = g.name ≡ n
+
+-- the name is in the list of a parallel composition
+abbrev pub IsListed : SyncView → Name → Type 0
+IsListed (gates list) n = In n (texts list)
+IsListed all n = ⊥
+
+-- the name is one of the second names, and not hidden
+abbrev pub IsVisible : List Name → List Name → Name → Type 0
+IsVisible hidden names n = (In n hidden → ⊥) × In n names
+
+-- the warning says that this side does not offer the gate, and it is not among the names
+abbrev pub IsMissingOn : List Name → Side → Placed → Warning → Type 0
+IsMissingOn names side gate (UncalledProcess process) = ⊥
+IsMissingOn names side gate (UnusedGate other definition) = ⊥
+IsMissingOn names side gate (UnofferedGate other place) = (gate ≡ other) × (side ≡ place) × (In other.name names → ⊥)
+
+-- the names of one side
+abbrev pub names_of : Side → List Name → List Name → List Name
+names_of Left by_left by_right = by_left
+names_of Right by_left by_right = by_right
+
+-- the warning says that a gate of the list is not offered by a side, and it is not among the names of that side
+abbrev pub IsMissingGate : List Name → List Name → List Placed → Warning → Type 0
+IsMissingGate by_left by_right list (UncalledProcess process) = ⊥
+IsMissingGate by_left by_right list (UnusedGate gate definition) = ⊥
+IsMissingGate by_left by_right list (UnofferedGate gate side) =
+    In gate list × (In gate.name (names_of side by_left by_right) → ⊥)
+
+-- the same of the list of a parallel composition, if it has one
+abbrev pub IsMissing : List Name → List Name → SyncView → Warning → Type 0
+IsMissing by_left by_right (gates list) w = IsMissingGate by_left by_right list w
+IsMissing by_left by_right all w = ⊥
+
+-- the behaviour contains a call of the process
+abbrev pub ContainsCallOf : Flat → ℕ → Type 0
+ContainsCallOf b k = (gates : List Name) × ContainsCall b k gates
+
+-- one of the processes calls the process
+abbrev pub IsCalledByAny : List FlatProcess → ℕ → Type 0
+IsCalledByAny processes k = (p : FlatProcess) × In p processes × ContainsCallOf p.body k
+
+-- a behaviour of the system calls the process
+pub record IsCalledIn (system : System) (k : ℕ) : Type 0 where
+  pub body : Flat
+  pub located : IsBodyOf system body
+  pub calls : ContainsCallOf body k
+
+-- the warning says that the gate of the list is not used in the definition of that name, and it is not among the names
+abbrev pub IsUnusedAmong : List Name → Name → List Placed → Warning → Type 0
+IsUnusedAmong used name formals (UncalledProcess process) = ⊥
+IsUnusedAmong used name formals (UnusedGate gate definition) =
+    In gate formals × (definition ≡ name) × (In gate.name used → ⊥)
+IsUnusedAmong used name formals (UnofferedGate gate side) = ⊥
+
+-- the definition has this warning about its formal gates
+abbrev pub IsUnusedIn : DefinitionView → Warning → Type 0
+IsUnusedIn d (UncalledProcess process) = ⊥
+IsUnusedIn d (UnusedGate gate definition) =
+    In gate (formals_of d) × (definition ≡ (name_of d).name) × (UsesFree (body_of d) gate.name → ⊥)
+IsUnusedIn d (UnofferedGate gate side) = ⊥
+
+-- the definition has this warning about its gates
+abbrev pub IsGateWarning : DefinitionView → Warning → Type 0
+IsGateWarning d w = IsUnusedIn d w ⊎ IsListWarning (body_of d) w
+
+-- one of the definitions has it
+abbrev pub IsGateWarningOfAny : List DefinitionView → Warning → Type 0
+IsGateWarningOfAny definitions w = (d : DefinitionView) × In d definitions × IsGateWarning d w
+
+-- the warning says that the process with this number and definition is not called, and the number is not called
+abbrev pub IsUncalledAt : List ℕ → ℕ → DefinitionView → Warning → Type 0
+IsUncalledAt called number d (UncalledProcess process) = (process ≡ name_of d) × (In number called → ⊥)
+IsUncalledAt called number d (UnusedGate gate definition) = ⊥
+IsUncalledAt called number d (UnofferedGate gate side) = ⊥
+
+-- the same of some definition of the list, which are numbered from this number on
+abbrev pub IsUncalledAmong : List ℕ → ℕ → List DefinitionView → Warning → Type 0
+IsUncalledAmong called number [] w = ⊥
+IsUncalledAmong called number (d ∷ ds) w = IsUncalledAt called number d w ⊎ IsUncalledAmong called (suc number) ds w

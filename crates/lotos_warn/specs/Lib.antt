@@ -1,0 +1,3 @@
+pub mod Warnings
+pub mod WarningOrder
+pub mod Additions

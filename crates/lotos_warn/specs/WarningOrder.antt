@@ -1,0 +1,51 @@
+-- The order of warnings: by their offsets; at one offset by their kinds, the left side before the right one; then by
+-- their names.
+use Rattle.std.specs.Prelude.{ℕ}
+use Rattle.std.specs.Ordering.{nat_cmp, on, then_cmp}
+use Rattle.std.specs.declared.cmp.Ordering.{Ordering}
+use Rattle.std.specs.Cmp.{IsTotalOrder, then_total, on_total, nat_cmp_total}
+use Rattle.std.specs.Cmp.Lexicographic.{slice_cmp, nat_list_cmp_total}
+use Rattle.lotos_check.specs.NameLists.{Name}
+use Rattle.lotos_warn.specs.declared.warning.Side.{Side}
+use Rattle.lotos_warn.specs.declared.warning.Side.TheVariants.{Left, Right}
+use Rattle.lotos_warn.specs.declared.warning.Warning.{Warning}
+use Rattle.lotos_warn.specs.declared.warning.Warning.TheVariants.{UncalledProcess, UnusedGate, UnofferedGate}
+
+-- the offset of its process or its gate
+abbrev pub offset_of : Warning → ℕ
+offset_of (UncalledProcess process) = process.at
+offset_of (UnusedGate gate definition) = gate.at
+offset_of (UnofferedGate gate side) = gate.at
+
+-- the left side is before the right one
+abbrev pub side_rank : Side → ℕ
+side_rank Left = 2
+side_rank Right = 3
+
+-- a number for each kind, and for each side
+abbrev pub rank_of : Warning → ℕ
+rank_of (UncalledProcess process) = 0
+rank_of (UnusedGate gate definition) = 1
+rank_of (UnofferedGate gate side) = side_rank side
+
+-- the name of its process or its gate
+abbrev pub subject_of : Warning → Name
+subject_of (UncalledProcess process) = process.name
+subject_of (UnusedGate gate definition) = gate.name
+subject_of (UnofferedGate gate side) = gate.name
+
+-- the name of its definition, or the same name again
+abbrev pub context_of : Warning → Name
+context_of (UncalledProcess process) = process.name
+context_of (UnusedGate gate definition) = definition
+context_of (UnofferedGate gate side) = gate.name
+
+-- the order
+abbrev pub warning_cmp : Warning → Warning → Ordering
+warning_cmp = then_cmp (on offset_of nat_cmp) (then_cmp (on rank_of nat_cmp)
+    (then_cmp (on subject_of (slice_cmp nat_cmp)) (on context_of (slice_cmp nat_cmp))))
+
+-- it is total
+pub warning_total : IsTotalOrder warning_cmp
+warning_total = then_total (on_total offset_of nat_cmp_total) (then_total (on_total rank_of nat_cmp_total)
+    (then_total (on_total subject_of nat_list_cmp_total) (on_total context_of nat_list_cmp_total)))

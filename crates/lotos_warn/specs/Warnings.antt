@@ -1,0 +1,93 @@
+-- What an accepted specification has a warning about.
+use Rattle.std.specs.Prelude.{◌≡◌, ℕ, List, [], Some, slice_get}
+use Rattle.lotos_text.specs.AstView.{BehaviourView, gates, prefix, par, call, DefinitionView, name_of, formals_of, body_of}
+use Rattle.lotos_text.specs.declared.ast.Placed.{Placed}
+use Rattle.lotos_text.specs.declared.ast.Action.TheVariants.{Gate}
+use Rattle.lotos_check.specs.NameLists.{Name, In}
+use Rattle.lotos_check.specs.Scope.{Scope, ScopedDefinition, Binds, IsDefinition, processes_of}
+use Rattle.lotos_check.specs.Subexpressions.{IsSubexpression, UsesGate}
+use Rattle.lotos_check.specs.StaticFaults.{Occurs}
+use Rattle.lotos_warn.specs.declared.warning.Side.{Side}
+use Rattle.lotos_warn.specs.declared.warning.Side.TheVariants.{Left, Right}
+use Rattle.lotos_warn.specs.declared.warning.Warning.{Warning}
+use Rattle.lotos_warn.specs.declared.warning.Warning.TheVariants.{UncalledProcess, UnusedGate, UnofferedGate}
+
+-- the behaviour itself, and not only a part of it, offers the gate: in a prefix, or to the process that it calls
+pub data OffersGate : BehaviourView → Placed → Type 0 where
+  acts : {g : Placed} {b : BehaviourView} → OffersGate (prefix (Gate g) b) g
+  passes : {g p : Placed} {gs : List Placed} → In g gs → OffersGate (call p gs) g
+
+-- some part of the behaviour has a gate of this name in the given way, and the name is not hidden around the part
+pub record HasFree (has : BehaviourView → Placed → Type 0) (behaviour : BehaviourView) (name : Name) : Type 0 where
+  -- the gates that are hidden around the part
+  pub hidden : List Name
+  pub part : BehaviourView
+  pub gate : Placed
+  pub inside : IsSubexpression [] behaviour hidden part
+  pub with_gate : has part gate
+  pub named : gate.name ≡ name
+  pub visible : In name hidden → ⊥
+
+-- the behaviour uses the gate, and does not hide it there
+abbrev pub UsesFree : BehaviourView → Name → Type 0
+UsesFree = HasFree UsesGate
+
+-- the behaviour offers the gate, and does not hide it there
+abbrev pub OffersFree : BehaviourView → Name → Type 0
+OffersFree = HasFree OffersGate
+
+-- the name is that of a process, and no call anywhere is bound to the process
+pub record IsUncalledProcess (whole : DefinitionView) (name : Placed) : Type 0 where
+  pub process : ℕ
+  pub scoped : ScopedDefinition
+  pub located : slice_get (processes_of whole) process ≡ Some scoped
+  pub named : name ≡ name_of scoped.definition
+  pub uncalled : (scope : Scope) (in_scope : List Name) (callee : Placed) (actuals : List Placed) (d : DefinitionView) →
+      Occurs whole scope in_scope (call callee actuals) → Binds scope callee.name process d → ⊥
+
+-- the gate is a formal one of a definition with this name, whose body does not use it
+pub record IsUnusedGate (whole : DefinitionView) (gate : Placed) (name : Name) : Type 0 where
+  pub scope : Scope
+  pub definition : DefinitionView
+  pub located : IsDefinition whole scope definition
+  pub formal : In gate (formals_of definition)
+  pub named : name ≡ (name_of definition).name
+  pub unused : UsesFree (body_of definition) gate.name → ⊥
+
+-- one of two operands
+abbrev pub operand : Side → BehaviourView → BehaviourView → BehaviourView
+operand Left left right = left
+operand Right left right = right
+
+-- the gate is in the list of a parallel composition, and the operand on that side does not offer it
+pub record IsUnofferedGate (whole : DefinitionView) (gate : Placed) (side : Side) : Type 0 where
+  pub scope : Scope
+  pub in_scope : List Name
+  pub left : BehaviourView
+  pub list : List Placed
+  pub right : BehaviourView
+  pub occurs : Occurs whole scope in_scope (par left (gates list) right)
+  pub listed : In gate list
+  pub unoffered : OffersFree (operand side left right) gate.name → ⊥
+
+-- the specification has this warning
+abbrev pub IsWarning : DefinitionView → Warning → Type 0
+IsWarning whole (UncalledProcess process) = IsUncalledProcess whole process
+IsWarning whole (UnusedGate gate definition) = IsUnusedGate whole gate definition
+IsWarning whole (UnofferedGate gate side) = IsUnofferedGate whole gate side
+
+-- the gate is in the list of a parallel composition in the behaviour, and the operand on that side does not offer it
+pub record IsUnofferedIn (behaviour : BehaviourView) (gate : Placed) (side : Side) : Type 0 where
+  pub hidden : List Name
+  pub left : BehaviourView
+  pub list : List Placed
+  pub right : BehaviourView
+  pub inside : IsSubexpression [] behaviour hidden (par left (gates list) right)
+  pub listed : In gate list
+  pub unoffered : OffersFree (operand side left right) gate.name → ⊥
+
+-- the behaviour has this warning about a list
+abbrev pub IsListWarning : BehaviourView → Warning → Type 0
+IsListWarning behaviour (UncalledProcess process) = ⊥
+IsListWarning behaviour (UnusedGate gate definition) = ⊥
+IsListWarning behaviour (UnofferedGate gate side) = IsUnofferedIn behaviour gate side

@@ -1,0 +1,18 @@
+//! Warnings about accepted specifications.
+//!
+//! [`warnings`] takes a text and the checked specification that it spells, and returns what the static rules allow and
+//! is still likely to be a mistake: a process that no call names, a formal gate that is not used, and a gate of a
+//! parallel composition that one side never offers. The definitions that the contracts cite are in `specs/`.
+#![tactic(auto)]
+
+mod definition_order;
+mod definition_warnings;
+mod gate_names;
+mod offered_gates;
+mod process_calls;
+mod specification_warnings;
+mod used_gates;
+mod warning;
+
+pub use specification_warnings::warnings;
+pub use warning::{Side, Warning};

@@ -1,0 +1,172 @@
+//! Warnings, their texts and their order.
+ghost use Rattle.std.specs.Prelude.{◌≡◌, IfOk, refl};
+ghost use Rattle.std.proofs.lemmas.Cmp.{eq_by_cmp_equiv};
+ghost use Rattle.std.specs.Cmp.{partial_equiv_from_equiv, partial_order_from_own_ties, partial_order_from_total};
+ghost use Rattle.std.specs.Ordering.{as_partial_cmp, eq_by_cmp};
+ghost use Rattle.lotos_warn.specs.WarningOrder.{context_of, offset_of, rank_of, side_rank, subject_of, warning_cmp, warning_total};
+
+use lotos_text::{Name, Placed};
+use std::alloc::{AllocError, Global};
+use std::cmp::Ordering;
+use std::fmt;
+
+/// A side of a parallel composition.
+#[derive(Clone, Copy, Debug, PartialEq, Eq)]
+pub enum Side {
+    Left,
+    Right,
+}
+
+impl Side {
+    /// The left side first, after the other kinds of warnings.
+    fn rank(self) -> usize
+        ensures { result ≡ side_rank self }
+    {
+        match self {
+            Side::Left => 2,
+            Side::Right => 3,
+        }
+    }
+}
+
+/// What the static rules allow and is still likely to be a mistake.
+///
+/// Warnings are ordered by their offsets; at one offset by their kinds, those about the left side first, and then by
+/// their names.
+#[derive(Debug, Drop)]
+pub enum Warning {
+    /// No call names the process.
+    UncalledProcess(Placed),
+    /// A formal gate that the behaviour of its definition does not use.
+    UnusedGate { gate: Placed, definition: Name },
+    /// A gate in the list of a parallel composition that one side never offers.
+    UnofferedGate { gate: Placed, side: Side },
+}
+
+impl Warning {
+    /// The offset of the process in its definition, or of the gate in its list: bytes from the start of the text.
+    pub fn at(&self) -> usize
+        ensures { result ≡ offset_of self.now }
+    {
+        match self {
+            Warning::UncalledProcess(process) => process.at,
+            Warning::UnusedGate { gate, .. } => gate.at,
+            Warning::UnofferedGate { gate, .. } => gate.at,
+        }
+    }
+
+    fn rank(&self) -> usize
+        ensures { result ≡ rank_of self.now }
+    {
+        match self {
+            Warning::UncalledProcess(_) => 0,
+            Warning::UnusedGate { .. } => 1,
+            Warning::UnofferedGate { side, .. } => side.rank(),
+        }
+    }
+
+    /// The process or the gate.
+    fn subject(&self) -> &Name
+        ensures { result.now ≡ subject_of self.now }
+    {
+        match self {
+            Warning::UncalledProcess(process) => &process.name,
+            Warning::UnusedGate { gate, .. } => &gate.name,
+            Warning::UnofferedGate { gate, .. } => &gate.name,
+        }
+    }
+
+    /// The definition of an unused gate; of another warning its process or its gate.
+    fn context(&self) -> &Name
+        ensures { result.now ≡ context_of self.now }
+    {
+        match self {
+            Warning::UncalledProcess(process) => &process.name,
+            Warning::UnusedGate { definition, .. } => definition,
+            Warning::UnofferedGate { gate, .. } => &gate.name,
+        }
+    }
+}
+
+impl PartialEq for Warning {
+    ghost eq = { eq_by_cmp warning_cmp };
+
+    ghost laws = { partial_equiv_from_equiv (eq_by_cmp_equiv warning_total) };
+
+    fn eq(&self, other: &Warning) -> bool {
+        self.cmp(other).is_eq()
+    }
+}
+
+impl Eq for Warning {
+    ghost laws = { eq_by_cmp_equiv warning_total };
+}
+
+impl PartialOrd for Warning {
+    ghost partial_cmp = { as_partial_cmp warning_cmp };
+
+    ghost laws = { partial_order_from_own_ties (partial_order_from_total warning_total) (λ v w. refl) };
+
+    fn partial_cmp(&self, other: &Warning) -> Option<Ordering> {
+        Some(self.cmp(other))
+    }
+}
+
+impl Ord for Warning {
+    ghost cmp = { warning_cmp };
+
+    ghost total = { warning_total };
+
+    ghost matches_partial_cmp = { λ v w. refl };
+
+    ghost matches_eq = { λ v w. refl };
+
+    fn cmp(&self, other: &Warning) -> Ordering {
+        let subjects = self.subject().cmp(other.subject());
+        let contexts = self.context().cmp(other.context());
+        let ranks = self.rank().cmp(&other.rank());
+        self.at()
+            .cmp(&other.at())
+            .then(ranks.then(subjects.then(contexts)))
+    }
+}
+
+impl fmt::Display for Warning {
+    fn fmt<W: fmt::Write>(&self, f: &mut fmt::Formatter<W>) -> fmt::Result {
+        match self {
+            Warning::UncalledProcess(process) => {
+                write!(f, "process {} is never called", process.name.text())
+            }
+            Warning::UnusedGate { gate, definition } => write!(
+                f,
+                "gate {} of {} is not used",
+                gate.name.text(),
+                definition.text()
+            ),
+            Warning::UnofferedGate { gate, side } => write!(
+                f,
+                "gate {} of `|[..]|` is never offered on the {}",
+                gate.name.text(),
+                side_text(*side)
+            ),
+        }
+    }
+}
+
+fn side_text(side: Side) -> &'static str {
+    match side {
+        Side::Left => "left",
+        Side::Right => "right",
+    }
+}
+
+/// A copy of the name with its offset.
+pub(crate) fn copy_placed(alloc: Global, placed: &Placed) -> Result<Placed, AllocError>
+    ensures { IfOk result (λ p. p ≡ placed.now) }
+{
+    let name = placed.name.copy(alloc)?;
+    Ok(Placed {
+        name,
+        at: placed.at,
+    })
+}
