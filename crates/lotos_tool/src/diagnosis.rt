@@ -1,6 +1,7 @@
 //! The check with diagnostics: what `check` writes, and on standard error an explanation of its fault, or warnings.
 ghost use Rattle.std.specs.Prelude.{◌≡◌, ◌+◌, ◌≤◌, ◌==◌, false, length};
 ghost use Rattle.lotos_text.specs.Limits.{max_text_length};
+ghost use Rattle.lotos_check.specs.AcceptedText.{Accepted};
 ghost use Rattle.lotos_check.specs.CheckedView.{system_of};
 ghost use Rattle.lotos_tool.specs.ProgramRuns.{CheckReported, ProcessesReported, TextReported, check_status_of};
 ghost use Rattle.lotos_tool.specs.RejectedText.{end_of};
@@ -69,7 +70,8 @@ fn report_processes<W: Sink, E: Write>(
     out: &mut W,
     err: &mut E,
 ) -> u8
-    requires { W.has_failed out.old ≡ false }
+    requires accepted { Accepted text.now (system_of found.now) }
+    requires out { W.has_failed out.old ≡ false }
     ensures reported { ProcessesReported (system_of found.now) (W.got out.old) (W.got out.new) result }
     ensures output { W.has_failed out.new ≡ (result == 6) }
 {
@@ -82,7 +84,9 @@ fn report_processes<W: Sink, E: Write>(
 }
 
 /// Writes a line for each warning of an accepted specification.
-fn warn<E: Write>(_alloc: Global, _text: &[u8], _found: &Checked, _err: &mut E) {}
+fn warn<E: Write>(_alloc: Global, _text: &[u8], _found: &Checked, _err: &mut E)
+    requires { Accepted _text.now (system_of _found.now) }
+{}
 
 /// Reports why a text is rejected, and then explains it if that is asked for.
 fn report_rejection<E: Write>(
