@@ -314,7 +314,7 @@ fn long_text(alloc: Global) -> Result<String, AllocError> {
 
 /// How many of the warnings are about the right side.
 fn count_right(found: &[Warning]) -> usize {
-    let mut count = 0;
+    let mut count = 0usize;
     for warning in found {
         if is_right(warning) {
             count = count.saturating_add(1);
