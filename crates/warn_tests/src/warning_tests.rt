@@ -259,7 +259,11 @@ fn numbered(
 fn add_actions(alloc: Global, text: &mut String, first: usize) -> Result<(), AllocError> {
     for number in 0..100usize {
         text.push_str("a")?;
-        text.push_str(((first + number) % GATES).to_string(alloc)?.as_str())?;
+        text.push_str(
+            (first.saturating_add(number) % GATES)
+                .to_string(alloc)?
+                .as_str(),
+        )?;
         text.push_str("; ")?;
     }
     text.push_str("stop")
@@ -275,7 +279,7 @@ fn add_choice(alloc: Global, text: &mut String, first: usize) -> Result<(), Allo
         if number > 0 {
             text.push_str(" [] ")?;
         }
-        add_actions(alloc, text, first + 100 * number)?;
+        add_actions(alloc, text, first.saturating_add(100 * number))?;
     }
     text.push_str(")")
 }
@@ -310,10 +314,10 @@ fn long_text(alloc: Global) -> Result<String, AllocError> {
 
 /// How many of the warnings are about the right side.
 fn count_right(found: &[Warning]) -> usize {
-    let mut count = 0;
+    let mut count = 0usize;
     for warning in found {
         if is_right(warning) {
-            count += 1;
+            count = count.saturating_add(1);
         }
     }
     count
