@@ -26,11 +26,12 @@ pub fn format_sequence<T: LabelTexts>(
     let Some((first, rest)) = labels.split_first() else {
         return String::from_str(alloc, "<empty>");
     };
-    let mut text = String::from_str(alloc, texts.text(*first))?;
-    // Enough for labels of one letter.
-    text.reserve(rest.len().saturating_mul(2))?;
+    let shown = texts.text(*first);
+    // Enough if no label is longer than the first.
+    let mut text = String::with_capacity(alloc, labels.len().saturating_mul(shown.len() + 1))?;
+    text.push_str(shown)?;
     for label in rest {
-        text.push_str(" ")?;
+        text.push(' ')?;
         text.push_str(texts.text(*label))?;
     }
     Ok(text)
