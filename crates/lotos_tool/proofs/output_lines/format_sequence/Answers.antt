@@ -1,4 +1,4 @@
-use Rattle.std.proofs.Common.{◌+◌, ◌∙◌, drop, rules}
+use Rattle.std.proofs.Common.{◌+◌, ◌++◌, ◌∙◌, ap, drop, rules}
 use Rattle.std.proofs.lemmas.List.{drop_more}
 use Rattle.std.proofs.lemmas.Result.{IfOk-weaker}
 use Rattle.lotos_terms.specs.declared.label.Label.TheVariants.{Gate}
@@ -6,10 +6,11 @@ use Rattle.lotos_tool.proofs.FormattedLines.{left_at_first, left_behind, left_no
 use Rattle.lotos_tool.proofs.output_lines.format_sequence.Goals as goal
 
 pub loop-label-init : goal.loop-label-init
-loop-label-init g c = left_at_first _ _ _ _ _ _ (search rules) c.text.ensures.text (c.reserve.ensures.bytes ∙ c.in_ok-text.ensures.ok)
+loop-label-init g c = left_at_first _ _ _ _ _ _ (search rules) c.text-shown.ensures.text
+    (c.in_ok-push_str.ensures.bytes ∙ ap (λ b. b ++ c.text-shown.result.now) c.in_ok-text.ensures.bytes)
 
-pub text-requires-in-loop-label : goal.text-requires-in-loop-label
-text-requires-in-loop-label g c = record {
+pub text-requires : goal.text-requires
+text-requires g c = record {
   known = left_shown _ _ (drop (c.loop-label.label-index + 1) c.in-Some.rest.now) _ _ _
       (drop_more c.in-Some.rest.now c.loop-label.label-index (Gate 0) c.loop-label-test.true)
       (c.loop-label.invariant c.requires.0 c.requires.1);
@@ -18,7 +19,7 @@ text-requires-in-loop-label g c = record {
 pub loop-label-preserved : goal.loop-label-preserved
 loop-label-preserved g c = λ s all. left_behind _ _ _ _ _ _ _ s
     (drop_more c.in-Some.rest.now c.loop-label.label-index (Gate 0) c.loop-label-test.true)
-    c.text-in-loop-label.ensures.text (search rules) (c.loop-label.invariant s all)
+    c.text.ensures.text (search rules) (c.loop-label.invariant s all)
 
 pub returns : goal.returns
 returns g c = λ s all. left_none _ c.in-Some.rest.now c.loop-label.label-index _ s c.loop-label-test.false (c.loop-label.invariant s all)
