@@ -155,12 +155,12 @@ reached_over e from k end empty = record {
 
 -- and after one that may not
 pub reached_next : (e : Element) (from : Place) (k end : ℕ) (first : Option ℕ) → k < end → (Segment e [] → ⊥) →
-    MatchOption first ((j : ℕ) → k + 1 ≤ j → HasState from j → ⊥) (IsFirstState from (k + 1)) → IsNextState e from k end (unwrap_or first end)
+    MatchOption first ((j : ℕ) → k + 1 ≤ j → HasState from j → end ≤ j) (IsFirstState from (k + 1)) → IsNextState e from k end (unwrap_or first end)
 reached_next e from k end None within needed none = record {
   onward = within;
   reached = λ h. absurd (omega arith);
   passes = λ empty. absurd (needed empty);
-  skips_none = λ j far has. absurd (none j (omega arith) has);
+  skips_none = λ j far has. none j (omega arith) has;
 }
 reached_next e from k end (Some n) within needed first = let remainder = first.at_least in record {
   onward = omega arith;

@@ -1,6 +1,6 @@
 -- The states of a place, as the bits of its words.
-use Rattle.std.proofs.Common.{◌≡◌, ℕ, ◌+◌, ◌-◌, ◌*◌, ◌/◌, ◌%◌, ◌^◌, ◌<◌, ◌≤◌, ◌⊎◌, inl, inr, List, length, get_or, sym, ap, ◌∙◌, arith, w64}
-use Rattle.std.specs.Prelude.{◌↔◌, bit_or, replicate, slice_set}
+use Rattle.std.proofs.Common.{◌≡◌, ℕ, ◌+◌, ◌-◌, ◌*◌, ◌/◌, ◌%◌, ◌^◌, ◌<◌, ◌≤◌, ◌⊎◌, inl, inr, Option, None, Some, List, length, get_or, sym, ap, ◌∙◌, arith, w64}
+use Rattle.std.specs.Prelude.{◌↔◌, MatchOption, bit_or, replicate, slice_set}
 use Rattle.std.specs.Int.{bit_at, trailing_zeros}
 use Rattle.std.proofs.Math.Nat.{div-le_self}
 use Rattle.std.proofs.lemmas.Bool.{cases_eq, cases_lt}
@@ -92,3 +92,19 @@ module _ (place : Place) (n : ℕ) where
             let off = shifted j from (omega arith) ∙ lowest.2 (j - n) (omega arith) in
             omega (arith, off, has);
       }
+
+-- what is not found in the word of `end` is not below it
+pub none_below : (place : Place) (from end : ℕ) (first : Option ℕ) → end / 64 ≡ from / 64 →
+    MatchOption first ((k : ℕ) → from ≤ k → k / 64 ≡ from / 64 → HasState place k → ⊥) (IsFirstState place from) →
+    MatchOption first ((k : ℕ) → from ≤ k → HasState place k → end ≤ k) (IsFirstState place from)
+none_below place from end None same none = λ k behind has. elim (cases_lt k end) [
+  | inl h ↦ absurd (none k behind (omega arith) has)
+  | inr h ↦ h
+]
+none_below place from end (Some n) same first = first
+
+-- if there is no state, none is below `end`
+pub none_at_all : (place : Place) (from end : ℕ) (first : Option ℕ) → MatchOption first ((k : ℕ) → from ≤ k → HasState place k → ⊥) (IsFirstState place from) →
+    MatchOption first ((k : ℕ) → from ≤ k → HasState place k → end ≤ k) (IsFirstState place from)
+none_at_all place from end None none = λ k behind has. absurd (none k behind has)
+none_at_all place from end (Some n) first = first

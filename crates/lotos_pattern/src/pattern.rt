@@ -150,7 +150,7 @@ fn skip_empty_elements(element: &Element, place: &Place, state: usize, end: usiz
     if element.may_be_empty() {
         state + 1
     } else {
-        place.first_state_from(state + 1).unwrap_or(end)
+        place.next_state(state + 1, end).unwrap_or(end)
     }
 }
 

@@ -70,6 +70,21 @@ impl Place {
         None
     }
 
+    /// The first state from this one on, if there is one. It may be missed if it is not below `end`: if both are in one
+    /// word, only that word is read.
+    pub(crate) fn next_state(&self, state: usize, end: usize) -> Option<usize>
+        ensures { MatchOption result ((k : ℕ) → state ≤ k → HasState self.now k → end ≤ k)
+            (IsFirstState self.now state) }
+    {
+        let number = state / BITS;
+        if number < WORDS {
+            if end / BITS == number {
+                return self.first_state_in_word(state);
+            }
+        }
+        self.first_state_from(state)
+    }
+
     /// The first state from this one on in the same word, if there is one.
     fn first_state_in_word(&self, state: usize) -> Option<usize>
         requires { state / 64 < 5 }

@@ -89,6 +89,32 @@ const ROWS: &[Row] = &[
         message: b"",
         status: 0,
     },
+    Row {
+        name: "labels of eight and nine letters, and a limit",
+        text: b"specification S [abcdefgh,abcdefghi] : noexit behaviour abcdefgh; abcdefghi; stop [] abcdefghi; abcdefgh; stop endspec",
+        words: &[
+            "lotosseq", "search", "--depth", "2", "--limit", "2", "<any>", "<any>",
+        ],
+        output: b"ABCDEFGH ABCDEFGHI\nABCDEFGHI ABCDEFGH\n",
+        message: b"lotosseq: stopped after ABCDEFGHI ABCDEFGH: limit reached\n",
+        status: 3,
+    },
+    Row {
+        name: "a label of one letter and one of nine, with an explanation",
+        text: b"specification S [a,abcdefghi] : noexit behaviour a; i; abcdefghi; stop endspec",
+        words: &[
+            "lotosseq",
+            "search",
+            "--depth",
+            "3",
+            "--explain",
+            "A",
+            "abcdefghi",
+        ],
+        output: b"A ABCDEFGHI : A i ABCDEFGHI\n",
+        message: b"",
+        status: 0,
+    },
 ];
 
 #[test]
