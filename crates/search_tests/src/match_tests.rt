@@ -325,6 +325,29 @@ const ROWS: &[Row] = &[
         states: 30,
         answer: Answer::Found(&[A, B, A, B, A, B], &[A, B, A, B, A, B]),
     },
+    // Thousands of states: seven processes, each at one of four places.
+    Row {
+        behaviour: "noexit behaviour hide b in (P[a] ||| P[a] ||| P[a] ||| P[a] ||| P[a] ||| P[a] ||| P[a]) where process P [x] : noexit := x; x; x; stop endproc",
+        words: &["<until>", "b"],
+        strong: false,
+        states: 16384,
+        answer: Answer::NoMatch,
+    },
+    Row {
+        behaviour: "noexit behaviour hide b in (P[a] ||| P[a] ||| P[a] ||| P[a] ||| P[a] ||| P[a] ||| P[a]) where process P [x] : noexit := x; x; x; stop endproc",
+        words: &["<until>", "b"],
+        strong: false,
+        states: 16383,
+        answer: Answer::TooManyStates,
+    },
+    // A state that is a part of an earlier one.
+    Row {
+        behaviour: "noexit behaviour (a; stop ||| a; stop) [> b; (a; stop ||| a; stop)",
+        words: &["a", "b", "a", "a"],
+        strong: false,
+        states: MANY,
+        answer: Answer::Found(&[A, B, A, A], &[A, B, A, A]),
+    },
 ];
 
 fn table_of(alloc: Global, behaviour: &str) -> Result<Table, Fail> {
