@@ -11,10 +11,12 @@ use crate::outcome::Ended;
 use crate::program::report_check;
 use crate::refusal::Refusal;
 use crate::specification_input::{Rejection, accept_text, end_of, read_input};
+use crate::warning_lines::write_warnings;
 use lotos_check::Checked;
 use lotos_command::DiagnoseRequest;
 use lotos_device::{Sink, Source};
 use lotos_explain::{explain_check_fault, explain_text_fault};
+use lotos_warn::warnings;
 use std::alloc::Global;
 use std::io::Write;
 
@@ -83,10 +85,14 @@ fn report_processes<W: Sink, E: Write>(
     status
 }
 
-/// Writes a line for each warning of an accepted specification.
-fn warn<E: Write>(_alloc: Global, _text: &[u8], _found: &Checked, _err: &mut E)
-    requires { Accepted _text.now (system_of _found.now) }
-{}
+/// Writes a line for each warning about an accepted specification; none if memory runs out.
+fn warn<E: Write>(alloc: Global, text: &[u8], found: &Checked, err: &mut E)
+    requires { Accepted text.now (system_of found.now) }
+{
+    if let Ok(found) = warnings(alloc, text, found) {
+        write_warnings(err, text, found.as_slice());
+    }
+}
 
 /// Reports why a text is rejected, and then explains it if that is asked for.
 fn report_rejection<E: Write>(

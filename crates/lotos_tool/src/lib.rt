@@ -26,6 +26,7 @@ mod request_pattern;
 mod search_command;
 mod specification_input;
 mod unknown_gates;
+mod warning_lines;
 
 pub use arguments::{run_args, run_args_with_terminal};
 pub use check_command::check_text;

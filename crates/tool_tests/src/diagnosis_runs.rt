@@ -218,3 +218,77 @@ fn messages_that_cannot_be_written_change_no_status(rt: HostRuntime) {
         assert!(rt; err.got().len() <= most, "after {most}");
     }
 }
+
+/// What is tested, an accepted text, the lines of its processes, and its warnings.
+const WARNED: &[(&str, &[u8], &[u8], &[u8])] = &[
+    (
+        "a process that no call names",
+        b"specification S [a] : noexit\nbehaviour a; stop\nwhere\nprocess P [x] : noexit := x; stop endproc\nendspec",
+        b"P 1 noexit\n",
+        b"lotosseq: 4:9: warning: process P is never called\n",
+    ),
+    (
+        "gates that are not used, in two definitions",
+        b"specification S [a,b] : noexit\nbehaviour P[a]\nwhere process P [x] : noexit := stop endproc endspec",
+        b"P 1 noexit\n",
+        b"lotosseq: 1:20: warning: gate B of S is not used\nlotosseq: 3:18: warning: gate X of P is not used\n",
+    ),
+    (
+        "a gate that neither side offers",
+        b"specification S [a] : noexit behaviour stop\n |[a]| stop endspec",
+        b"",
+        b"lotosseq: 2:4: warning: gate A of `|[..]|` is never offered on the left\nlotosseq: 2:4: warning: gate A of `|[..]|` is never offered on the right\n",
+    ),
+    (
+        "nothing to warn of",
+        b"specification S [a] : noexit behaviour a; stop endspec",
+        b"",
+        b"",
+    ),
+];
+
+/// Runs the words on a text that is accepted, and expects the lines, these warnings and one flush.
+fn expect_warnings(
+    rt: &impl Abort,
+    alloc: Global,
+    name: &str,
+    words: &[&str],
+    text: &[u8],
+    lines: &[u8],
+    warnings: &[u8],
+) {
+    let reader = SliceReader::new(text, 5);
+    let out = ArrayWriter::new(3);
+    let err = ArrayWriter::new(7);
+    let (status, _reader, out, err) = run_on(alloc, words, reader, out, err);
+    assert_eq!(rt; out.got(), lines, "{name}");
+    assert_eq!(rt; err.got(), warnings, "{name}");
+    assert_eq!(rt; status, 0, "{name}");
+    assert_eq!(rt; out.flushes, 1, "{name}");
+}
+
+#[test]
+fn warnings_after_the_lines(rt: HostRuntime) {
+    for (name, text, lines, warnings) in WARNED {
+        expect_warnings(&rt, rt.alloc(), name, WARN, *text, *lines, *warnings);
+        expect_warnings(&rt, rt.alloc(), name, BOTH, *text, *lines, *warnings);
+        expect_warnings(&rt, rt.alloc(), name, EXPLAIN, *text, *lines, b"");
+    }
+}
+
+#[test]
+fn no_warnings_if_the_output_fails(rt: HostRuntime) {
+    for (name, text, _lines, _warnings) in WARNED {
+        let reader = SliceReader::new(*text, 4096);
+        let mut out = ArrayWriter::new(4096);
+        out.flush_fails = true;
+        let err = ArrayWriter::new(4096);
+        let (status, _reader, _out, err) = run_on(rt.alloc(), WARN, reader, out, err);
+        assert_eq!(rt;
+            err.got(),
+            b"lotosseq: output cannot be written\n".as_slice(),
+            "{name}"
+        );
+        assert_eq!(rt; status, 6, "{name}");
+    }
+}
