@@ -11,6 +11,9 @@ use std::alloc::{AllocError, Global};
 use std::fmt;
 use std::io::Write;
 
+/// The most bytes before a fault for which it is tried what could be there: each trial parses all of them.
+const EXPECTED_LIMIT: usize = 1 << 16;
+
 /// The most bytes of a line that are shown before the place, and in all.
 const SHOWN_BEFORE: usize = 60;
 
@@ -96,7 +99,8 @@ fn description_of(alloc: Global, text: &[u8], at: usize) -> Result<Description, 
     describe_token(alloc, text, at)
 }
 
-/// What could be at the offset, if the fault is a token that is not there or should not be.
+/// What could be at the offset, if the fault is a token that is not there or should not be, and not too far from the
+/// beginning.
 fn expected_at(
     alloc: Global,
     text: &[u8],
@@ -107,7 +111,7 @@ fn expected_at(
         fault,
         TextFault::E01(_) | TextFault::E04(_) | TextFault::E06(_) | TextFault::E07(_)
     );
-    if is_of_tokens && at <= text.len() {
+    if is_of_tokens && at <= text.len() && at <= EXPECTED_LIMIT {
         expected_tokens(alloc, text, at)
     } else {
         Ok(Vec::new(alloc))
