@@ -227,9 +227,9 @@ pub(crate) const STATES_LONG_HELP: &str = "The most states that may be reached, 
 
 A state is one of the specification and of the pattern together: a term that can be
 reached, and how much of the pattern the labels on the way match. If more of them are
-reached before a match is found, the search stops with status 4. Each takes some 3
-KiB of memory. For example, for `a; b; stop` and the pattern `A B` the search stops
-with `--states 1`.";
+reached before a match is found, the search stops with status 4. Each takes some
+0.3 to 1.5 KiB of memory. For example, for `a; b; stop` and the pattern `A B` the
+search stops with `--states 1`.";
 
 pub(crate) const EVER_EXPLAIN_HELP: &str = "Writes the word of the derivation too";
 
