@@ -325,19 +325,19 @@ const ROWS: &[Row] = &[
         states: 30,
         answer: Answer::Found(&[A, B, A, B, A, B], &[A, B, A, B, A, B]),
     },
-    // Thousands of states: seven processes, each at one of four places.
+    // A thousand states: five processes, each at one of four places.
     Row {
-        behaviour: "noexit behaviour hide b in (P[a] ||| P[a] ||| P[a] ||| P[a] ||| P[a] ||| P[a] ||| P[a]) where process P [x] : noexit := x; x; x; stop endproc",
+        behaviour: "noexit behaviour hide b in (P[a] ||| P[a] ||| P[a] ||| P[a] ||| P[a]) where process P [x] : noexit := x; x; x; stop endproc",
         words: &["<until>", "b"],
         strong: false,
-        states: 16384,
+        states: 1024,
         answer: Answer::NoMatch,
     },
     Row {
-        behaviour: "noexit behaviour hide b in (P[a] ||| P[a] ||| P[a] ||| P[a] ||| P[a] ||| P[a] ||| P[a]) where process P [x] : noexit := x; x; x; stop endproc",
+        behaviour: "noexit behaviour hide b in (P[a] ||| P[a] ||| P[a] ||| P[a] ||| P[a]) where process P [x] : noexit := x; x; x; stop endproc",
         words: &["<until>", "b"],
         strong: false,
-        states: 16383,
+        states: 1023,
         answer: Answer::TooManyStates,
     },
     // A state that is a part of an earlier one.
