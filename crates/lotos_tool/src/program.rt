@@ -22,13 +22,13 @@ use std::alloc::Global;
 use std::io::Write;
 
 /// Runs the command that the words ask for and returns its exit status: 0 for a complete output with lines, an accepted
-/// specification, a match, help, or the version; 1 for a listing without lines, or no match; 2 for words, a pattern, a mark, or a
-/// specification that is refused, or input that cannot be read; 3 at the limit of lines; 4 for a prefix with too many
-/// terms, or too many states; 5 out of memory; 6 for output that cannot be written.
+/// specification, a match, help, or the version; 1 for a listing without lines, or no match; 2 for words, a pattern, a
+/// mark, or a specification that is refused, or input that cannot be read; 3 at the limit of lines; 4 for a prefix with
+/// too many terms, or too many states; 5 out of memory; 6 for output that cannot be written.
 ///
 /// The first of the words is the program's own name. The lines of the command, or the help or the version if the words
-/// ask for it, go to `out`, and every message to `err`; errors of `err` change no status. At most one byte more than a text may have
-/// is taken from the reader, whatever it returns. Neither the reader nor `out` may have failed before.
+/// ask for it, go to `out`, and every message to `err`; errors of `err` change no status. At most one byte more than a
+/// text may have is taken from the reader, whatever it returns. Neither the reader nor `out` may have failed before.
 pub fn run<R: Source, W: Sink, E: Write>(
     alloc: Global,
     words: &[&str],
@@ -117,9 +117,9 @@ fn end_without_command<W: Sink, E: Write>(
     status
 }
 
-/// Writes the help or the version that the words ask for to `out`, or reports to `err` why they make no request. Returns the status: 0
-/// for help, 2 for words that fit no command, 5 out of memory, and 6 if the output fails, which must not have failed
-/// before. The text that says why words fit no command has line feeds of its own.
+/// Writes the help or the version that the words ask for to `out`, or reports to `err` why they make no request. Returns
+/// the status: 0 for help, 2 for words that fit no command, 5 out of memory, and 6 if the output fails, which must not
+/// have failed before. The text that says why words fit no command has line feeds of its own.
 pub fn answer_fault<W: Sink, E: Write>(fault: &CommandFault, out: &mut W, err: &mut E) -> u8
     requires { W.has_failed out.old ≡ false }
     ensures answer { IsAnswerTo fault.now (W.got out.old) (W.got out.new) result }

@@ -51,7 +51,8 @@ pub(crate) fn insert_list<'a>(
     into: &mut IndexSet<&'a str>,
     sync: &'a SyncSet,
 ) -> Result<(), AllocError>
-    ensures { OnOk result (AddsNames (λ k. k.now) into.old.keys into.new.keys (IsListed (sync_view sync.now))) }
+    ensures { OnOk result (AddsNames (λ k. k.now) into.old.keys into.new.keys
+        (IsListed (sync_view sync.now))) }
 {
     match sync {
         SyncSet::All => Ok(()),

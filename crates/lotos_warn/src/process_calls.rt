@@ -23,7 +23,8 @@ pub(crate) fn called_processes(
 
 /// Adds the processes that one of these calls.
 fn add_calls_of_all(processes: &[Process], called: &mut IndexSet<usize>) -> Result<(), AllocError>
-    ensures { OnOk result (Adds called.old.keys called.new.keys (IsCalledByAny (map process_of processes.now))) }
+    ensures { OnOk result (Adds called.old.keys called.new.keys
+        (IsCalledByAny (map process_of processes.now))) }
 {
     for process in processes {
         add_calls(&process.body, called)?;
