@@ -30,8 +30,9 @@ pub fn format_sequence<T: LabelTexts>(
         return String::from_str(alloc, "<empty>");
     };
     let shown = texts.text(*first);
-    // Enough if no label is longer than the first.
-    let capacity = labels.len().saturating_mul(shown.len() + 1);
+    // Enough if no label is longer than the first, nor than what is short.
+    let each = shown.len().min(SHORT_TEXT) + 1;
+    let capacity = rest.len().saturating_mul(each).saturating_add(shown.len());
     let mut bytes = Vec::with_capacity(alloc, capacity)?;
     append_text(&mut bytes, shown)?;
     for label in rest {
