@@ -5,7 +5,7 @@ use Rattle.lotos_check.specs.CheckedView.{system_of}
 use Rattle.lotos_ever.specs.MatchQuestions.{IsAnswer, IsFound, match_question_of}
 use Rattle.lotos_tool.specs.EverSetup.{IsEverQuestionFor}
 use Rattle.lotos_tool.specs.EverOutcomeContracts.{item_of}
-use Rattle.lotos_tool.proofs.MatchOutcomes.{handed_on, shown_now}
+use Rattle.lotos_tool.proofs.MatchOutcomes.{handed_on, out_of_memory, shown_now}
 use Rattle.lotos_tool.proofs.ever_command.find_match_line.Goals as goal
 
 pub returns-in_err-found-clause-none : goal.returns-in_err-found-clause-none
@@ -25,6 +25,13 @@ format_match-requires g c =
     let q = match_question_of c.in_ok-table.table p in
     let found : IsFound q c.in-Some.found = subst (IsAnswer q) c.in-Some.is c.in_ok-found.ensures.answer in
     record { printed = (item_of q found.word, shown_now c.in_ok-table.table c.find_shortest_match_with_progress.new.table p c.in-Some.found c.in_ok-found.ensures.grows found) }
+
+pub returns-in_err-format_match-in-Some-clause-none :
+    goal.returns-in_err-format_match-in-Some-clause-none
+returns-in_err-format_match-in-Some-clause-none g c =
+    let r = c.from_residual-in_err-format_match-in-Some in
+    let halt = err_from_is_err_and r.result r.ensures.1 in
+    out_of_memory _ _ c.args.request.now (system_of c.args.found) c.args.pattern.now halt.1 halt.2
 
 pub returns-in-Some-clause-line : goal.returns-in-Some-clause-line
 returns-in-Some-clause-line g c =
