@@ -1,2 +1,5 @@
 mod LexedRests
 mod Places
+mod SimilarNames
+mod DefinitionParts
+mod DefinitionScopes

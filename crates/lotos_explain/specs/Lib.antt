@@ -1,3 +1,4 @@
 pub mod LineBounds
 pub mod Descriptions
 pub mod ExpectedTokens
+pub mod SimilarNames

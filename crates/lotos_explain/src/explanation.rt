@@ -4,9 +4,11 @@ use crate::advice::{check_advice, text_advice};
 use crate::continuations::NAME;
 use crate::expectations::expected_tokens;
 use crate::line_bounds::line_of;
+use crate::similar_gates::close_gate;
+use crate::similar_processes::close_process;
 use crate::token_description::{Description, describe_token};
 use lotos_check::CheckFault;
-use lotos_text::{TEXT_LIMIT, TextFault, Token, TokenKind};
+use lotos_text::{Placed, TEXT_LIMIT, TextFault, Token, TokenKind, parse};
 use std::alloc::{AllocError, Global};
 use std::fmt;
 use std::io::Write;
@@ -36,12 +38,42 @@ pub fn explain_text_fault<E: Write>(alloc: Global, text: &[u8], fault: &TextFaul
     }
 }
 
-/// Explains a static rule that the specification of a text breaks: the line of its place, and what to do.
-pub fn explain_check_fault<E: Write>(text: &[u8], fault: &CheckFault, err: &mut E) {
+/// Explains a static rule that the specification of a text breaks: the line of its place, a name that could be meant
+/// where one is not declared, and what to do.
+pub fn explain_check_fault<E: Write>(alloc: Global, text: &[u8], fault: &CheckFault, err: &mut E) {
     if let Some(at) = fault.at() {
         show_line(text, at, err);
     }
+    match fault {
+        CheckFault::E21(gate) => report_close_gate(alloc, text, gate, err),
+        CheckFault::E22(name) => report_close_process(alloc, text, name, err),
+        _ => {}
+    }
     let _ = writeln!(err, "  {}", check_advice(fault));
+}
+
+/// Writes the name of a gate that could be meant, if one is found.
+fn report_close_gate<E: Write>(alloc: Global, text: &[u8], gate: &Placed, err: &mut E) {
+    if let Ok(specification) = parse(alloc, text) {
+        let found = close_gate(alloc, &specification, gate.at, gate.name.text());
+        if let Ok(Some(name)) = found {
+            let _ = writeln!(err, "  a gate in scope has a similar name: {}", name.text());
+        }
+    }
+}
+
+/// Writes the name of a process that could be meant, if one is found.
+fn report_close_process<E: Write>(alloc: Global, text: &[u8], called: &Placed, err: &mut E) {
+    if let Ok(specification) = parse(alloc, text) {
+        let found = close_process(alloc, &specification, called.at, called.name.text());
+        if let Ok(Some(name)) = found {
+            let _ = writeln!(
+                err,
+                "  a process that is visible here has a similar name: {}",
+                name.text()
+            );
+        }
+    }
 }
 
 fn offset_of(fault: &TextFault) -> Option<usize> {
