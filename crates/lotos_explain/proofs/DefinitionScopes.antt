@@ -36,7 +36,7 @@ pub continues_all : (scope : Scope) (first : ℕ) (all rest : DefinitionListView
 continues_all scope first all rest e = (first, λ v h. subst (λ ds. In v (definitions_in_scope scope first ds)) e h)
 
 module _ (items : List Definition) (index : ℕ) (item : Definition) (below : index < length items) (is : item ≡ get_or items index item) where
-  rest_at : definitions_view (drop index items) ≡ more_defs (definition_view item) (definitions_view (drop (index + 1) items))
+  pub rest_at : definitions_view (drop index items) ≡ more_defs (definition_view item) (definitions_view (drop (index + 1) items))
   rest_at =
       let left : drop index items ≡ item ∷ drop (index + 1) items =
       rw (drop-cons items index item below, add-one) (ap (λ x. x ∷ drop (suc index) items) (sym is)) in

@@ -3,3 +3,4 @@ mod Places
 mod SimilarNames
 mod DefinitionParts
 mod DefinitionScopes
+mod FunctionalityCauses

@@ -2,3 +2,4 @@ pub mod LineBounds
 pub mod Descriptions
 pub mod ExpectedTokens
 pub mod SimilarNames
+pub mod FunctionalityCauses

@@ -10,6 +10,7 @@ mod advice;
 mod continuations;
 mod expectations;
 mod explanation;
+mod functionality_causes;
 mod line_bounds;
 mod similar_gates;
 mod similar_names;
@@ -18,6 +19,7 @@ mod token_description;
 
 pub use expectations::expected_tokens;
 pub use explanation::{explain_check_fault, explain_text_fault};
+pub use functionality_causes::{Cause, Leaf, functionality_cause};
 pub use line_bounds::{LineBounds, line_of};
 pub use similar_gates::close_gate;
 pub use similar_processes::close_process;
