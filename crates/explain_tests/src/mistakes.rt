@@ -164,12 +164,12 @@ const MISTAKES: &[(&str, &[u8], &[u8])] = &[
     (
         "exit declared for a behaviour that never exits",
         b"specification S [a] : exit\nbehaviour a; stop endspec",
-        b"  specification S [a] : exit\n                ^\n  Declare it `noexit`, or end the behaviour with `exit`; a call has what its process declares.\n",
+        b"  specification S [a] : exit\n                ^\n  it is `noexit` because of a `stop`\n  Declare it `noexit`, or end the behaviour with `exit`; a call has what its process declares.\n",
     ),
     (
         "noexit declared for a behaviour that exits",
         b"specification S [a] : noexit\nbehaviour a; exit endspec",
-        b"  specification S [a] : noexit\n                ^\n  Declare it `exit`, or end the behaviour with `stop`; a call has what its process declares.\n",
+        b"  specification S [a] : noexit\n                ^\n  it is `exit` because of an `exit`\n  Declare it `exit`, or end the behaviour with `stop`; a call has what its process declares.\n",
     ),
     (
         "a left side that never exits",
@@ -235,6 +235,36 @@ const MISTAKES: &[(&str, &[u8], &[u8])] = &[
         "a process that is similar to one inside another",
         b"specification S [a] : noexit\nbehaviour Sendr[a]\nwhere process P [x] : noexit := Sender[x] where\nprocess Sender [y] : noexit := y; stop endproc endproc\nendspec",
         b"  behaviour Sendr[a]\n            ^\n  Correct the name, or define the process in a `where` around the call; if it is a gate, put `;` after it.\n",
+    ),
+    (
+        "a call that makes it noexit",
+        b"specification S [a] : exit\nbehaviour a; P[a]\nwhere process P [x] : noexit := x; P[x] endproc\nendspec",
+        b"  specification S [a] : exit\n                ^\n  it is `noexit` because of the call of P at 2:14\n  Declare it `noexit`, or end the behaviour with `exit`; a call has what its process declares.\n",
+    ),
+    (
+        "a right side of a parallel composition that never exits",
+        b"specification S [a,b] : exit\nbehaviour a; exit ||| b; stop\nendspec",
+        b"  specification S [a,b] : exit\n                ^\n  it is `noexit` because of a `stop`\n  Declare it `noexit`, or end the behaviour with `exit`; a call has what its process declares.\n",
+    ),
+    (
+        "a left side of a parallel composition that never exits",
+        b"specification S [a,b] : exit\nbehaviour a; P[a] ||| b; exit\nwhere process P [x] : noexit := x; P[x] endproc\nendspec",
+        b"  specification S [a,b] : exit\n                ^\n  it is `noexit` because of the call of P at 2:14\n  Declare it `noexit`, or end the behaviour with `exit`; a call has what its process declares.\n",
+    ),
+    (
+        "a choice that may exit",
+        b"specification S [a,b] : noexit\nbehaviour b; stop [] a; exit\nendspec",
+        b"  specification S [a,b] : noexit\n                ^\n  it is `exit` because of an `exit`\n  Declare it `exit`, or end the behaviour with `stop`; a call has what its process declares.\n",
+    ),
+    (
+        "a call of an inner process that makes it exit",
+        b"specification S [a] : noexit\nbehaviour P[a]\nwhere process P [x] : noexit := x; Q[x] where\nprocess Q [y] : exit := y; exit endproc endproc\nendspec",
+        b"  where process P [x] : noexit := x; Q[x] where\n                ^\n  it is `exit` because of the call of Q at 3:36\n  Declare it `exit`, or end the behaviour with `stop`; a call has what its process declares.\n",
+    ),
+    (
+        "an enabling with a right side that never exits",
+        b"specification S [a] : exit\nbehaviour hide b in b; exit >> a; stop\nendspec",
+        b"  specification S [a] : exit\n                ^\n  it is `noexit` because of a `stop`\n  Declare it `noexit`, or end the behaviour with `exit`; a call has what its process declares.\n",
     ),
 ];
 

@@ -6,9 +6,8 @@ use Rattle.std.proofs.lemmas.Slice.Eq.{bytes_eq-Decides}
 use Rattle.lotos_text.specs.AstView.{DefinitionView, DefinitionListView, def, no_defs, more_defs, name_of, formals_of, body_of, inner_of}
 use Rattle.lotos_text.specs.AstOf.{definition_view, definitions_view}
 use Rattle.lotos_text.specs.declared.ast.Definition.{Definition, out-Definition}
-use Rattle.lotos_text.specs.declared.ast.Placed.{Placed}
 use Rattle.lotos_check.specs.NameLists.{Name, In, texts}
-use Rattle.lotos_check.specs.Scope.{Scope, Where, ScopedDefinition, Declares, here, later, Binds, nearest, outward, count, within, declared_names, definitions_in_scope, definition_in_scope}
+use Rattle.lotos_check.specs.Scope.{Scope, ScopedDefinition, Declares, here, later, nearest, outward, count, within, declared_names, definitions_in_scope, definition_in_scope}
 use Rattle.lotos_explain.specs.SimilarNames.{IsFrom, IsBound, IsInScopeAt, IsInScopeInAny, IsGateInScopeAt, CallsAt, IsBoundInAny, IsProcessVisibleAt}
 use Rattle.lotos_explain.proofs.DefinitionParts.{name_shown}
 use Rattle.lotos_explain.proofs.SimilarNames.{some_weaker, of_some}

@@ -1,10 +1,10 @@
 -- What makes the functionality of a behaviour, from what makes those of its operands.
-use Rattle.std.specs.Prelude.{◌≡◌, ◌⊎◌, ℕ, ◌+◌, List, [], ◌∷◌, Bool, true, false, IfSome, MatchOption, Option, None, Some}
+use Rattle.std.specs.Prelude.{◌≡◌, ℕ, ◌+◌, List, [], ◌∷◌, Bool, true, false, IfSome, Option}
 use Rattle.std.specs.Str.{bytes_eq}
 use Rattle.std.specs.Borrow.{Bor}
 use Rattle.std.proofs.Common.{inl, inr, refl, sym, subst, ap, ◌∙◌}
 use Rattle.std.proofs.lemmas.Slice.Eq.{bytes_eq-Decides}
-use Rattle.lotos_text.specs.AstView.{BehaviourView, SyncView, stop, exit, prefix, choice, par, hide, enable, disable, call, DefinitionView, DefinitionListView, no_defs, more_defs, name_of, body_of, inner_of, declared_of}
+use Rattle.lotos_text.specs.AstView.{BehaviourView, SyncView, stop, exit, prefix, choice, par, hide, enable, disable, call, DefinitionView, DefinitionListView, no_defs, more_defs, name_of, body_of, inner_of}
 use Rattle.lotos_text.specs.AstOf.{definition_view}
 use Rattle.lotos_text.specs.declared.ast.Definition.{Definition, out-Definition}
 use Rattle.lotos_text.specs.declared.ast.Action.{Action}
@@ -12,12 +12,11 @@ use Rattle.lotos_text.specs.declared.ast.Functionality.{Functionality}
 use Rattle.lotos_text.specs.declared.ast.Functionality.TheVariants.{Exit, NoExit}
 use Rattle.lotos_text.specs.declared.ast.Placed.{Placed}
 use Rattle.lotos_check.specs.NameLists.{Name, In}
-use Rattle.lotos_check.specs.Scope.{Scope, Where, ScopedDefinition, Declares, here, later, Binds, nearest, outward, count, within, definitions_in_scope, definition_in_scope}
-use Rattle.lotos_check.specs.Functionality.{Func, either, both, of_stop, of_exit, of_prefix, of_hide, of_choice, of_disable, of_par, of_enable, of_call}
+use Rattle.lotos_check.specs.Scope.{Scope, ScopedDefinition, Declares, here, later, nearest, outward, count, within, definitions_in_scope, definition_in_scope}
+use Rattle.lotos_check.specs.Functionality.{Func, of_stop, of_exit, of_prefix, of_hide, of_choice, of_disable, of_par, of_enable, of_call}
 use Rattle.lotos_explain.specs.declared.functionality_causes.Cause.{Cause}
-use Rattle.lotos_explain.specs.declared.functionality_causes.Leaf.{Leaf}
 use Rattle.lotos_explain.specs.declared.functionality_causes.Leaf.TheVariants as leaf
-use Rattle.lotos_explain.specs.FunctionalityCauses.{IsLeaf, IsReached, itself, under_prefix, under_hide, left_choice, right_choice, left_disable, right_disable, left_par, right_par, right_enable, HasCause, HasCauseInAny, IsCauseAt, IsEnclosing, IsBoundTo, IsDeclared}
+use Rattle.lotos_explain.specs.FunctionalityCauses.{IsReached, itself, under_prefix, under_hide, left_choice, right_choice, left_disable, right_disable, left_par, right_par, right_enable, HasCause, HasCauseInAny, IsCauseAt, IsEnclosing, IsBoundTo, IsDeclared}
 use Rattle.lotos_explain.proofs.DefinitionParts.{name_shown, declared_shown}
 use Rattle.lotos_explain.proofs.SimilarNames.{some_weaker}
 

@@ -1,19 +1,16 @@
 -- Names that are in scope at a part of a behaviour.
-use Rattle.std.specs.Prelude.{◌≡◌, ◌⊎◌, ℕ, ◌<◌, ◌+◌, List, [], ◌∷◌, ◌++◌, length, get_or, true, false, Bool, IfSome, IfOk, Option, None, Some, Result, Ok, Err, option_map, Box}
+use Rattle.std.specs.Prelude.{◌≡◌, ◌⊎◌, ℕ, ◌<◌, List, [], ◌∷◌, ◌++◌, length, get_or, IfSome, Option, None, Some, option_map, Box}
 use Rattle.std.specs.declared.alloc.Global.{Global}
-use Rattle.std.specs.Str.{bytes_eq}
 use Rattle.std.proofs.Common.{zero, suc, inl, inr, refl, sym, subst, arith}
-use Rattle.std.proofs.lemmas.Slice.Eq.{bytes_eq-Decides}
-use Rattle.lotos_text.specs.AstView.{BehaviourView, gates, prefix, choice, par, hide, enable, disable, call}
-use Rattle.lotos_text.specs.AstOf.{behaviour_view, sync_view}
+use Rattle.lotos_text.specs.AstView.{BehaviourView, gates, prefix, par, call}
+use Rattle.lotos_text.specs.AstOf.{behaviour_view}
 use Rattle.lotos_text.specs.declared.ast.Behaviour as code
 use Rattle.lotos_text.specs.declared.ast.Behaviour.{Behaviour}
 use Rattle.lotos_text.specs.declared.ast.SyncSet.{SyncSet}
 use Rattle.lotos_text.specs.declared.ast.Placed.{Placed}
-use Rattle.lotos_text.specs.declared.ast.Action.{Action}
 use Rattle.lotos_text.specs.declared.ast.Action.TheVariants.{Gate}
 use Rattle.lotos_check.specs.NameLists.{Name, In, texts}
-use Rattle.lotos_check.specs.Subexpressions.{IsSubexpression, whole, in_prefix, in_choice_left, in_choice_right, in_par_left, in_par_right, in_hide, in_enable_left, in_enable_right, in_disable_left, in_disable_right, UsesGate, acts, synchronizes, passes}
+use Rattle.lotos_check.specs.Subexpressions.{IsSubexpression, whole, in_choice_left, in_choice_right, in_par_left, in_par_right, in_enable_left, in_enable_right, in_disable_left, in_disable_right, acts, synchronizes, passes}
 use Rattle.lotos_explain.specs.SimilarNames.{IsFrom, IsAmongAt, UsesGateAt, IsInScopeAt, CallsAt}
 
 -- what holds of a name that is there, if there is one

@@ -2,8 +2,8 @@
 //!
 //! [`explain_text_fault`] and [`explain_check_fault`] write the line of the text with a mark under the place of the
 //! fault, what is there, which words, signs and names could be there, and what to do. What they say of the text is what
-//! [`line_of`], [`describe_token`], [`expected_tokens`], [`close_gate`] and [`close_process`] return, whose contracts
-//! cite the definitions in `specs/`.
+//! [`line_of`], [`describe_token`], [`expected_tokens`], [`close_gate`], [`close_process`] and [`functionality_cause`]
+//! return, whose contracts cite the definitions in `specs/`.
 #![tactic(auto)]
 
 mod advice;

@@ -1,9 +1,9 @@
 use Rattle.std.specs.Prelude.{drop, ◌+◌, ◌≤◌, length}
-use Rattle.std.proofs.Common.{arith, ap}
+use Rattle.std.proofs.Common.{arith}
 use Rattle.std.proofs.lemmas.List.{drop_all}
 use Rattle.lotos_text.specs.AstOf.{definition_view, definitions_view}
 use Rattle.lotos_explain.proofs.DefinitionScopes.{rest_at}
-use Rattle.lotos_explain.proofs.FunctionalityCauses.{SameDeclared, same_all, same_here, same_next, same_none, is_named, is_not_named}
+use Rattle.lotos_explain.proofs.FunctionalityCauses.{same_all, same_here, same_next, same_none, is_named, is_not_named}
 use Rattle.lotos_explain.proofs.functionality_causes.declared_in.Goals as goal
 
 pub returns-then-eq : goal.returns-then-eq
