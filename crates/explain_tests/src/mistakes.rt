@@ -164,12 +164,12 @@ const MISTAKES: &[(&str, &[u8], &[u8])] = &[
     (
         "exit declared for a behaviour that never exits",
         b"specification S [a] : exit\nbehaviour a; stop endspec",
-        b"  specification S [a] : exit\n                ^\n  Declare it `noexit`, or end the behaviour with `exit`; a call has what its process declares.\n",
+        b"  specification S [a] : exit\n                ^\n  it is `noexit` because of a `stop`\n  Declare it `noexit`, or end the behaviour with `exit`; a call has what its process declares.\n",
     ),
     (
         "noexit declared for a behaviour that exits",
         b"specification S [a] : noexit\nbehaviour a; exit endspec",
-        b"  specification S [a] : noexit\n                ^\n  Declare it `exit`, or end the behaviour with `stop`; a call has what its process declares.\n",
+        b"  specification S [a] : noexit\n                ^\n  it is `exit` because of an `exit`\n  Declare it `exit`, or end the behaviour with `stop`; a call has what its process declares.\n",
     ),
     (
         "a left side that never exits",
@@ -181,6 +181,91 @@ const MISTAKES: &[(&str, &[u8], &[u8])] = &[
         b"specification S [a] : noexit\nbehaviour P[a]\nwhere process P [x] : noexit := P[x] [] x; stop endproc\nendspec",
         b"  where process P [x] : noexit := P[x] [] x; stop endproc\n                ^\n  Put an action before one of the calls, as in `a; P[a]`, or the call to the right of `>>`.\n",
     ),
+    (
+        "a misspelt gate",
+        b"specification S [send, receive] : noexit\nbehaviour sned; receive; stop\nendspec",
+        b"  behaviour sned; receive; stop\n            ^\n  a gate in scope has a similar name: SEND\n  Correct the name, or add the gate to the definition and to its calls: a process sees its own gates alone.\n",
+    ),
+    (
+        "a misspelt gate of a call, and a similar one that is hidden there",
+        b"specification S [put] : noexit\nbehaviour hide frame in put; P[fram]\nwhere process P [x] : noexit := x; stop endproc\nendspec",
+        b"  behaviour hide frame in put; P[fram]\n                                 ^\n  a gate in scope has a similar name: FRAME\n  Correct the name, or add the gate to the definition and to its calls: a process sees its own gates alone.\n",
+    ),
+    (
+        "a misspelt gate in the list of a parallel composition",
+        b"specification S [put, get] : noexit\nbehaviour put; stop |[pet]| get; stop\nendspec",
+        b"  behaviour put; stop |[pet]| get; stop\n                        ^\n  a gate in scope has a similar name: PUT\n  Correct the name, or add the gate to the definition and to its calls: a process sees its own gates alone.\n",
+    ),
+    (
+        "a gate with no similar one",
+        b"specification S [send] : noexit\nbehaviour receive; stop\nendspec",
+        b"  behaviour receive; stop\n            ^\n  Correct the name, or add the gate to the definition and to its calls: a process sees its own gates alone.\n",
+    ),
+    (
+        "a gate of one letter",
+        b"specification S [a] : noexit\nbehaviour b; stop\nendspec",
+        b"  behaviour b; stop\n            ^\n  Correct the name, or add the gate to the definition and to its calls: a process sees its own gates alone.\n",
+    ),
+    (
+        "a gate that is similar to one of another process",
+        b"specification S [frame] : noexit\nbehaviour P[frame]\nwhere process P [x] : noexit := fram; P[x] endproc\nendspec",
+        b"  where process P [x] : noexit := fram; P[x] endproc\n                                  ^\n  Correct the name, or add the gate to the definition and to its calls: a process sees its own gates alone.\n",
+    ),
+    (
+        "the most similar gate of a list",
+        b"specification S [ford, work, word] : noexit\nbehaviour wort; stop\nendspec",
+        b"  behaviour wort; stop\n            ^\n  a gate in scope has a similar name: WORK\n  Correct the name, or add the gate to the definition and to its calls: a process sees its own gates alone.\n",
+    ),
+    (
+        "a gate that is similar to one that is hidden elsewhere",
+        b"specification S [a] : noexit\nbehaviour (hide frame in frame; stop) [] fram; stop\nendspec",
+        b"  behaviour (hide frame in frame; stop) [] fram; stop\n                                           ^\n  Correct the name, or add the gate to the definition and to its calls: a process sees its own gates alone.\n",
+    ),
+    (
+        "a misspelt process",
+        b"specification S [a] : noexit\nbehaviour Sendr[a]\nwhere process Sender [x] : noexit := x; stop endproc\nendspec",
+        b"  behaviour Sendr[a]\n            ^\n  a process that is visible here has a similar name: SENDER\n  Correct the name, or define the process in a `where` around the call; if it is a gate, put `;` after it.\n",
+    ),
+    (
+        "a misspelt process of an outer where",
+        b"specification S [a] : noexit\nbehaviour P[a]\nwhere process P [x] : noexit := Q[x] where\nprocess Q [y] : noexit := y; Sendr[y] endproc endproc\nprocess Sender [z] : noexit := z; stop endproc\nendspec",
+        b"  process Q [y] : noexit := y; Sendr[y] endproc endproc\n                               ^\n  a process that is visible here has a similar name: SENDER\n  Correct the name, or define the process in a `where` around the call; if it is a gate, put `;` after it.\n",
+    ),
+    (
+        "a process that is similar to one inside another",
+        b"specification S [a] : noexit\nbehaviour Sendr[a]\nwhere process P [x] : noexit := Sender[x] where\nprocess Sender [y] : noexit := y; stop endproc endproc\nendspec",
+        b"  behaviour Sendr[a]\n            ^\n  Correct the name, or define the process in a `where` around the call; if it is a gate, put `;` after it.\n",
+    ),
+    (
+        "a call that makes it noexit",
+        b"specification S [a] : exit\nbehaviour a; P[a]\nwhere process P [x] : noexit := x; P[x] endproc\nendspec",
+        b"  specification S [a] : exit\n                ^\n  it is `noexit` because of the call of P at 2:14\n  Declare it `noexit`, or end the behaviour with `exit`; a call has what its process declares.\n",
+    ),
+    (
+        "a right side of a parallel composition that never exits",
+        b"specification S [a,b] : exit\nbehaviour a; exit ||| b; stop\nendspec",
+        b"  specification S [a,b] : exit\n                ^\n  it is `noexit` because of a `stop`\n  Declare it `noexit`, or end the behaviour with `exit`; a call has what its process declares.\n",
+    ),
+    (
+        "a left side of a parallel composition that never exits",
+        b"specification S [a,b] : exit\nbehaviour a; P[a] ||| b; exit\nwhere process P [x] : noexit := x; P[x] endproc\nendspec",
+        b"  specification S [a,b] : exit\n                ^\n  it is `noexit` because of the call of P at 2:14\n  Declare it `noexit`, or end the behaviour with `exit`; a call has what its process declares.\n",
+    ),
+    (
+        "a choice that may exit",
+        b"specification S [a,b] : noexit\nbehaviour b; stop [] a; exit\nendspec",
+        b"  specification S [a,b] : noexit\n                ^\n  it is `exit` because of an `exit`\n  Declare it `exit`, or end the behaviour with `stop`; a call has what its process declares.\n",
+    ),
+    (
+        "a call of an inner process that makes it exit",
+        b"specification S [a] : noexit\nbehaviour P[a]\nwhere process P [x] : noexit := x; Q[x] where\nprocess Q [y] : exit := y; exit endproc endproc\nendspec",
+        b"  where process P [x] : noexit := x; Q[x] where\n                ^\n  it is `exit` because of the call of Q at 3:36\n  Declare it `exit`, or end the behaviour with `stop`; a call has what its process declares.\n",
+    ),
+    (
+        "an enabling with a right side that never exits",
+        b"specification S [a] : exit\nbehaviour hide b in b; exit >> a; stop\nendspec",
+        b"  specification S [a] : exit\n                ^\n  it is `noexit` because of a `stop`\n  Declare it `noexit`, or end the behaviour with `exit`; a call has what its process declares.\n",
+    ),
 ];
 
 /// The lines that explain why a text is refused; none if it is accepted.
@@ -190,7 +275,7 @@ fn explained(alloc: Global, text: &[u8]) -> Vec<u8> {
         Err(fault) => explain_text_fault(alloc, text, &fault, &mut lines),
         Ok(tree) => {
             if let Err(fault) = check(alloc, tree) {
-                explain_check_fault(text, &fault, &mut lines);
+                explain_check_fault(alloc, text, &fault, &mut lines);
             }
         }
     }

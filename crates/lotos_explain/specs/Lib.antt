@@ -1,3 +1,5 @@
 pub mod LineBounds
 pub mod Descriptions
 pub mod ExpectedTokens
+pub mod SimilarNames
+pub mod FunctionalityCauses

@@ -3,16 +3,25 @@
 use crate::advice::{check_advice, text_advice};
 use crate::continuations::NAME;
 use crate::expectations::expected_tokens;
+use crate::functionality_causes::{Cause, Leaf, functionality_cause};
 use crate::line_bounds::line_of;
+use crate::similar_gates::close_gate;
+use crate::similar_processes::close_process;
 use crate::token_description::{Description, describe_token};
 use lotos_check::CheckFault;
-use lotos_text::{TEXT_LIMIT, TextFault, Token, TokenKind};
+use lotos_text::{
+    Functionality, Placed, TEXT_LIMIT, TextFault, Token, TokenKind, line_column, parse,
+};
 use std::alloc::{AllocError, Global};
 use std::fmt;
 use std::io::Write;
 
 /// The most bytes before a fault for which it is tried what could be there: each trial parses all of them.
 const EXPECTED_LIMIT: usize = 1 << 16;
+
+/// The most bytes of a text in which it is looked for what makes a functionality: each call is looked up among all
+/// visible processes.
+const CAUSE_LIMIT: usize = 1 << 16;
 
 /// The most bytes of a line that are shown before the place, and in all.
 const SHOWN_BEFORE: usize = 60;
@@ -36,12 +45,76 @@ pub fn explain_text_fault<E: Write>(alloc: Global, text: &[u8], fault: &TextFaul
     }
 }
 
-/// Explains a static rule that the specification of a text breaks: the line of its place, and what to do.
-pub fn explain_check_fault<E: Write>(text: &[u8], fault: &CheckFault, err: &mut E) {
+/// Explains a static rule that the specification of a text breaks: the line of its place, a name that could be meant
+/// where one is not declared, what makes a functionality that is not the declared one, and what to do.
+pub fn explain_check_fault<E: Write>(alloc: Global, text: &[u8], fault: &CheckFault, err: &mut E) {
     if let Some(at) = fault.at() {
         show_line(text, at, err);
     }
+    match fault {
+        CheckFault::E21(gate) => report_close_gate(alloc, text, gate, err),
+        CheckFault::E22(name) => report_close_process(alloc, text, name, err),
+        CheckFault::E25 { name, .. } => report_cause(alloc, text, name.at, err),
+        _ => {}
+    }
     let _ = writeln!(err, "  {}", check_advice(fault));
+}
+
+/// Writes the name of a gate that could be meant, if one is found.
+fn report_close_gate<E: Write>(alloc: Global, text: &[u8], gate: &Placed, err: &mut E) {
+    if let Ok(specification) = parse(alloc, text) {
+        let found = close_gate(alloc, &specification, gate.at, gate.name.text());
+        if let Ok(Some(name)) = found {
+            let _ = writeln!(err, "  a gate in scope has a similar name: {}", name.text());
+        }
+    }
+}
+
+/// Writes the name of a process that could be meant, if one is found.
+fn report_close_process<E: Write>(alloc: Global, text: &[u8], called: &Placed, err: &mut E) {
+    if let Ok(specification) = parse(alloc, text) {
+        let found = close_process(alloc, &specification, called.at, called.name.text());
+        if let Ok(Some(name)) = found {
+            let _ = writeln!(
+                err,
+                "  a process that is visible here has a similar name: {}",
+                name.text()
+            );
+        }
+    }
+}
+
+/// Writes what makes the functionality of the definition whose name has the offset, if it is found and the text is not
+/// too long.
+fn report_cause<E: Write>(alloc: Global, text: &[u8], at: usize, err: &mut E) {
+    if text.len() > CAUSE_LIMIT {
+        return;
+    }
+    if let Ok(specification) = parse(alloc, text) {
+        if let Ok(Some(cause)) = functionality_cause(alloc, &specification, at) {
+            write_cause(text, &cause, err);
+        }
+    }
+}
+
+fn write_cause<E: Write>(text: &[u8], cause: &Cause, err: &mut E) {
+    let functionality = match cause.functionality {
+        Functionality::Exit => "exit",
+        Functionality::NoExit => "noexit",
+    };
+    let _ = match cause.leaf {
+        Leaf::Stop => writeln!(err, "  it is `{functionality}` because of a `stop`"),
+        Leaf::Exit => writeln!(err, "  it is `{functionality}` because of an `exit`"),
+        Leaf::Call(called) if called.at <= text.len() => {
+            let (line, column) = line_column(text, called.at);
+            writeln!(
+                err,
+                "  it is `{functionality}` because of the call of {} at {line}:{column}",
+                called.name.text()
+            )
+        }
+        Leaf::Call(_) => Ok(()),
+    };
 }
 
 fn offset_of(fault: &TextFault) -> Option<usize> {

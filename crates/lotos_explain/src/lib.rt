@@ -1,18 +1,26 @@
 //! Explanations of refused specifications, for people.
 //!
 //! [`explain_text_fault`] and [`explain_check_fault`] write the line of the text with a mark under the place of the
-//! fault, what is there, which words and signs could be there, and what to do. What they say of the text is what
-//! [`line_of`], [`describe_token`] and [`expected_tokens`] return, whose contracts cite the definitions in `specs/`.
+//! fault, what is there, which words, signs and names could be there, and what to do. What they say of the text is what
+//! [`line_of`], [`describe_token`], [`expected_tokens`], [`close_gate`], [`close_process`] and [`functionality_cause`]
+//! return, whose contracts cite the definitions in `specs/`.
 #![tactic(auto)]
 
 mod advice;
 mod continuations;
 mod expectations;
 mod explanation;
+mod functionality_causes;
 mod line_bounds;
+mod similar_gates;
+mod similar_names;
+mod similar_processes;
 mod token_description;
 
 pub use expectations::expected_tokens;
 pub use explanation::{explain_check_fault, explain_text_fault};
+pub use functionality_causes::{Cause, Leaf, functionality_cause};
 pub use line_bounds::{LineBounds, line_of};
+pub use similar_gates::close_gate;
+pub use similar_processes::close_process;
 pub use token_description::{Description, describe_token};

@@ -117,7 +117,9 @@ fn report_rejection<E: Write>(
 fn explain<E: Write>(alloc: Global, text: &[u8], ended: &Ended, err: &mut E) {
     match ended {
         Ended::Refused(Refusal::Text { fault, .. }) => explain_text_fault(alloc, text, fault, err),
-        Ended::Refused(Refusal::Check { fault, .. }) => explain_check_fault(text, fault, err),
+        Ended::Refused(Refusal::Check { fault, .. }) => explain_check_fault(
+            alloc, text, fault, err,
+        ),
         _ => {}
     }
 }

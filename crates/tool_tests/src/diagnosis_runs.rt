@@ -62,16 +62,28 @@ const MISTAKES: &[(&str, &[u8], &[u8], &[u8])] = &[
         b"  behaviour b; stop\n            ^\n  Correct the name, or add the gate to the definition and to its calls: a process sees its own gates alone.\n",
     ),
     (
+        "a misspelt gate",
+        b"specification S [send] : noexit\nbehaviour sned; stop\nendspec",
+        b"lotosseq: 2:11: E21 gate SNED is not declared\n",
+        b"  behaviour sned; stop\n            ^\n  a gate in scope has a similar name: SEND\n  Correct the name, or add the gate to the definition and to its calls: a process sees its own gates alone.\n",
+    ),
+    (
         "a process that is not declared",
         b"specification S [a] : noexit\nbehaviour Q[a]\nendspec",
         b"lotosseq: 2:11: E22 process Q is not declared\n",
         b"  behaviour Q[a]\n            ^\n  Correct the name, or define the process in a `where` around the call; if it is a gate, put `;` after it.\n",
     ),
     (
+        "a misspelt process",
+        b"specification S [a] : noexit\nbehaviour Sendr[a]\nwhere process Sender [x] : noexit := x; stop endproc\nendspec",
+        b"lotosseq: 2:11: E22 process SENDR is not declared\n",
+        b"  behaviour Sendr[a]\n            ^\n  a process that is visible here has a similar name: SENDER\n  Correct the name, or define the process in a `where` around the call; if it is a gate, put `;` after it.\n",
+    ),
+    (
         "another functionality than the declared one",
         b"specification S [a] : exit\nbehaviour a; stop\nendspec",
         b"lotosseq: 1:15: E25 S is declared exit and is noexit\n",
-        b"  specification S [a] : exit\n                ^\n  Declare it `noexit`, or end the behaviour with `exit`; a call has what its process declares.\n",
+        b"  specification S [a] : exit\n                ^\n  it is `noexit` because of a `stop`\n  Declare it `noexit`, or end the behaviour with `exit`; a call has what its process declares.\n",
     ),
     (
         "a process that calls itself at once",

@@ -1,0 +1,176 @@
+-- Definitions with their scopes, and the names that a scope binds.
+use Rattle.std.specs.Prelude.{◌≡◌, ◌⊎◌, ℕ, ◌<◌, ◌+◌, List, [], ◌∷◌, ◌++◌, length, get_or, drop, true, false, Bool, Option, IfSome, option_map}
+use Rattle.std.specs.Str.{bytes_eq}
+use Rattle.std.proofs.Common.{zero, suc, inl, inr, refl, sym, subst, arith, ap, drop-cons, add-one, ◌∙◌}
+use Rattle.std.proofs.lemmas.Slice.Eq.{bytes_eq-Decides}
+use Rattle.lotos_text.specs.AstView.{DefinitionView, DefinitionListView, def, no_defs, more_defs, name_of, formals_of, body_of, inner_of}
+use Rattle.lotos_text.specs.AstOf.{definition_view, definitions_view}
+use Rattle.lotos_text.specs.declared.ast.Definition.{Definition, out-Definition}
+use Rattle.lotos_check.specs.NameLists.{Name, In, texts}
+use Rattle.lotos_check.specs.Scope.{Scope, ScopedDefinition, Declares, here, later, nearest, outward, count, within, declared_names, definitions_in_scope, definition_in_scope}
+use Rattle.lotos_explain.specs.SimilarNames.{IsFrom, IsBound, IsInScopeAt, IsInScopeInAny, IsGateInScopeAt, CallsAt, IsBoundInAny, IsProcessVisibleAt}
+use Rattle.lotos_explain.proofs.DefinitionParts.{name_shown}
+use Rattle.lotos_explain.proofs.SimilarNames.{some_weaker, of_some}
+
+-- definitions are listed as the first with its inner ones, and then the others
+listed_more : (scope : Scope) (first : ℕ) (d : DefinitionView) (ds : DefinitionListView) →
+    definitions_in_scope scope first (more_defs d ds) ≡ definition_in_scope scope (first + 1) d ++ definitions_in_scope scope (first + 1 + count (inner_of d)) ds
+listed_more scope first (def name formals declared body inner) ds = refl
+
+in_left : {X : Type 0} (x : X) (these those : List X) → In x these → In x (these ++ those)
+in_left x [] those h = absurd h
+in_left x (y ∷ these) those (inl e) = inl e
+in_left x (y ∷ these) those (inr h) = inr (in_left x these those h)
+
+in_right : {X : Type 0} (x : X) (these those : List X) → In x those → In x (these ++ those)
+in_right x [] those h = h
+in_right x (y ∷ these) those h = inr (in_right x these those h)
+
+-- the definitions of the rest, numbered from some number on, are among those of the whole
+abbrev pub Continues : Scope → ℕ → DefinitionListView → DefinitionListView → Type 0
+Continues scope first all rest =
+    (k : ℕ) × ((v : ScopedDefinition) → In v (definitions_in_scope scope k rest) → In v (definitions_in_scope scope first all))
+
+pub continues_all : (scope : Scope) (first : ℕ) (all rest : DefinitionListView) → rest ≡ all → Continues scope first all rest
+continues_all scope first all rest e = (first, λ v h. subst (λ ds. In v (definitions_in_scope scope first ds)) e h)
+
+module _ (items : List Definition) (index : ℕ) (item : Definition) (below : index < length items) (is : item ≡ get_or items index item) where
+  pub rest_at : definitions_view (drop index items) ≡ more_defs (definition_view item) (definitions_view (drop (index + 1) items))
+  rest_at =
+      let left : drop index items ≡ item ∷ drop (index + 1) items =
+      rw (drop-cons items index item below, add-one) (ap (λ x. x ∷ drop (suc index) items) (sym is)) in
+      ap definitions_view left
+
+  module _ (scope : Scope) (first : ℕ) (all : DefinitionListView) (h : Continues scope first all (definitions_view (drop index items))) where
+    pub continues_next : Continues scope first all (definitions_view (drop (index + 1) items))
+    continues_next =
+        let one = definition_view item in
+        let rest = definitions_view (drop (index + 1) items) in
+        let (k, f) = h in (
+          k + 1 + count (inner_of one),
+          λ v i. f v (rw (rest_at, listed_more scope k one rest)
+              (in_right v (definition_in_scope scope (k + 1) one) (definitions_in_scope scope (k + 1 + count (inner_of one)) rest) i)),
+        )
+
+    pub continues_here : (k : ℕ) × ((v : ScopedDefinition) → In v (definition_in_scope scope k (definition_view item)) →
+        In v (definitions_in_scope scope first all))
+    continues_here =
+        let one = definition_view item in
+        let rest = definitions_view (drop (index + 1) items) in
+        let (k, f) = h in (
+          k + 1,
+          λ v i. f v (rw (rest_at, listed_more scope k one rest)
+              (in_left v (definition_in_scope scope (k + 1) one) (definitions_in_scope scope (k + 1 + count (inner_of one)) rest) i)),
+        )
+
+-- what is in scope in the body of a definition, or of one inside it
+pub gate_here : (scope : Scope) (first : ℕ) (d : DefinitionView) (at : ℕ) (n : Name) →
+    IsInScopeAt (texts (formals_of d)) (body_of d) at n → IsInScopeInAny (definition_in_scope scope first d) at n
+gate_here scope first d at n h = record { scoped = record { scope = within d first scope; definition = d }; located = inl refl; inside = h }
+
+pub gate_inside : (scope : Scope) (first k : ℕ) (d one : DefinitionView) (at : ℕ) (n : Name) →
+    ((v : ScopedDefinition) → In v (definition_in_scope (within d first scope) k one) → In v (definitions_in_scope (within d first scope) first (inner_of d))) →
+    IsInScopeInAny (definition_in_scope (within d first scope) k one) at n → IsInScopeInAny (definition_in_scope scope first d) at n
+gate_inside scope first k d one at n f h = record { scoped = h.scoped; located = inr (f h.scoped h.located); inside = h.inside }
+
+pub process_here : (scope : Scope) (first : ℕ) (d : DefinitionView) (at : ℕ) (n : Name) →
+    CallsAt (texts (formals_of d)) (body_of d) at → IsBound (within d first scope) n → IsBoundInAny (definition_in_scope scope first d) at n
+process_here scope first d at n h b = record {
+  scoped = record { scope = within d first scope; definition = d };
+  located = inl refl;
+  calls = h;
+  visible = b;
+}
+
+pub process_inside : (scope : Scope) (first k : ℕ) (d one : DefinitionView) (at : ℕ) (n : Name) →
+    ((v : ScopedDefinition) → In v (definition_in_scope (within d first scope) k one) → In v (definitions_in_scope (within d first scope) first (inner_of d))) →
+    IsBoundInAny (definition_in_scope (within d first scope) k one) at n → IsBoundInAny (definition_in_scope scope first d) at n
+process_inside scope first k d one at n f h =
+    record { scoped = h.scoped; located = inr (f h.scoped h.located); calls = h.calls; visible = h.visible }
+
+-- the name of a definition of a list is declared
+pub declared_item : (items : List Definition) (i : ℕ) (item : Definition) → i < length items → item ≡ get_or items i item →
+    In (out-Definition item).name.name (texts (declared_names (definitions_view items)))
+declared_item [] i item below is = absurd (omega (arith, below))
+declared_item (d ∷ ds) zero item below is = inl (subst (λ x. (name_of (definition_view d)).name ≡ x.name) (sym (name_shown item)) (ap (λ x. (name_of (definition_view x)).name) (sym is)))
+declared_item (d ∷ ds) (suc i) item below is = inr (declared_item ds i item (omega (arith, below)) is)
+
+-- a name that is declared has a definition
+declares_some : (ds : DefinitionListView) (first : ℕ) (n : Name) → In n (texts (declared_names ds)) → (k : ℕ) × (d : DefinitionView) × Declares ds first n k d
+declares_some no_defs first n i = absurd i
+declares_some (more_defs d ds) first n (inl e) = (first, d, subst (λ m. Declares (more_defs d ds) first m first d) e here)
+declares_some (more_defs d ds) first n (inr i) = let (k, e, h) = declares_some ds (first + 1 + count (inner_of d)) n i in (k, e, later h)
+
+declared_in : (ds : DefinitionListView) (k : ℕ) (n : Name) (j : ℕ) (e : DefinitionView) → Declares ds k n j e → In n (texts (declared_names ds))
+declared_in no_defs k n j e declares = elim declares [ ]
+declared_in (more_defs d ds) k n j e here = inl refl
+declared_in (more_defs d ds) k n j e (later rest) = inr (declared_in ds (k + 1 + count (inner_of d)) n j e rest)
+
+-- a name is in a list, or is not
+in_or_not : (n : Name) (ms : List Name) → In n ms ⊎ (In n ms → ⊥)
+in_or_not n [] = inr (λ i. i)
+in_or_not n (m ∷ ms) =
+    let others = in_or_not n ms in
+    let by = (λ (b : Bool) (h : bytes_eq m n ≡ b). elim b as (λ b. bytes_eq m n ≡ b → In n (m ∷ ms) ⊎ (In n (m ∷ ms) → ⊥)) [
+      | true ↦ λ h. inl (inl ((bytes_eq-Decides m n).0 h))
+      | false ↦ λ h. elim others [
+        | inl i ↦ inl (inr i)
+        | inr out ↦ inr (λ x. elim x [
+          | inl e ↦ let t = (bytes_eq-Decides m n).1 e in let f : true ≡ false = sym t ∙ h in cc
+          | inr i ↦ out i
+        ])
+      ]
+    ] h) in
+    by (bytes_eq m n) refl
+
+-- a name that the nearest `where` declares is bound
+pub bound_nearest : (ds : DefinitionListView) (first : ℕ) (scope : Scope) (n : Name) → In n (texts (declared_names ds)) →
+    IsBound (record { defs = ds; first = first } ∷ scope) n
+bound_nearest ds first scope n i =
+    let (k, d, h) = declares_some ds first n i in
+    record { process = k; definition = d; means = nearest h }
+
+-- a name that is bound around a `where` is bound inside it
+pub bound_outward : (ds : DefinitionListView) (first : ℕ) (scope : Scope) (n : Name) → IsBound scope n → IsBound (record { defs = ds; first = first } ∷ scope) n
+bound_outward ds first scope n b =
+    elim (in_or_not n (texts (declared_names ds))) [
+      | inl i ↦ bound_nearest ds first scope n i
+      | inr out ↦ record {
+        process = b.process;
+        definition = b.definition;
+        means = outward (λ j e h. out (declared_in ds first n j e h)) b.means;
+      }
+    ]
+
+-- a name that is bound around a definition, or that its own `where` declares, is bound inside it
+pub bound_inside : {A : Type 0} (now : A → Name) (best found : Option A) (d : DefinitionView) (ds : DefinitionListView) (first : ℕ) (scope : Scope) →
+    ds ≡ inner_of d → IfSome best (λ n. IsBound scope (now n)) →
+    IfSome found (λ n. IsFrom (option_map now best) (texts (declared_names ds)) (now n)) →
+    IfSome found (λ n. IsBound (within d first scope) (now n))
+bound_inside now best found d ds first scope same outer more =
+    some_weaker found (λ n h. elim h [
+      | inl e ↦ bound_outward (inner_of d) first scope (now n) (of_some now (IsBound scope) best (now n) e outer)
+      | inr i ↦ bound_nearest (inner_of d) first scope (now n) (subst (λ x. In (now n) (texts (declared_names x))) same i)
+    ]) more
+
+-- what is found in the whole specification
+pub gate_in_whole : (whole : DefinitionView) (at : ℕ) (n : Name) → IsInScopeInAny (definition_in_scope [] 0 whole) at n → IsGateInScopeAt whole at n
+gate_in_whole whole at n h = record {
+  scope = h.scoped.scope;
+  in_scope = h.inside.there;
+  part = h.inside.part;
+  occurs = record { definition = h.scoped.definition; located = h.located; inside = h.inside.inside };
+  uses = h.inside.uses;
+  visible = h.inside.visible;
+}
+
+pub process_in_whole : (whole : DefinitionView) (at : ℕ) (n : Name) → IsBoundInAny (definition_in_scope [] 0 whole) at n → IsProcessVisibleAt whole at n
+process_in_whole whole at n h = record {
+  scope = h.scoped.scope;
+  in_scope = h.calls.there;
+  called = h.calls.called;
+  actuals = h.calls.actuals;
+  occurs = record { definition = h.scoped.definition; located = h.located; inside = h.calls.inside };
+  offset = h.calls.offset;
+  visible = h.visible;
+}

@@ -1,0 +1,78 @@
+-- Names that could be meant where a name that is not declared occurs.
+use Rattle.std.specs.Prelude.{◌≡◌, ◌⊎◌, ℕ, List, Option, Some}
+use Rattle.lotos_text.specs.AstView.{BehaviourView, DefinitionView, call, body_of, formals_of}
+use Rattle.lotos_text.specs.declared.ast.Placed.{Placed}
+use Rattle.lotos_check.specs.NameLists.{Name, In, texts}
+use Rattle.lotos_check.specs.Scope.{Scope, ScopedDefinition, Binds}
+use Rattle.lotos_check.specs.StaticFaults.{Occurs}
+use Rattle.lotos_check.specs.Subexpressions.{IsSubexpression, UsesGate}
+
+-- the name is this one, if there is one, or in the list
+abbrev pub IsFrom : Option Name → List Name → Name → Type 0
+IsFrom best names n = (best ≡ Some n) ⊎ In n names
+
+-- one of the gates has this offset
+pub record IsAmongAt (gates : List Placed) (at : ℕ) : Type 0 where
+  pub gate : Placed
+  pub located : In gate gates
+  pub offset : gate.at ≡ at
+
+-- the behaviour itself uses a gate whose offset this is
+pub record UsesGateAt (part : BehaviourView) (at : ℕ) : Type 0 where
+  pub gate : Placed
+  pub uses : UsesGate part gate
+  pub offset : gate.at ≡ at
+
+-- with these gates in scope around the body, the name is in scope at a part of it that uses a gate with this offset
+pub record IsInScopeAt (around : List Name) (body : BehaviourView) (at : ℕ) (n : Name) : Type 0 where
+  pub there : List Name
+  pub part : BehaviourView
+  pub inside : IsSubexpression around body there part
+  pub uses : UsesGateAt part at
+  pub visible : In n there
+
+-- the name is in scope where the body of one of these uses a gate with this offset
+pub record IsInScopeInAny (definitions : List ScopedDefinition) (at : ℕ) (n : Name) : Type 0 where
+  pub scoped : ScopedDefinition
+  pub located : In scoped definitions
+  pub inside : IsInScopeAt (texts (formals_of scoped.definition)) (body_of scoped.definition) at n
+
+-- the gate is in scope at a part that uses a gate with this offset
+pub record IsGateInScopeAt (whole : DefinitionView) (at : ℕ) (n : Name) : Type 0 where
+  pub scope : Scope
+  pub in_scope : List Name
+  pub part : BehaviourView
+  pub occurs : Occurs whole scope in_scope part
+  pub uses : UsesGateAt part at
+  pub visible : In n in_scope
+
+-- a process with this name is visible
+pub record IsBound (scope : Scope) (n : Name) : Type 0 where
+  pub process : ℕ
+  pub definition : DefinitionView
+  pub means : Binds scope n process definition
+
+-- the behaviour contains a call whose name has this offset
+pub record CallsAt (around : List Name) (body : BehaviourView) (at : ℕ) : Type 0 where
+  pub there : List Name
+  pub called : Placed
+  pub actuals : List Placed
+  pub inside : IsSubexpression around body there (call called actuals)
+  pub offset : called.at ≡ at
+
+-- the name is bound where the body of one of these has a call whose name has this offset
+pub record IsBoundInAny (definitions : List ScopedDefinition) (at : ℕ) (n : Name) : Type 0 where
+  pub scoped : ScopedDefinition
+  pub located : In scoped definitions
+  pub calls : CallsAt (texts (formals_of scoped.definition)) (body_of scoped.definition) at
+  pub visible : IsBound scoped.scope n
+
+-- the process is visible at a call whose name has this offset
+pub record IsProcessVisibleAt (whole : DefinitionView) (at : ℕ) (n : Name) : Type 0 where
+  pub scope : Scope
+  pub in_scope : List Name
+  pub called : Placed
+  pub actuals : List Placed
+  pub occurs : Occurs whole scope in_scope (call called actuals)
+  pub offset : called.at ≡ at
+  pub visible : IsBound scope n

@@ -1,0 +1,85 @@
+//! The most similar of several names.
+ghost use Rattle.std.specs.Prelude.{◌≡◌, ◌∷◌, [], IfOk, IfSome, option_map};
+ghost use Rattle.lotos_text.specs.AstOf.{definitions_view};
+ghost use Rattle.lotos_check.specs.NameLists.{texts};
+ghost use Rattle.lotos_check.specs.Scope.{declared_names};
+ghost use Rattle.lotos_explain.specs.SimilarNames.{IsFrom};
+
+use lotos_text::{Definition, Name, Placed};
+use std::alloc::{AllocError, Global};
+use strsim::levenshtein;
+
+/// The most edits of one byte that lead from a name to a similar one. They are also fewer than its bytes.
+const MOST_EDITS: usize = 2;
+
+/// The most bytes of a name for which a similar one is looked for.
+const LONGEST: usize = 64;
+
+/// Of `best` and the gates, the one that is most similar to the name; of equally similar ones the first. All are similar
+/// enough, `best` included.
+pub(crate) fn similar_gate<'a>(
+    alloc: Global,
+    name: &str,
+    best: Option<&'a Name>,
+    gates: &'a [Placed],
+) -> Result<Option<&'a Name>, AllocError>
+    ensures { IfOk result (λ found. IfSome found
+        (λ n. IsFrom (option_map (λ m. m.now) best.entry) (texts gates.now) n.now)) }
+{
+    let mut closest = best;
+    for gate in gates {
+        closest = more_similar(alloc, name, closest, &gate.name)?;
+    }
+    Ok(closest)
+}
+
+/// Of `best` and the names of the definitions, the one that is most similar to the name; of equally similar ones the
+/// first. All are similar enough, `best` included.
+pub(crate) fn similar_process<'a>(
+    alloc: Global,
+    name: &str,
+    best: Option<&'a Name>,
+    definitions: &'a [Definition],
+) -> Result<Option<&'a Name>, AllocError>
+    ensures { IfOk result (λ found. IfSome found
+        (λ n. IsFrom (option_map (λ m. m.now) best.entry)
+        (texts (declared_names (definitions_view definitions.now))) n.now)) }
+{
+    let mut closest = best;
+    for definition in definitions {
+        closest = more_similar(alloc, name, closest, &definition.name.name)?;
+    }
+    Ok(closest)
+}
+
+/// The other name if it is similar to the name, and more than `best` if there is one; else `best`.
+fn more_similar<'a>(
+    alloc: Global,
+    name: &str,
+    best: Option<&'a Name>,
+    other: &'a Name,
+) -> Result<Option<&'a Name>, AllocError>
+    ensures { IfOk result (λ found. IfSome found
+        (λ n. IsFrom (option_map (λ m. m.now) best.entry) (other.now ∷ []) n.now)) }
+{
+    let edits = edits_to(alloc, name, other)?;
+    let bound = match best {
+        Some(best) => edits_to(alloc, name, best)?,
+        None => (MOST_EDITS + 1).min(name.len()),
+    };
+    if edits < bound {
+        Ok(Some(other))
+    } else {
+        Ok(best)
+    }
+}
+
+/// The number of edits of one byte that lead from one name to the other; the largest number if it is too large, or if
+/// the name is too long.
+fn edits_to(alloc: Global, name: &str, other: &Name) -> Result<usize, AllocError> {
+    let text = other.text();
+    if name.len() > LONGEST || name.len().abs_diff(text.len()) > MOST_EDITS {
+        return Ok(usize::MAX);
+    }
+    levenshtein(alloc, name, text)
+}
