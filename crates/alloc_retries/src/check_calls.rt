@@ -1,13 +1,13 @@
 //! Texts of specifications: their ASTs, their systems, and the steps and the normal forms of their terms.
 
 use crate::ast_lines::write_definition;
-use crate::front_end::{checked, parsed, table_of_system};
+use crate::front_end::{accepted, parsed, table_of};
 use crate::lines::Line;
 use crate::retry_heap::{Heap, Stop};
 use crate::system_lines::{write_fault, write_system};
 use crate::table_calls::Explored;
-use lotos_check::Checked;
-use lotos_text::{Name, Specification};
+use lotos_check::{AcceptFault, Checked};
+use lotos_text::{Definition, Name};
 use std::alloc::AllocError;
 
 const ROWS: &[&str] = &[
@@ -32,34 +32,54 @@ process Q [x,y] : exit := x; exit [] y; exit endproc endspec",
 
 pub fn rows(rt: &impl Print, heap: &mut Heap) -> Result<(), Stop> {
     for text in ROWS {
-        match parsed(heap, text) {
-            Ok(tree) => accept(rt, heap, tree, text)?,
-            Err(fault) => println!(rt; "tree: {fault:?}")?,
+        write_tree(rt, heap, text)?;
+        if write_answer(rt, heap, text)? {
+            follow(rt, heap, text)?;
         }
     }
     Ok(())
 }
 
-/// Writes an AST, and the result of its check.
-fn accept(rt: &impl Print, heap: &mut Heap, tree: Specification, text: &str) -> Result<(), Stop> {
-    let mut line = Line::new();
-    write_definition(&mut line, &tree.whole)?;
-    println!(rt; "tree: {line}")?;
-    let name = copied(heap, &tree.whole.name.name)?;
-    let name = name.text();
-    println!(rt; "copy: {name}")?;
-    let mut line = Line::new();
-    match checked(heap, tree, text)? {
-        Ok(system) => {
-            write_system(&mut line, &system)?;
-            println!(rt; "system:{line}")?;
-            follow(rt, heap, system, text)
-        }
-        Err(fault) => {
-            write_fault(&mut line, &fault)?;
-            Ok(println!(rt; "system:{line}")?)
-        }
+/// Writes the AST of a text, or why there is none.
+fn write_tree(rt: &impl Print, heap: &mut Heap, text: &str) -> Result<(), Stop> {
+    match parsed(heap, text) {
+        Ok(tree) => write_ast(rt, heap, &tree.whole),
+        Err(fault) => Ok(println!(rt; "tree: {fault:?}")?),
     }
+}
+
+fn write_ast(rt: &impl Print, heap: &mut Heap, whole: &Definition) -> Result<(), Stop> {
+    let mut line = Line::new();
+    write_definition(&mut line, whole)?;
+    println!(rt; "tree: {line}")?;
+    let name = copied(heap, &whole.name.name)?;
+    let name = name.text();
+    Ok(println!(rt; "copy: {name}")?)
+}
+
+/// Writes the system of a text that spells a specification, or the static rule that it breaks. Returns whether it is
+/// accepted.
+fn write_answer(rt: &impl Print, heap: &mut Heap, text: &str) -> Result<bool, Stop> {
+    match accepted(heap, text) {
+        Ok(system) => {
+            write_accepted(rt, &system)?;
+            Ok(true)
+        }
+        Err(AcceptFault::Text(_)) => Ok(false),
+        Err(AcceptFault::Check(fault)) => {
+            let mut line = Line::new();
+            write_fault(&mut line, &fault)?;
+            println!(rt; "system:{line}")?;
+            Ok(false)
+        }
+        Err(AcceptFault::Memory) => Err(Stop::Memory),
+    }
+}
+
+fn write_accepted(rt: &impl Print, system: &Checked) -> Result<(), Stop> {
+    let mut line = Line::new();
+    write_system(&mut line, system)?;
+    Ok(println!(rt; "system:{line}")?)
 }
 
 fn copied(heap: &mut Heap, name: &Name) -> Result<Name, AllocError> {
@@ -73,8 +93,8 @@ fn copied(heap: &mut Heap, name: &Name) -> Result<Name, AllocError> {
 }
 
 /// Writes the steps of the first terms of a system, then the same once more, and then the normal forms.
-fn follow(rt: &impl Print, heap: &mut Heap, system: Checked, text: &str) -> Result<(), Stop> {
-    let table = table_of_system(heap, system, text)?;
+fn follow(rt: &impl Print, heap: &mut Heap, text: &str) -> Result<(), Stop> {
+    let table = table_of(heap, text)?;
     let mut explored = Explored::new(heap, table)?;
     for what in ["steps", "again"] {
         let mut line = Line::new();

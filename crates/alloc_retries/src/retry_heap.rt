@@ -1,9 +1,8 @@
 //! The heap with its count of failed calls, and why the program stops.
 
-use lotos_check::CheckFault;
+use lotos_check::AcceptFault;
 use lotos_pattern::PatternFault;
 use lotos_search::MarkFault;
-use lotos_text::TextFault;
 use std::alloc::{AllocError, AllocFailed, Global};
 use std::{fmt, io};
 
@@ -66,15 +65,12 @@ impl From<io::Error> for Stop {
     }
 }
 
-impl From<TextFault> for Stop {
-    fn from(_fault: TextFault) -> Stop {
-        Stop::Row
-    }
-}
-
-impl From<CheckFault> for Stop {
-    fn from(_fault: CheckFault) -> Stop {
-        Stop::Row
+impl From<AcceptFault> for Stop {
+    fn from(fault: AcceptFault) -> Stop {
+        match fault {
+            AcceptFault::Text(_) | AcceptFault::Check(_) => Stop::Row,
+            AcceptFault::Memory => Stop::Memory,
+        }
     }
 }
 

@@ -102,15 +102,37 @@ pub fn rows(rt: &impl Print, heap: &mut Heap) -> Result<(), Stop> {
 fn list(heap: &mut Heap, question: &Question, line: &mut Line) -> Result<(), Stop> {
     let mut last = Line::new();
     put(&mut last, question.after)?;
-    let mut search = begin(heap, question, last.as_str())?;
     for _ in 0..MOST_CALLS {
-        match advance(&mut search, line, &mut last)? {
+        if list_part(heap, question, line, &mut last)? {
+            return Ok(());
+        }
+        heap.count_failure();
+    }
+    Err(Stop::Row)
+}
+
+/// Writes the items after the last one, which is stored, until the listing ends or memory runs out. Returns whether it
+/// ended.
+fn list_part(
+    heap: &mut Heap,
+    question: &Question,
+    line: &mut Line,
+    last: &mut Line,
+) -> Result<bool, Stop> {
+    let mut search = begin(heap, question, last.as_str())?;
+    write_items(&mut search, line, last)
+}
+
+/// Writes the items of a search, and stores the last one, until the listing ends or memory runs out. Returns whether it
+/// ended.
+fn write_items(search: &mut Search, line: &mut Line, last: &mut Line) -> Result<bool, Stop> {
+    for _ in 0..MOST_CALLS {
+        match advance(search, line, last)? {
             NextResult::Item => {}
-            NextResult::End => return Ok(()),
+            NextResult::End => return Ok(true),
             NextResult::Refusal => {
-                heap.count_failure();
-                fail(&mut search)?;
-                search = begin(heap, question, last.as_str())?;
+                fail(search)?;
+                return Ok(false);
             }
         }
     }

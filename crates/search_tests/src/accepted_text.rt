@@ -1,7 +1,6 @@
 //! Tables of specifications that are accepted.
-use lotos_check::{Checked, check};
+use lotos_check::{Checked, accept};
 use lotos_terms::Table;
-use lotos_text::parse;
 use std::alloc::{AllocError, Global};
 use std::test::Fail;
 
@@ -15,7 +14,7 @@ pub fn joined(alloc: Global, parts: &[&str]) -> Result<String, AllocError> {
 }
 
 fn checked(alloc: Global, text: &str) -> Result<Checked, Fail> {
-    Ok(check(alloc, parse(alloc, text.as_bytes())?)?)
+    Ok(accept(alloc, text.as_bytes())?)
 }
 
 /// The table of a text.
