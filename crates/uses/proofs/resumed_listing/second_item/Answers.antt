@@ -20,6 +20,13 @@ returns-in_err-second-in-Some-clause-stopped c =
     rw (p.1, p.2) (second_stops a.table a.pattern a.depth a.terms c.in_ok-search.search c.next.new.self c.in-Some.field-0 c.in_err-second-in-Some.field-0.0 first c.next.ensures.same
     c.in_err-second-in-Some.ensures.next_returns)
 
+pub returns-clause-stopped : goal.returns-clause-stopped
+returns-clause-stopped c =
+    elim c.match-first.branch [
+      | in-Some+in_ok-second-in-Some w ↦ rw w.result-is tt
+      | in-None w ↦ rw w.result-is tt
+    ]
+
 pub returns-clause-found : goal.returns-clause-found
 returns-clause-found c =
     let a = c.args in
