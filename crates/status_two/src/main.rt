@@ -1,4 +1,5 @@
-//! The program `lotosseq` with another stored run, which ends with status 2: the text is refused, and nothing is written.
+//! The program `lotosseq` with another stored run, which ends with status 2: its 400 words are more than a pattern may
+//! have, and nothing is written.
 #![tactic(auto)]
 
 use lotos_tool::{FromRead, FromWrite, run_args_with_terminal};
