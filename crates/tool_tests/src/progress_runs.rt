@@ -276,7 +276,9 @@ fn observe(alloc: Global, words: &[&str]) -> Result<Counter, AllocError> {
         Ok(Request::Ever(question)) => {
             let _ = ever_observed(alloc, &question, &mut counter)?;
         }
-        _ => {}
+        Ok(Request::Check) => {}
+        Ok(Request::Diagnose(_asked)) => {}
+        Err(_fault) => {}
     }
     Ok(counter)
 }
