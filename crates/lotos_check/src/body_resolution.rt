@@ -27,7 +27,8 @@ pub(crate) fn resolve_bodies<'a>(
     requires { first + count (inner_of (definition_view definition.now)) < 2 ^ 63 }
     ensures stack { OnOk result (scopes.new.items ≡ scopes.old.items) }
     ensures adds { OnOk result ((scope : Scope) → IsScopeStack (λ k. k.now) scopes.old.items scope →
-        AddsBodies (definition_in_scope scope first (definition_view definition.now)) into.old.items into.new.items) }
+        AddsBodies (definition_in_scope scope first (definition_view definition.now))
+        into.old.items into.new.items) }
     ensures name_fault { IfErr result (λ fault. (scope : Scope) →
         IsScopeStack (λ k. k.now) scopes.old.items scope →
         IsNameFaultIn (definition_in_scope scope first (definition_view definition.now)) fault) }

@@ -77,7 +77,8 @@ pub(crate) fn flatten(
     requires some { 0 < length found.items }
     requires sized { length definitions.now ≡ length found.items }
     ensures { IfOk result
-        (λ p. IsFlattened (map (λ d. definition_view d.now) definitions.now) found.items p.0.value p.1.items) }
+        (λ p. IsFlattened (map (λ d. definition_view d.now) definitions.now) found.items
+        p.0.value p.1.items) }
 {
     let mut start = box_code(alloc, Code::Stop)?;
     let mut processes = Vec::new(alloc);

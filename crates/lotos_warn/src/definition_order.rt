@@ -12,7 +12,8 @@ pub(crate) fn add_definitions<'a>(
     into: &mut Vec<&'a Definition>,
 ) -> Result<(), AllocError>
     ensures { OnOk result (map (λ d. definition_view d.now) into.new.items
-        ≡ map (λ d. definition_view d.now) into.old.items ++ definitions_in (definition_view definition.now)) }
+        ≡ map (λ d. definition_view d.now) into.old.items ++
+        definitions_in (definition_view definition.now)) }
 {
     into.push(definition)?;
     for inner in &definition.inner {

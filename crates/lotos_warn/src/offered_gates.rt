@@ -68,7 +68,8 @@ fn check_list(
     found: &mut Vec<Warning>,
 ) -> Result<(), AllocError>
     ensures { OnOk result (Adds found.old.items found.new.items
-        (IsMissing (map (λ k. k.now) by_left.now.keys) (map (λ k. k.now) by_right.now.keys) (sync_view sync.now))) }
+        (IsMissing (map (λ k. k.now) by_left.now.keys) (map (λ k. k.now) by_right.now.keys)
+        (sync_view sync.now))) }
 {
     match sync {
         SyncSet::All => Ok(()),
