@@ -1,19 +1,15 @@
 //! First matches.
-ghost use Rattle.std.specs.Prelude.{◌≡◌, IfOk, Some};
-ghost use Rattle.lotos_check.specs.NameLists.{In};
-ghost use Rattle.lotos_terms.specs.TableView.{IsLabel};
-ghost use Rattle.lotos_terms.specs.declared.label.Label.{Label as TermLabel};
-ghost use Rattle.lotos_ever.specs.declared.found.Found.{Found as FoundMatch};
+ghost use Rattle.std.specs.Prelude.{IfOk};
+ghost use Rattle.lotos_terms.specs.TableView.{AreLabels};
+ghost use Rattle.lotos_ever.specs.MatchQuestions.{HasLabels};
 
 use crate::front_end::table_of;
 use crate::lines::{Line, put, put_blank, put_number};
 use crate::pattern_calls::pattern_of;
 use crate::retry_heap::{Heap, Stop};
-use lotos_ever::laws::printed_labels_are_labels;
 use lotos_ever::{Found, Halt, find_shortest_match};
 use lotos_pattern::Pattern;
 use lotos_terms::{Label, Table};
-use std::alloc::Global;
 
 /// What a match is searched for.
 struct Question {
@@ -100,38 +96,21 @@ fn find_match(
     pattern: &Pattern,
     states: usize,
 ) -> Result<Option<Found>, Halt>
-    ensures { IfOk result (λ o. (found : FoundMatch) → o ≡ Some found →
-        ((k : TermLabel) → In k found.sequence.items → IsLabel table.new k) ×
-        ((k : TermLabel) → In k found.word.items → IsLabel table.new k)) }
+    ensures { IfOk result (HasLabels table.new) }
 {
-    match find_match_once(heap.alloc, table, pattern, states) {
+    match find_shortest_match(heap.alloc, table, pattern, states) {
         Err(Halt::Memory) => {
             heap.count_failure();
-            find_match_once(heap.alloc, table, pattern, states)
+            find_shortest_match(heap.alloc, table, pattern, states)
         }
         answer => answer,
     }
 }
 
-/// The first of the shortest matches. Its labels are labels of the table.
-fn find_match_once(
-    alloc: Global,
-    table: &mut Table,
-    pattern: &Pattern,
-    states: usize,
-) -> Result<Option<Found>, Halt>
-    ensures { IfOk result (λ o. (found : FoundMatch) → o ≡ Some found →
-        ((k : TermLabel) → In k found.sequence.items → IsLabel table.new k) ×
-        ((k : TermLabel) → In k found.word.items → IsLabel table.new k)) }
-{
-    printed_labels_are_labels();
-    find_shortest_match(alloc, table, pattern, states)
-}
-
 /// Writes the observed sequence and the run of a match.
 fn write_match(line: &mut Line, table: &Table, found: &Found) -> Result<(), Stop>
-    requires sequence { (k : TermLabel) → In k found.now.sequence.items → IsLabel table.now k }
-    requires word { (k : TermLabel) → In k found.now.word.items → IsLabel table.now k }
+    requires sequence { AreLabels table.now found.now.sequence.items }
+    requires word { AreLabels table.now found.now.word.items }
 {
     spell(line, table, found.sequence.as_slice())?;
     put(line, " : ")?;
@@ -147,7 +126,7 @@ fn write_bound(line: &mut Line, states: usize) -> Result<(), Stop> {
 
 /// Writes a sequence of labels of the table, separated by one blank each.
 fn spell(line: &mut Line, table: &Table, labels: &[Label]) -> Result<(), Stop>
-    requires known { (k : TermLabel) → In k labels.now → IsLabel table.now k }
+    requires { AreLabels table.now labels.now }
 {
     if labels.is_empty() {
         put(line, "<empty>")?;

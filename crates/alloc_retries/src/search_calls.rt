@@ -1,8 +1,5 @@
 //! Listings. A search that runs out of memory is begun again after its last item.
-ghost use Rattle.lotos_check.specs.NameLists.{In};
-ghost use Rattle.lotos_terms.specs.TableView.{IsPrintedAs};
-ghost use Rattle.lotos_terms.specs.declared.label.Label.{Label as TermLabel};
-ghost use Rattle.lotos_search.specs.Order.{Label as Text};
+ghost use Rattle.lotos_search.specs.Question.{HaveTexts};
 
 use crate::front_end::table_of;
 use crate::lines::{Line, put, put_blank};
@@ -219,8 +216,7 @@ fn advance(search: &mut Search, line: &mut Line, last: &mut Line) -> Result<Next
 
 /// Writes a sequence of labels of the search, separated by one blank each.
 fn spell(line: &mut Line, search: &Search, labels: &[Label]) -> Result<(), Stop>
-    requires known { (k : TermLabel) → In k labels.now → (text : Text) ×
-        IsPrintedAs search.now.question.names k text }
+    requires { HaveTexts search.now.question.names labels.now }
 {
     if labels.is_empty() {
         put(line, "<empty>")?;

@@ -1,9 +1,6 @@
 //! A search and all that it returns.
 ghost use Rattle.std.specs.Prelude.{◌≤◌};
-ghost use Rattle.lotos_check.specs.NameLists.{In};
-ghost use Rattle.lotos_terms.specs.TableView.{IsPrintedAs};
-ghost use Rattle.lotos_terms.specs.declared.label.Label.{Label as TermLabel};
-ghost use Rattle.lotos_search.specs.Order.{Label as Text};
+ghost use Rattle.lotos_search.specs.Question.{HaveTexts};
 
 use super::accepted_text::{joined, table_of_text};
 use lotos_pattern::Pattern;
@@ -179,8 +176,7 @@ fn advance(alloc: Global, search: &mut Search) -> Result<Step, Fail> {
 
 /// The texts of labels of a search.
 fn texts(alloc: Global, search: &Search, labels: &[Label]) -> Result<Vec<&'static str>, Fail>
-    requires known { (k : TermLabel) → In k labels.now → (text : Text) ×
-        IsPrintedAs search.now.question.names k text }
+    requires { HaveTexts search.now.question.names labels.now }
 {
     let mut texts = Vec::new(alloc);
     for label in labels {

@@ -1,18 +1,19 @@
 -- Runs in a table, step by step.
-use Rattle.std.proofs.Common.{◌≡◌, ℕ, ◌<◌, List, [], ◌∷◌, ◌++◌, Some, length, refl, sym, subst, ◌∙◌, inl, slice_get}
-use Rattle.std.specs.Prelude.{None}
+use Rattle.std.proofs.Common.{◌≡◌, ℕ, ◌<◌, List, [], ◌∷◌, ◌++◌, Some, length, refl, sym, subst, ◌∙◌, arith, inl, slice_get}
+use Rattle.std.specs.Prelude.{Contains, None}
+use Rattle.std.proofs.lemmas.List.Elements.{All-contains}
 use Rattle.std.proofs.lemmas.Option.{slice_get_within, slice_get-get_or}
 use Rattle.lotos_check.specs.NameLists.{In}
-use Rattle.lotos_terms.specs.TableView.{AreSuccessors, Grows, TableView, IsLabel}
+use Rattle.lotos_terms.specs.TableView.{AreSuccessors, Grows, IsInTable, IsLabel, TableView}
 use Rattle.lotos_terms.specs.Steps.{Step}
 use Rattle.lotos_terms.specs.Terms.{stop}
 use Rattle.lotos_terms.specs.declared.label.Label.{Label}
 use Rattle.lotos_terms.specs.declared.label.Label.TheVariants as l
 use Rattle.uses.specs.TermRuns.{IsDeadlock, IsStep, RunTo}
 
-first_in : {A : Type 0} (xs : List A) (x : A) → Some x ≡ slice_get xs 0 → In x xs
+first_in : {A : Type 0} (xs : List A) (x : A) → Some x ≡ slice_get xs 0 → Contains xs x × In x xs
 first_in [] x e = absurd cc
-first_in (y ∷ xs) x e = inl cc
+first_in (y ∷ xs) x e = let same : y ≡ x = cc in ((0, omega arith, same), inl same)
 
 none_in : {A : Type 0} (xs : List A) → None ≡ slice_get xs 0 → (x : A) → In x xs → ⊥
 none_in [] e x h = h
@@ -23,8 +24,9 @@ pub first_is_step : (old new : TableView) → Grows old new → (n : ℕ) → n 
     (s : Label × ℕ) → Some s ≡ slice_get xs 0 → IsStep new n s
 first_is_step old new grows n lt xs answers s e =
     let stands = grows.terms n _ (slice_get-get_or old.terms n stop lt) in
-    let a = answers.only _ stands s.0 s.1 (first_in xs s e) in
-    record { label = a.0; from = _; to = a.1.0; located = stands; leads = a.1.1; derived = a.1.2 }
+    let there = first_in xs s e in
+    let a = answers.only _ stands s.0 s.1 there.1 in
+    record { label = (All-contains (IsInTable new) xs s answers.known there.0).0; from = _; to = a.0; located = stands; leads = a.1; derived = a.2 }
 
 -- if `successors` returns no item, the term is a deadlock
 pub none_is_dead : (old new : TableView) → Grows old new → (n : ℕ) → n < length old.terms → (xs : List (Label × ℕ)) → AreSuccessors new n xs →
@@ -67,7 +69,7 @@ run_push held n [] m s e step = (subst (λ k. IsStep held k s) (sym e) step, ref
 run_push held n (x ∷ steps) m s r step = (r.0, run_push held x.1 steps m s r.1 step)
 
 pub grows_same : (held : TableView) → Grows held held
-grows_same held = record { names = refl; processes = refl; start = refl; terms = λ k t h. h }
+grows_same held = record { names = refl; processes = refl; start = refl; terms = λ k t h. h; more = omega arith }
 
 pub grows_then : (a b c : TableView) → Grows a b → Grows b c → Grows a c
 grows_then a b c g h = record {
@@ -75,4 +77,5 @@ grows_then a b c g h = record {
   processes = h.processes ∙ g.processes;
   start = h.start ∙ g.start;
   terms = λ k t e. h.terms k t (g.terms k t e);
+  more = omega (arith, g.more, h.more);
 }

@@ -1,3 +1,0 @@
-pub mod Exploration
-pub mod MatchLabels
-pub mod ReturnedLabels

@@ -1,2 +1,0 @@
-pub mod Exploration
-pub mod ReturnedLabels
