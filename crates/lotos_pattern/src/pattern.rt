@@ -1,8 +1,8 @@
 //! Patterns, and the places of sequences in them.
-ghost use Rattle.std.specs.Prelude.{◌≡◌, ◌↔◌, ◌∷◌, ◌++◌, ◌<◌, ℕ, [], List, IfErr, IfOk, IfSome, MatchBool, MatchOption};
+ghost use Rattle.std.specs.Prelude.{◌≡◌, ◌↔◌, ◌∷◌, ◌++◌, ◌<◌, ℕ, [], All, List, IfErr, IfOk, IfSome, MatchBool, MatchOption};
 ghost use Rattle.lotos_pattern.specs.PatternLabels.{Label};
 ghost use Rattle.lotos_pattern.specs.Patterns.{IsObservable, Viable};
-ghost use Rattle.lotos_pattern.specs.ElementView.{element_of};
+ghost use Rattle.lotos_pattern.specs.ElementView.{CanOccur, element_of};
 ghost use Rattle.lotos_pattern.specs.Spelling.{PatternOf, texts_of};
 ghost use Rattle.lotos_pattern.specs.PatternFaults.{IsCause, SpellsNone};
 ghost use Rattle.lotos_pattern.specs.NfaStates.{HasState, IsPlaceValue};
@@ -62,6 +62,13 @@ impl Pattern {
         self.strong
     }
 
+    /// Does nothing. Its clause says what is true of every pattern: each of its elements can occur.
+    fn recall_observable(&self)
+        ensures { All (CanOccur self.now.strong) self.now.elements }
+    {
+        let _ = &self.elements;
+    }
+
     /// The place of the empty sequence.
     pub fn begin(&self) -> Place
         ensures begins { IsPlaceOf self.now [] result }
@@ -69,8 +76,7 @@ impl Pattern {
         ensures states { HasStatesAfter self.now [] result }
         ensures place_value { IsPlaceValue result }
     {
-        // Reading a field brings in the invariant of patterns.
-        let _ = &self.elements;
+        self.recall_observable();
         let mut place = Place::empty();
         place.add(0);
         place

@@ -151,8 +151,7 @@ fn find_match_line<P: Progress>(
 {
     table_has_match_question();
     let mut table = Table::new(alloc, found)?;
-    // The contract of `start`: the table is sound.
-    let _ = table.start();
+    table.recall_sound();
     match find_shortest_match_with_progress(alloc, &mut table, pattern, request.states, progress)? {
         Some(found) => Ok(Some(format_match(alloc, &table, &found, request.explain)?)),
         None => Ok(None),

@@ -165,8 +165,7 @@ fn begin_search(
     ensures { IfOk result (IsSearchFor request.now (system_of found) pattern mark) }
 {
     let table = Table::new(alloc, found)?;
-    // The contract of `start`: the table is sound.
-    let _ = table.start();
+    table.recall_sound();
     Search::begin(alloc, table, pattern, request.depth, mark, request.terms)
 }
 

@@ -14,7 +14,7 @@ returns-in_err-found-clause-none g c =
     let p = c.args.pattern.now in
     let q = match_question_of c.in_ok-table.table p in
     let asked : IsEverQuestionFor (system_of c.args.found) p q = record {
-      question = c.table_has_match_question.ensures (system_of c.args.found) c.in_ok-table.table p c.in_ok-table.ensures c.start.ensures.sound;
+      question = c.table_has_match_question.ensures (system_of c.args.found) c.in_ok-table.table p c.in_ok-table.ensures c.recall_sound.ensures.sound;
       pattern = refl;
     } in
     handed_on _ c.in_err-found.field-0.0 c.args.request.now (system_of c.args.found) p q (halt.1 ∙ ap (λ v. Err v) halt.2) asked c.in_err-found.ensures.too_many_states
@@ -39,7 +39,7 @@ returns-in-Some-clause-line g c =
     let q = match_question_of c.in_ok-table.table p in
     let found : IsFound q c.in-Some.found = subst (IsAnswer q) c.in-Some.is c.in_ok-found.ensures.answer in
     let asked : IsEverQuestionFor (system_of c.args.found) p q = record {
-      question = c.table_has_match_question.ensures (system_of c.args.found) c.in_ok-table.table p c.in_ok-table.ensures c.start.ensures.sound;
+      question = c.table_has_match_question.ensures (system_of c.args.found) c.in_ok-table.table p c.in_ok-table.ensures c.recall_sound.ensures.sound;
       pattern = refl;
     } in
     let shown = shown_now c.in_ok-table.table c.find_shortest_match_with_progress.new.table p c.in-Some.found c.in_ok-found.ensures.grows found in
@@ -50,7 +50,7 @@ returns-clause-line g c =
     let p = c.args.pattern.now in
     let q = match_question_of c.in_ok-table.table p in
     let asked : IsEverQuestionFor (system_of c.args.found) p q = record {
-      question = c.table_has_match_question.ensures (system_of c.args.found) c.in_ok-table.table p c.in_ok-table.ensures c.start.ensures.sound;
+      question = c.table_has_match_question.ensures (system_of c.args.found) c.in_ok-table.table p c.in_ok-table.ensures c.recall_sound.ensures.sound;
       pattern = refl;
     } in
     (q, asked, subst (IsAnswer q) c.in-None.is c.in_ok-found.ensures.answer)

@@ -7,4 +7,4 @@ pub returns : goal.returns
 returns c =
     IfOk-weaker c.begin.result _ _
     (λ search begun. asked_of c.args.request.now (system_of c.args.found) c.in_ok-table.table c.args.pattern c.args.mark search c.in_ok-table.ensures
-    c.start.ensures.sound begun) c.begin.ensures.begun
+    c.recall_sound.ensures.sound begun) c.begin.ensures.begun
