@@ -16,6 +16,7 @@ use Rattle.lotos_check.specs.declared.process_scope.Binding.{Binding}
 use Rattle.lotos_check.specs.declared.fault.CheckFault.{CheckFault}
 use Rattle.lotos_check.specs.declared.fault.CheckFault.TheVariants.{E99}
 use Rattle.std.specs.declared.alloc.AllocError.{AllocError}
+use Rattle.lotos_check.proofs.JoinedLists.{in_back, in_front}
 use Rattle.lotos_check.proofs.DefinitionParts.{formals_shown, inner_shown}
 
 pairs_append : {X Y : Type 0} {P : X → Y → Type 0} (xs us : List X) (ys vs : List Y) → Pairwise P xs ys → Pairwise P us vs →
@@ -58,21 +59,12 @@ adds_first scope first d old between new found pushed body h = record {
   found = one_pair body h.found;
 }
 
-in_left : {X : Type 0} (x : X) (these those : List X) → In x these → In x (these ++ those)
-in_left x [] those h = absurd h
-in_left x (y ∷ these) those (inl e) = inl e
-in_left x (y ∷ these) those (inr h) = inr (in_left x these those h)
-
-in_right : {X : Type 0} (x : X) (these those : List X) → In x those → In x (these ++ those)
-in_right x [] those h = h
-in_right x (y ∷ these) those h = inr (in_right x these those h)
-
 -- a fault in one of these
 pub misnamed_left : (these those : List ScopedDefinition) (fault : CheckFault) → IsNameFaultIn these fault →
     IsNameFaultIn (these ++ those) fault
 misnamed_left these those fault h = record {
   scoped = h.scoped;
-  located = in_left h.scoped these those h.located;
+  located = in_front h.scoped these those h.located;
   misnamed = h.misnamed;
 }
 
@@ -81,7 +73,7 @@ pub misnamed_right : (these those : List ScopedDefinition) (fault : CheckFault) 
     IsNameFaultIn (these ++ those) fault
 misnamed_right these those fault h = record {
   scoped = h.scoped;
-  located = in_right h.scoped these those h.located;
+  located = in_back h.scoped these those h.located;
   misnamed = h.misnamed;
 }
 

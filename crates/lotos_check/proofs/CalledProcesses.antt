@@ -12,8 +12,9 @@ use Rattle.lotos_check.specs.Flat.{Flat, FlatProcess, System, Pairwise, no_pair,
 use Rattle.lotos_check.specs.Bodies.{ContainsCall, itself, under_prefix, left_choice, right_choice, left_par, right_par, under_hide, left_enable, right_enable, left_disable, right_disable, IsBodyOf, of_whole, of_process, IsProcessOf, GoesToNamed}
 use Rattle.lotos_check.specs.StaticFaults.{IsE23}
 use Rattle.lotos_check.specs.Acceptance.{IsAccepted}
+use Rattle.lotos_check.proofs.JoinedLists.{in_either}
 use Rattle.lotos_check.proofs.FlatSystemUnique.{paired_at}
-use Rattle.lotos_check.proofs.ScopedDefinitions.{in_joined, listed_count}
+use Rattle.lotos_check.proofs.ScopedDefinitions.{listed_count}
 
 -- the behaviour contains a call of a name that is bound to the process, with these gates
 record IsCalled (scope : Scope) (known : List Name) (body : BehaviourView) (k : ℕ) (gates : List Name) : Type 0 where
@@ -146,7 +147,7 @@ listed_numbered all scope k (more_defs (def name formals declared body inner) ds
     let with_own = more_numbered all w scope (record { scope = own; located = front }) numbered in
     elim i [
       | inl e ↦ subst (λ t. AllNumbered all t.scope) e with_own
-      | inr j ↦ elim (in_joined v deep rest j) [
+      | inr j ↦ elim (in_either v deep rest j) [
         | inl d ↦ listed_numbered all own (k + 1) inner front with_own v d
         | inr r ↦ listed_numbered all scope (k + 1 + count inner) ds after numbered v r
       ]

@@ -5,6 +5,7 @@ use Rattle.lotos_text.specs.AstView.{DefinitionView, def, DefinitionListView, no
 use Rattle.lotos_check.specs.NameLists.{Name, In}
 use Rattle.lotos_check.specs.Scope.{Scope, Where, ScopedDefinition, Declares, here, later, Binds, nearest, outward, count, within, definitions_in_scope, processes_of, all_definitions, definitions_in, definitions_in_list, IsDistinctScope}
 use Rattle.lotos_check.specs.StaticFaults.{IsDistinct}
+use Rattle.lotos_check.proofs.JoinedLists.{in_back, in_either, in_front}
 
 -- how many definitions are listed
 pub listed_count : (scope : Scope) (k : ℕ) (ds : DefinitionListView) → length (definitions_in_scope scope k ds) ≡ count ds
@@ -41,21 +42,6 @@ definitions_count (def name formals declared body inner) =
     let m = length-map (definitions_in_scope [] 0 inner) (λ v. v.definition) in
     omega arith
 
--- what is in two lists joined is in one of them
-pub in_joined : {X : Type 0} (x : X) (xs ys : List X) → In x (xs ++ ys) → In x xs ⊎ In x ys
-in_joined x [] ys i = inr i
-in_joined x (y ∷ xs) ys (inl e) = inl (inl e)
-in_joined x (y ∷ xs) ys (inr i) = elim (in_joined x xs ys i) [ inl j ↦ inl (inr j) | inr j ↦ inr j ]
-
-in_left : {X : Type 0} (x : X) (xs ys : List X) → In x xs → In x (xs ++ ys)
-in_left x [] ys i = absurd i
-in_left x (y ∷ xs) ys (inl e) = inl e
-in_left x (y ∷ xs) ys (inr i) = inr (in_left x xs ys i)
-
-in_right : {X : Type 0} (x : X) (xs ys : List X) → In x ys → In x (xs ++ ys)
-in_right x [] ys i = i
-in_right x (y ∷ xs) ys i = inr (in_right x xs ys i)
-
 -- the `where` is that of a definition of the specification, and its processes are among those of the specification
 pub record IsWhereOf (whole : DefinitionView) (w : Where) : Type 0 where
   pub scoped : ScopedDefinition
@@ -84,9 +70,9 @@ listed_wheres whole scope k (more_defs (def name formals declared body inner) ds
     let within_own = more_wheres whole (record { defs = inner; first = k + 1 }) scope here all in
     elim i [
       | inl e ↦ subst (λ t. AllWheres whole t.scope) e within_own
-      | inr j ↦ elim (in_joined v deep rest j) [
-        | inl d ↦ listed_wheres whole own (k + 1) inner (λ x y. sub x (inr (in_left x deep rest y))) here_fits within_own v d
-        | inr r ↦ listed_wheres whole scope (k + 1 + count inner) ds (λ x y. sub x (inr (in_right x deep rest y))) (omega arith) all v r
+      | inr j ↦ elim (in_either v deep rest j) [
+        | inl d ↦ listed_wheres whole own (k + 1) inner (λ x y. sub x (inr (in_front x deep rest y))) here_fits within_own v d
+        | inr r ↦ listed_wheres whole scope (k + 1 + count inner) ds (λ x y. sub x (inr (in_back x deep rest y))) (omega arith) all v r
       ]
     ]
 

@@ -8,6 +8,7 @@ use Rattle.lotos_text.specs.AstOf.{definition_view, definitions_view}
 use Rattle.lotos_text.specs.declared.ast.Definition.{Definition, out-Definition}
 use Rattle.lotos_check.specs.NameLists.{Name, In, texts}
 use Rattle.lotos_check.specs.Scope.{Scope, ScopedDefinition, Declares, here, later, nearest, outward, count, within, declared_names, definitions_in_scope, definition_in_scope}
+use Rattle.lotos_check.proofs.JoinedLists.{in_back, in_front}
 use Rattle.lotos_explain.specs.SimilarNames.{IsFrom, IsBound, IsInScopeAt, IsInScopeInAny, IsGateInScopeAt, CallsAt, IsBoundInAny, IsProcessVisibleAt}
 use Rattle.lotos_explain.proofs.DefinitionParts.{name_shown}
 use Rattle.lotos_explain.proofs.SimilarNames.{some_weaker, of_some}
@@ -16,15 +17,6 @@ use Rattle.lotos_explain.proofs.SimilarNames.{some_weaker, of_some}
 listed_more : (scope : Scope) (first : ℕ) (d : DefinitionView) (ds : DefinitionListView) →
     definitions_in_scope scope first (more_defs d ds) ≡ definition_in_scope scope (first + 1) d ++ definitions_in_scope scope (first + 1 + count (inner_of d)) ds
 listed_more scope first (def name formals declared body inner) ds = refl
-
-in_left : {X : Type 0} (x : X) (these those : List X) → In x these → In x (these ++ those)
-in_left x [] those h = absurd h
-in_left x (y ∷ these) those (inl e) = inl e
-in_left x (y ∷ these) those (inr h) = inr (in_left x these those h)
-
-in_right : {X : Type 0} (x : X) (these those : List X) → In x those → In x (these ++ those)
-in_right x [] those h = h
-in_right x (y ∷ these) those h = inr (in_right x these those h)
 
 -- the definitions of the rest, numbered from some number on, are among those of the whole
 abbrev pub Continues : Scope → ℕ → DefinitionListView → DefinitionListView → Type 0
@@ -49,7 +41,7 @@ module _ (items : List Definition) (index : ℕ) (item : Definition) (below : in
         let (k, f) = h in (
           k + 1 + count (inner_of one),
           λ v i. f v (rw (rest_at, listed_more scope k one rest)
-              (in_right v (definition_in_scope scope (k + 1) one) (definitions_in_scope scope (k + 1 + count (inner_of one)) rest) i)),
+              (in_back v (definition_in_scope scope (k + 1) one) (definitions_in_scope scope (k + 1 + count (inner_of one)) rest) i)),
         )
 
     pub continues_here : (k : ℕ) × ((v : ScopedDefinition) → In v (definition_in_scope scope k (definition_view item)) →
@@ -60,7 +52,7 @@ module _ (items : List Definition) (index : ℕ) (item : Definition) (below : in
         let (k, f) = h in (
           k + 1,
           λ v i. f v (rw (rest_at, listed_more scope k one rest)
-              (in_left v (definition_in_scope scope (k + 1) one) (definitions_in_scope scope (k + 1 + count (inner_of one)) rest) i)),
+              (in_front v (definition_in_scope scope (k + 1) one) (definitions_in_scope scope (k + 1 + count (inner_of one)) rest) i)),
         )
 
 -- what is in scope in the body of a definition, or of one inside it

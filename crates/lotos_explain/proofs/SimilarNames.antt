@@ -11,6 +11,7 @@ use Rattle.lotos_text.specs.declared.ast.Placed.{Placed}
 use Rattle.lotos_text.specs.declared.ast.Action.TheVariants.{Gate}
 use Rattle.lotos_check.specs.NameLists.{Name, In, texts}
 use Rattle.lotos_check.specs.Subexpressions.{IsSubexpression, whole, in_choice_left, in_choice_right, in_par_left, in_par_right, in_enable_left, in_enable_right, in_disable_left, in_disable_right, acts, synchronizes, passes}
+use Rattle.lotos_check.proofs.JoinedLists.{in_back, in_front}
 use Rattle.lotos_explain.specs.SimilarNames.{IsFrom, IsAmongAt, UsesGateAt, IsInScopeAt, CallsAt}
 
 -- what holds of a name that is there, if there is one
@@ -53,15 +54,6 @@ module _ {A : Type 0} (now : A → Name) where
         | inr (inl e) ↦ inr (subst (λ t. In t names) e i)
         | inr (inr none) ↦ absurd none
       ]) more
-
-  in_front : (n : Name) (xs ys : List Name) → In n xs → In n (xs ++ ys)
-  in_front n [] ys i = absurd i
-  in_front n (x ∷ xs) ys (inl e) = inl e
-  in_front n (x ∷ xs) ys (inr i) = inr (in_front n xs ys i)
-
-  in_back : (n : Name) (xs ys : List Name) → In n ys → In n (xs ++ ys)
-  in_back n [] ys i = i
-  in_back n (x ∷ xs) ys i = inr (in_back n xs ys i)
 
   -- a name in scope around, or one of the list, is in scope inside
   pub from_inside : (best found : Option A) (gs : List Placed) (around : List Name) → IfSome best (λ n. In (now n) around) →

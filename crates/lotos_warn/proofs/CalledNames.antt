@@ -11,8 +11,8 @@ use Rattle.lotos_check.specs.StaticFaults.{Occurs, IsDistinct}
 use Rattle.lotos_check.specs.Flat.{Flat, FlatProcess, System, Pairwise, no_pair, one_pair, IsProcess, Resolves, of_stop, of_exit, of_prefix, of_choice, of_par, of_par_all, of_hide, of_enable, of_disable, of_call}
 use Rattle.lotos_check.specs.Bodies.{ContainsCall, itself, under_prefix, left_choice, right_choice, left_par, right_par, under_hide, left_enable, right_enable, left_disable, right_disable, IsBodyOf, of_whole, of_process, GoesToNamed}
 use Rattle.lotos_check.specs.Acceptance.{IsAccepted}
+use Rattle.lotos_check.proofs.JoinedLists.{in_back, in_either, in_front}
 use Rattle.lotos_warn.specs.Additions.{ContainsCallOf, IsCalledByAny, IsCalledIn}
-use Rattle.lotos_warn.proofs.NameTests.{in_front, in_back, in_either}
 
 -- a member is at an index
 pub located : {X : Type 0} (x : X) (xs : List X) → In x xs → (k : ℕ) × (slice_get xs k ≡ Some x)

@@ -7,10 +7,10 @@ use Rattle.lotos_text.specs.declared.ast.Action.TheVariants.{Internal, Gate}
 use Rattle.lotos_check.specs.NameLists.{Name, In, texts}
 use Rattle.lotos_check.specs.Subexpressions as parts
 use Rattle.lotos_check.specs.Subexpressions.{IsSubexpression, in_prefix, in_choice_left, in_choice_right, in_par_left, in_par_right, in_hide, in_enable_left, in_enable_right, in_disable_left, in_disable_right, UsesGate}
+use Rattle.lotos_check.proofs.JoinedLists.{in_back, in_either, in_front}
 use Rattle.lotos_warn.specs.Additions.{IsActionNamed, IsListed}
 use Rattle.lotos_warn.specs.Warnings as own
 use Rattle.lotos_warn.specs.Warnings.{OffersGate, HasFree, UsesFree, OffersFree}
-use Rattle.lotos_warn.proofs.NameTests.{in_front, in_back, in_either}
 
 -- the behaviour has the gate free, by its form; `listed` says which gates the list of a parallel composition has
 abbrev pub HasIn : (SyncView → Name → Type 0) → BehaviourView → Name → Type 0

@@ -8,24 +8,8 @@ use Rattle.std.specs.Str.{bytes_eq}
 use Rattle.std.proofs.lemmas.List.{map-append}
 use Rattle.std.proofs.lemmas.Slice.Eq.{bytes_eq-Decides}
 use Rattle.lotos_check.specs.NameLists.{Name, In}
+use Rattle.lotos_check.proofs.JoinedLists.{in_back, in_either, in_front}
 use Rattle.lotos_warn.specs.Additions.{Adds, AddsNames, IsVisible}
-
--- a member of the first list is a member of both together
-pub in_front : {X : Type 0} (x : X) (xs ys : List X) → In x xs → In x (xs ++ ys)
-in_front x [] ys i = absurd i
-in_front x (z ∷ zs) ys (inl e) = inl e
-in_front x (z ∷ zs) ys (inr i) = inr (in_front x zs ys i)
-
--- a member of the second list is a member of both together
-pub in_back : {X : Type 0} (x : X) (xs ys : List X) → In x ys → In x (xs ++ ys)
-in_back x [] ys i = i
-in_back x (z ∷ zs) ys i = inr (in_back x zs ys i)
-
--- a member of both together is a member of one
-pub in_either : {X : Type 0} (x : X) (xs ys : List X) → In x (xs ++ ys) → In x xs ⊎ In x ys
-in_either x [] ys i = inr i
-in_either x (z ∷ zs) ys (inl e) = inl (inl e)
-in_either x (z ∷ zs) ys (inr i) = elim (in_either x zs ys i) [ inl j ↦ inl (inr j) | inr j ↦ inr j ]
 
 -- a list with one more at its end has that, too
 pub adds_end : {X : Type 0} (xs : List X) (y : X) → Adds xs (xs ++ y ∷ []) (λ x. y ≡ x)
