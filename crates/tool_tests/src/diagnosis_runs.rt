@@ -1,7 +1,9 @@
 //! Complete runs of `check` with `--explain` and `--warn`: the lines of the processes, the message and the explanation.
 
 use super::expected_output::expect_message;
-use super::memory_devices::{ArrayWriter, SliceReader, run_on};
+use super::runs::{
+    Outcome, RUN, Run, Taken, WHOLE, expect, expect_broken, expect_unflushed, expect_unreadable,
+};
 use std::alloc::{AllocError, Global};
 use std::process::Abort;
 
@@ -110,16 +112,26 @@ fn expect_refusal(
     message: &[u8],
     explanation: &[u8],
 ) {
-    let reader = SliceReader::new(text, 3);
-    let out = ArrayWriter::new(4096);
-    let err = ArrayWriter::new(7);
-    let (status, _reader, out, err) = run_on(alloc, words, reader, out, err);
-    let (front, after) = err.got().split_at(message.len().min(err.got().len()));
+    let run = Run {
+        name,
+        words,
+        text,
+        piece: 3,
+        message: Taken { piece: 7, ..WHOLE },
+        ..RUN
+    };
+    let ran = run.finish(alloc);
+    expect_parts(rt, name, ran.message.got(), message, explanation);
+    assert_eq!(rt; ran.status, 2, "{name}");
+    assert_eq!(rt; ran.output.got(), b"".as_slice(), "{name}");
+    assert_eq!(rt; ran.output.flushes, 0, "{name}");
+}
+
+/// Expects that the text is the message and then the explanation.
+fn expect_parts(rt: &impl Abort, name: &str, text: &[u8], message: &[u8], explanation: &[u8]) {
+    let (front, after) = text.split_at(message.len().min(text.len()));
     assert_eq!(rt; front, message, "{name}");
     assert_eq!(rt; after, explanation, "{name}");
-    assert_eq!(rt; status, 2, "{name}");
-    assert_eq!(rt; out.got(), b"".as_slice(), "{name}");
-    assert_eq!(rt; out.flushes, 0, "{name}");
 }
 
 #[test]
@@ -150,34 +162,38 @@ const TEXT: &[u8] =
 
 const LINE: &[u8] = b"P 1 noexit\n";
 
+/// A run that writes the line.
+const CHECKED: Run<'static> = Run {
+    name: "a check",
+    words: WARN,
+    text: TEXT,
+    ..RUN
+};
+
+const UNWRITTEN: &[u8] = b"lotosseq: output cannot be written\n";
+
 #[test]
 fn an_accepted_specification_has_no_explanation(rt: HostRuntime) {
+    let outcome = Outcome {
+        output: LINE,
+        message: b"",
+        status: 0,
+        flushes: 1,
+    };
     for words in [EXPLAIN, WARN, BOTH] {
-        let reader = SliceReader::new(TEXT, 4096);
-        let out = ArrayWriter::new(4096);
-        let err = ArrayWriter::new(4096);
-        let (status, _reader, out, err) = run_on(rt.alloc(), words, reader, out, err);
-        assert_eq!(rt; out.got(), LINE);
-        assert_eq!(rt; err.got(), b"".as_slice());
-        assert_eq!(rt; status, 0);
-        assert_eq!(rt; out.flushes, 1);
+        expect(&rt, rt.alloc(), &Run { words, ..CHECKED }, &outcome);
     }
 }
 
 #[test]
 fn input_that_cannot_be_read_has_no_explanation(rt: HostRuntime) {
     for words in [EXPLAIN, WARN] {
-        let mut reader = SliceReader::new(TEXT, 3);
-        reader.fails_at = Some(2);
-        let out = ArrayWriter::new(4096);
-        let err = ArrayWriter::new(4096);
-        let (status, _reader, out, err) = run_on(rt.alloc(), words, reader, out, err);
-        assert_eq!(rt;
-            err.got(),
-            b"lotosseq: E47 input cannot be read\n".as_slice()
-        );
-        assert_eq!(rt; out.got(), b"".as_slice());
-        assert_eq!(rt; status, 2);
+        let run = Run {
+            words,
+            piece: 3,
+            ..CHECKED
+        };
+        expect_unreadable(&rt, rt.alloc(), &run, 2);
     }
 }
 
@@ -198,36 +214,41 @@ fn a_text_that_is_too_long_is_explained(rt: HostRuntime) -> Result<(), AllocErro
 #[test]
 fn output_that_fails_has_its_message_alone(rt: HostRuntime) {
     for words in [EXPLAIN, WARN, BOTH] {
+        let run = Run {
+            words,
+            output: Taken { piece: 2, ..WHOLE },
+            ..CHECKED
+        };
         for most in 0..LINE.len() {
-            let reader = SliceReader::new(TEXT, 4096);
-            let mut out = ArrayWriter::new(2);
-            out.most = most;
-            let err = ArrayWriter::new(4096);
-            let (status, _reader, out, err) = run_on(rt.alloc(), words, reader, out, err);
-            assert_eq!(rt; out.got(), &LINE[..most], "after {most}");
-            assert_eq!(rt;
-                err.got(),
-                b"lotosseq: output cannot be written\n".as_slice(),
-                "after {most}"
-            );
-            assert_eq!(rt; status, 6, "after {most}");
-            assert_eq!(rt; out.flushes, 0, "after {most}");
+            expect_broken(&rt, rt.alloc(), &run, most, LINE, UNWRITTEN);
         }
     }
 }
 
+/// Explains a fault over an error stream that is full after `most` bytes, and expects the status.
+fn expect_cut_message(rt: &impl Abort, alloc: Global, most: usize) {
+    let run = Run {
+        name: "a message that is cut",
+        number: most,
+        words: EXPLAIN,
+        text: b"specification S [a] : noexit\nbehaviour a stop\nendspec\n",
+        message: Taken {
+            piece: 5,
+            most,
+            ..WHOLE
+        },
+        ..RUN
+    };
+    let ran = run.finish(alloc);
+    assert_eq!(rt; ran.status, 2, "after {most}");
+    assert_eq!(rt; ran.output.got(), b"".as_slice(), "after {most}");
+    assert!(rt; ran.message.got().len() <= most, "after {most}");
+}
+
 #[test]
 fn messages_that_cannot_be_written_change_no_status(rt: HostRuntime) {
-    let text = b"specification S [a] : noexit\nbehaviour a stop\nendspec\n";
     for most in [0usize, 1, 41, 42, 43, 60, 100] {
-        let reader = SliceReader::new(text, 4096);
-        let out = ArrayWriter::new(4096);
-        let mut err = ArrayWriter::new(5);
-        err.most = most;
-        let (status, _reader, out, err) = run_on(rt.alloc(), EXPLAIN, reader, out, err);
-        assert_eq!(rt; status, 2, "after {most}");
-        assert_eq!(rt; out.got(), b"".as_slice(), "after {most}");
-        assert!(rt; err.got().len() <= most, "after {most}");
+        expect_cut_message(&rt, rt.alloc(), most);
     }
 }
 
@@ -269,14 +290,22 @@ fn expect_warnings(
     lines: &[u8],
     warnings: &[u8],
 ) {
-    let reader = SliceReader::new(text, 5);
-    let out = ArrayWriter::new(3);
-    let err = ArrayWriter::new(7);
-    let (status, _reader, out, err) = run_on(alloc, words, reader, out, err);
-    assert_eq!(rt; out.got(), lines, "{name}");
-    assert_eq!(rt; err.got(), warnings, "{name}");
-    assert_eq!(rt; status, 0, "{name}");
-    assert_eq!(rt; out.flushes, 1, "{name}");
+    let run = Run {
+        name,
+        words,
+        text,
+        piece: 5,
+        output: Taken { piece: 3, ..WHOLE },
+        message: Taken { piece: 7, ..WHOLE },
+        ..RUN
+    };
+    let outcome = Outcome {
+        output: lines,
+        message: warnings,
+        status: 0,
+        flushes: 1,
+    };
+    expect(rt, alloc, &run, &outcome);
 }
 
 #[test]
@@ -290,17 +319,12 @@ fn warnings_after_the_lines(rt: HostRuntime) {
 
 #[test]
 fn no_warnings_if_the_output_fails(rt: HostRuntime) {
-    for (name, text, _lines, _warnings) in WARNED {
-        let reader = SliceReader::new(*text, 4096);
-        let mut out = ArrayWriter::new(4096);
-        out.flush_fails = true;
-        let err = ArrayWriter::new(4096);
-        let (status, _reader, _out, err) = run_on(rt.alloc(), WARN, reader, out, err);
-        assert_eq!(rt;
-            err.got(),
-            b"lotosseq: output cannot be written\n".as_slice(),
-            "{name}"
-        );
-        assert_eq!(rt; status, 6, "{name}");
+    for (name, text, lines, _warnings) in WARNED {
+        let run = Run {
+            name: *name,
+            text: *text,
+            ..CHECKED
+        };
+        expect_unflushed(&rt, rt.alloc(), &run, *lines, UNWRITTEN);
     }
 }

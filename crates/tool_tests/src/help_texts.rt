@@ -1,23 +1,20 @@
 //! The whole help of the program and of each command, and the version, line by line.
 
-use super::memory_devices::{ArrayWriter, SliceReader, run_on};
+use super::runs::{RUN, Ran, Run};
 use std::alloc::Global;
 use std::process::Abort;
 
 /// Runs the words, and expects these lines, no message and status 0.
 fn expect_lines(rt: &impl Abort, alloc: Global, words: &[&str], lines: &[&str]) {
-    let reader = SliceReader::new(b"", 1);
-    let out = ArrayWriter::new(4096);
-    let err = ArrayWriter::new(4096);
-    let (status, _reader, out, err) = run_on(alloc, words, reader, out, err);
-    assert_eq!(rt; err.got(), b"".as_slice());
-    assert_eq!(rt; status, 0);
-    compare_lines(rt, out.got(), lines);
+    let ran = Run { words, ..RUN }.finish(alloc);
+    assert_eq!(rt; ran.message.got(), b"".as_slice());
+    assert_eq!(rt; ran.status, 0);
+    compare_lines(rt, &ran, lines);
 }
 
-/// Expects that the text is these lines.
-fn compare_lines(rt: &impl Abort, text: &[u8], lines: &[&str]) {
-    let mut rest = text;
+/// Expects that the output is these lines.
+fn compare_lines(rt: &impl Abort, ran: &Ran, lines: &[&str]) {
+    let mut rest = ran.output.got();
     for line in lines {
         let (got, after) = first_line(rest);
         assert_eq!(rt; got, line.as_bytes());

@@ -1,9 +1,12 @@
 //! Texts of the greatest length, one byte longer, and without an end.
 
-use super::super::memory_devices::{ArrayWriter, Blanks, SliceReader, run_on};
+use super::super::expected_output::repeated;
+use super::super::memory_devices::{ArrayWriter, Blanks, run_on};
+use super::super::runs::{Outcome, RUN, Run, expect_outcome, expect_unreadable};
 use super::{Answer, CHECK, NOTHING, SEARCH, expect, expect_refused};
 use lotos_text::TEXT_LIMIT;
 use std::alloc::{AllocError, Global};
+use std::process::Abort;
 
 const TEXT: &[u8] = b"specification S [a] : noexit behaviour a; stop endspec";
 
@@ -13,11 +16,13 @@ const NO_TOKEN: &[u8] = b"lotosseq: 1:1: E01 byte begins no token\n";
 
 /// The text, padded with the byte to this length in bytes.
 fn filled(alloc: Global, text: &[u8], byte: u8, length: usize) -> Result<Vec<u8>, AllocError> {
-    let mut filled = Vec::from_slice(alloc, text)?;
-    for _byte in text.len()..length {
-        filled.push(byte)?;
-    }
-    Ok(filled)
+    repeated(
+        alloc,
+        text,
+        &[byte],
+        length.saturating_sub(text.len()),
+        NOTHING,
+    )
 }
 
 #[test]
@@ -94,42 +99,48 @@ fn an_endless_text_is_refused_after_one_byte_too_many(rt: HostRuntime) {
     }
 }
 
+/// Reads the text byte by byte with a read that fails, and expects the message, and that no byte more is read.
+fn expect_last_read(rt: &impl Abort, alloc: Global, text: &[u8], number: usize, message: &[u8]) {
+    let run = Run {
+        name: "a read that fails",
+        number,
+        words: SEARCH,
+        text,
+        piece: 1,
+        failing_read: Some(number),
+        ..RUN
+    };
+    let ran = run.finish(alloc);
+    let outcome = Outcome {
+        output: NOTHING,
+        message,
+        status: 2,
+        flushes: 0,
+    };
+    expect_outcome(rt, &run, &ran, &outcome);
+    assert_eq!(rt; ran.reads, 1_048_577, "at {number}");
+}
+
 #[test]
 fn no_byte_is_read_after_one_too_many(rt: HostRuntime) -> Result<(), AllocError> {
     let text = filled(rt.alloc(), TEXT, b' ', TEXT_LIMIT + 2)?;
-    let cases: [(usize, &[u8]); 2] = [
-        (1_048_577, b"lotosseq: E47 input cannot be read\n"),
-        (1_048_578, TOO_LONG),
-    ];
-    for (number, message) in cases {
-        let mut reader = SliceReader::new(text.as_slice(), 1);
-        reader.fails_at = Some(number);
-        let out = ArrayWriter::new(4096);
-        let err = ArrayWriter::new(4096);
-        let (status, reader, out, err) = run_on(rt.alloc(), SEARCH, reader, out, err);
-        assert_eq!(rt; err.got(), message, "at {number}");
-        assert_eq!(rt; status, 2, "at {number}");
-        assert_eq!(rt; reader.reads, 1_048_577, "at {number}");
-        assert!(rt; out.got().is_empty(), "at {number}");
-    }
+    let text = text.as_slice();
+    let unread = b"lotosseq: E47 input cannot be read\n";
+    expect_last_read(&rt, rt.alloc(), text, 1_048_577, unread);
+    expect_last_read(&rt, rt.alloc(), text, 1_048_578, TOO_LONG);
     Ok(())
 }
 
 #[test]
 fn a_read_that_fails_is_named_before_any_fault_of_the_text(rt: HostRuntime) {
-    let text: &[u8] = b"\xff specification S (* open";
+    let run = Run {
+        name: "a read that fails",
+        words: SEARCH,
+        text: b"\xff specification S (* open",
+        piece: 1,
+        ..RUN
+    };
     for number in 1usize..=26 {
-        let mut reader = SliceReader::new(text, 1);
-        reader.fails_at = Some(number);
-        let out = ArrayWriter::new(4096);
-        let err = ArrayWriter::new(4096);
-        let (status, _reader, out, err) = run_on(rt.alloc(), SEARCH, reader, out, err);
-        assert_eq!(rt;
-            err.got(),
-            b"lotosseq: E47 input cannot be read\n".as_slice(),
-            "at {number}"
-        );
-        assert_eq!(rt; status, 2, "at {number}");
-        assert!(rt; out.got().is_empty(), "at {number}");
+        expect_unreadable(&rt, rt.alloc(), &run, number);
     }
 }
