@@ -1,6 +1,8 @@
 //! Runs of the command over a reader and writers in memory, and what is expected of them.
 
 use super::memory_devices::{ArrayWriter, SliceReader, WhenFull, run_on};
+use lotos_device::{FromRead, FromWrite};
+use lotos_tool::run_with_terminal;
 use std::alloc::Global;
 use std::process::Abort;
 
@@ -93,8 +95,7 @@ pub struct Ran {
 impl Run<'_> {
     /// Runs the command.
     pub fn finish(&self, alloc: Global) -> Ran {
-        let mut reader = SliceReader::new(self.text, self.piece);
-        reader.fails_at = self.failing_read;
+        let reader = self.reader();
         let output = writer(self.output);
         let message = writer(self.message);
         let (status, reader, output, message) = run_on(alloc, self.words, reader, output, message);
@@ -104,6 +105,34 @@ impl Run<'_> {
             reads: reader.reads,
             status,
         }
+    }
+
+    /// Runs the command with an error stream that is a terminal or is none.
+    pub fn finish_with_terminal(&self, alloc: Global, terminal: bool) -> Ran {
+        let mut reader = FromRead::new(self.reader());
+        let mut output = FromWrite::new(writer(self.output));
+        let mut message = writer(self.message);
+        let status = run_with_terminal(
+            alloc,
+            self.words,
+            &mut reader,
+            &mut output,
+            &mut message,
+            terminal,
+        );
+        Ran {
+            output: output.into_inner(),
+            message,
+            reads: reader.into_inner().reads,
+            status,
+        }
+    }
+
+    /// A reader of the text.
+    fn reader(&self) -> SliceReader<'_> {
+        let mut reader = SliceReader::new(self.text, self.piece);
+        reader.fails_at = self.failing_read;
+        reader
     }
 }
 
