@@ -2,7 +2,8 @@
 
 use super::expected_output::expect_message;
 use super::runs::{
-    Outcome, RUN, Run, Taken, WHOLE, expect, expect_broken, expect_unflushed, expect_unreadable,
+    Bytes, Outcome, Parts, RUN, Run, Taken, WHOLE, expect, expect_broken, expect_parts,
+    expect_unflushed, expect_unreadable,
 };
 use std::alloc::{AllocError, Global};
 use std::process::Abort;
@@ -120,41 +121,33 @@ fn expect_refusal(
         message: Taken { piece: 7, ..WHOLE },
         ..RUN
     };
-    let ran = run.finish(alloc);
-    expect_parts(rt, name, ran.message.got(), message, explanation);
-    assert_eq!(rt; ran.status, 2, "{name}");
-    assert_eq!(rt; ran.output.got(), b"".as_slice(), "{name}");
-    assert_eq!(rt; ran.output.flushes, 0, "{name}");
+    let parts = Parts {
+        output: Bytes::Are(b""),
+        message: Bytes::Join(message, explanation),
+        status: 2,
+        reads: None,
+        flushes: Some(0),
+    };
+    expect_parts(rt, alloc, &run, &parts);
 }
 
-/// Expects that the text is the message and then the explanation.
-fn expect_parts(rt: &impl Abort, name: &str, text: &[u8], message: &[u8], explanation: &[u8]) {
-    let (front, after) = text.split_at(message.len().min(text.len()));
-    assert_eq!(rt; front, message, "{name}");
-    assert_eq!(rt; after, explanation, "{name}");
+/// Expects that each mistake is refused, and is explained or not.
+fn expect_mistakes(rt: &impl Abort, alloc: Global, words: &[&str], explains: bool) {
+    for (name, text, message, explanation) in MISTAKES {
+        let explained: &[u8] = if explains { *explanation } else { b"" };
+        expect_refusal(rt, alloc, *name, words, *text, *message, explained);
+    }
 }
 
 #[test]
 fn mistakes_are_explained(rt: HostRuntime) {
-    for (name, text, message, explanation) in MISTAKES {
-        expect_refusal(
-            &rt,
-            rt.alloc(),
-            name,
-            EXPLAIN,
-            *text,
-            *message,
-            *explanation,
-        );
-        expect_refusal(&rt, rt.alloc(), name, BOTH, *text, *message, *explanation);
-    }
+    expect_mistakes(&rt, rt.alloc(), EXPLAIN, true);
+    expect_mistakes(&rt, rt.alloc(), BOTH, true);
 }
 
 #[test]
 fn mistakes_are_explained_on_request_alone(rt: HostRuntime) {
-    for (name, text, message, _explanation) in MISTAKES {
-        expect_refusal(&rt, rt.alloc(), name, WARN, *text, *message, b"");
-    }
+    expect_mistakes(&rt, rt.alloc(), WARN, false);
 }
 
 const TEXT: &[u8] =
@@ -239,10 +232,14 @@ fn expect_cut_message(rt: &impl Abort, alloc: Global, most: usize) {
         },
         ..RUN
     };
-    let ran = run.finish(alloc);
-    assert_eq!(rt; ran.status, 2, "after {most}");
-    assert_eq!(rt; ran.output.got(), b"".as_slice(), "after {most}");
-    assert!(rt; ran.message.got().len() <= most, "after {most}");
+    let parts = Parts {
+        output: Bytes::Are(b""),
+        message: Bytes::AtMost(most),
+        status: 2,
+        reads: None,
+        flushes: Some(0),
+    };
+    expect_parts(rt, alloc, &run, &parts);
 }
 
 #[test]

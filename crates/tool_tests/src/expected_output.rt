@@ -1,7 +1,7 @@
 //! Generated texts and words, and a writer that compares what it takes with expected bytes of any length.
 
 use super::memory_devices::{ArrayWriter, SliceReader, run_on};
-use super::runs::{RUN, Run};
+use super::runs::{Bytes, Parts, RUN, Run, expect_parts};
 use std::alloc::{AllocError, Global};
 use std::io;
 use std::io::Write;
@@ -67,10 +67,14 @@ pub fn expect_message(
     message: &[u8],
     status: u8,
 ) {
-    let ran = Run { words, text, ..RUN }.finish(alloc);
-    assert_eq!(rt; ran.message.got(), message);
-    assert!(rt; ran.output.got().is_empty());
-    assert_eq!(rt; ran.status, status);
+    let parts = Parts {
+        output: Bytes::Are(b""),
+        message: Bytes::Are(message),
+        status,
+        reads: None,
+        flushes: None,
+    };
+    expect_parts(rt, alloc, &Run { words, text, ..RUN }, &parts);
 }
 
 /// The bytes `front`, then `part` so many times, then `back`.

@@ -1,7 +1,7 @@
 //! Runs that ask for help or for the version.
 
 use super::memory_devices::WhenFull;
-use super::runs::{Outcome, RUN, Ran, Run, Taken, WHOLE, expect_outcome};
+use super::runs::{Bytes, Parts, RUN, Run, Taken, UNREAD, WHOLE, expect_parts};
 use std::alloc::Global;
 use std::process::Abort;
 
@@ -29,31 +29,58 @@ const ROWS: &[(&[&str], &[u8])] = &[
     ),
 ];
 
-/// Expects that the text begins with the line, and that nothing was read.
-fn expect_help(rt: &impl Abort, alloc: Global, words: &[&str], line: &[u8]) {
-    let ran = Run { words, ..RUN }.finish(alloc);
-    expect_first_line(rt, &ran, line);
-    assert_eq!(rt; ran.status, 0);
-    assert_eq!(rt; ran.reads, 0);
-    assert!(rt; ran.message.got().is_empty());
+/// Runs words that ask for help with this output, and expects the text and the message, and that nothing is read.
+fn expect_help(
+    rt: &impl Abort,
+    alloc: Global,
+    words: &[&str],
+    output: Taken,
+    text: Bytes<'_>,
+    message: &[u8],
+    flushes: usize,
+) {
+    let run = Run {
+        name: "help",
+        number: output.most,
+        words,
+        output,
+        ..RUN
+    };
+    let parts = Parts {
+        output: text,
+        message: Bytes::Are(message),
+        status: if message.is_empty() { 0 } else { 6 },
+        flushes: Some(flushes),
+        ..UNREAD
+    };
+    expect_parts(rt, alloc, &run, &parts);
 }
 
-/// Expects that the output begins with the line and is flushed once.
-fn expect_first_line(rt: &impl Abort, ran: &Ran, line: &[u8]) {
-    assert!(rt; ran.output.got().starts_with(line));
-    assert_eq!(rt; ran.output.flushes, 1);
+/// Expects the first line of each help, with this output and this message.
+fn expect_first_lines(rt: &impl Abort, alloc: Global, output: Taken, message: &[u8]) {
+    for (words, line) in ROWS {
+        let text = Bytes::BeginWith(*line);
+        expect_help(rt, alloc, *words, output, text, message, 1);
+    }
 }
 
 #[test]
 fn help_of_each_subcommand(rt: HostRuntime) {
-    for (words, line) in ROWS {
-        expect_help(&rt, rt.alloc(), *words, *line);
-    }
+    expect_first_lines(&rt, rt.alloc(), WHOLE, b"");
+}
+
+#[test]
+fn help_whose_flush_fails(rt: HostRuntime) {
+    let output = Taken {
+        flush_fails: true,
+        ..WHOLE
+    };
+    expect_first_lines(&rt, rt.alloc(), output, UNWRITTEN);
 }
 
 const UNWRITTEN: &[u8] = b"lotosseq: output cannot be written\n";
 
-/// Runs the words with an output that is full after `most` bytes, and expects that nothing was read.
+/// Runs the words with an output that is full after `most` bytes.
 fn expect_cut_help(
     rt: &impl Abort,
     alloc: Global,
@@ -62,27 +89,14 @@ fn expect_cut_help(
     when_full: WhenFull,
     line: &[u8],
 ) {
-    let run = Run {
-        name: "help",
-        number: most,
-        words,
-        output: Taken {
-            piece: 5,
-            most,
-            when_full,
-            ..WHOLE
-        },
-        ..RUN
+    let output = Taken {
+        piece: 5,
+        most,
+        when_full,
+        ..WHOLE
     };
-    let ran = run.finish(alloc);
-    let outcome = Outcome {
-        output: &line[..most.min(line.len())],
-        message: UNWRITTEN,
-        status: 6,
-        flushes: 0,
-    };
-    expect_outcome(rt, &run, &ran, &outcome);
-    assert_eq!(rt; ran.reads, 0, "after {most}");
+    let text = Bytes::Are(&line[..most.min(line.len())]);
+    expect_help(rt, alloc, words, output, text, UNWRITTEN, 0);
 }
 
 #[test]
@@ -101,28 +115,5 @@ fn version_that_cannot_be_written(rt: HostRuntime) {
     let words = ["lotosseq", "-V"].as_slice();
     for most in 0..line.len() {
         expect_cut_help(&rt, rt.alloc(), words, most, WhenFull::Fails, line);
-    }
-}
-
-/// Runs the words with an output that cannot be flushed.
-fn expect_unflushed_help(rt: &impl Abort, alloc: Global, words: &[&str], line: &[u8]) {
-    let run = Run {
-        words,
-        output: Taken {
-            flush_fails: true,
-            ..WHOLE
-        },
-        ..RUN
-    };
-    let ran = run.finish(alloc);
-    expect_first_line(rt, &ran, line);
-    assert_eq!(rt; ran.message.got(), UNWRITTEN);
-    assert_eq!(rt; ran.status, 6);
-}
-
-#[test]
-fn help_whose_flush_fails(rt: HostRuntime) {
-    for (words, line) in ROWS {
-        expect_unflushed_help(&rt, rt.alloc(), *words, *line);
     }
 }

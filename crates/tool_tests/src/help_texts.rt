@@ -1,32 +1,18 @@
 //! The whole help of the program and of each command, and the version.
 
-use super::runs::{RUN, Run};
+use super::runs::{Outcome, RUN, Run, expect};
 use std::alloc::Global;
 use std::process::Abort;
 
-/// Runs the words, and expects this text, no message and status 0.
+/// Runs the words, and expects this text, no message, status 0 and one flush.
 fn expect_text(rt: &impl Abort, alloc: Global, words: &[&str], text: &str) {
-    let ran = Run { words, ..RUN }.finish(alloc);
-    assert_eq!(rt; ran.message.got(), b"".as_slice());
-    assert_eq!(rt; ran.status, 0);
-    let same = shared_length(ran.output.got(), text.as_bytes());
-    assert_eq!(rt;
-        ran.output.got(),
-        text.as_bytes(),
-        "other bytes after the first {same}"
-    );
-}
-
-/// The length of the longest text with which both begin.
-fn shared_length(one: &[u8], other: &[u8]) -> usize {
-    let mut length: usize = 0;
-    for (left, right) in one.iter().zip(other) {
-        if *left != *right {
-            return length;
-        }
-        length = length.saturating_add(1);
-    }
-    length
+    let outcome = Outcome {
+        output: text.as_bytes(),
+        message: b"",
+        status: 0,
+        flushes: 1,
+    };
+    expect(rt, alloc, &Run { words, ..RUN }, &outcome);
 }
 
 /// `lotosseq --help`

@@ -1,6 +1,6 @@
 //! A complete run of the program with words that fit no command.
 
-use super::runs::{Run, SINGLE_BYTES};
+use super::runs::{Run, SINGLE_BYTES, UNREAD, expect_parts};
 
 #[test]
 fn words_that_fit_no_command_touch_neither_input_nor_output(rt: HostRuntime) {
@@ -9,9 +9,5 @@ fn words_that_fit_no_command_touch_neither_input_nor_output(rt: HostRuntime) {
         text: b"specification S: noexit behaviour stop endspec",
         ..SINGLE_BYTES
     };
-    let ran = run.finish(rt.alloc());
-    assert_ne!(rt; ran.status, 0);
-    assert_eq!(rt; ran.reads, 0);
-    assert!(rt; ran.output.got().is_empty());
-    assert_eq!(rt; ran.output.flushes, 0);
+    expect_parts(&rt, rt.alloc(), &run, &UNREAD);
 }

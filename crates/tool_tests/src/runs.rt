@@ -152,7 +152,7 @@ pub fn expect(rt: &impl Abort, alloc: Global, run: &Run<'_>, outcome: &Outcome<'
 }
 
 /// Expects that the run has ended so.
-pub fn expect_outcome(rt: &impl Abort, run: &Run<'_>, ran: &Ran, outcome: &Outcome<'_>) {
+fn expect_outcome(rt: &impl Abort, run: &Run<'_>, ran: &Ran, outcome: &Outcome<'_>) {
     let (name, number) = (run.name, run.number);
     assert_eq!(rt; ran.output.got(), outcome.output, "{name}, {number}");
     assert_eq!(rt; ran.message.got(), outcome.message, "{name}, {number}");
@@ -160,17 +160,98 @@ pub fn expect_outcome(rt: &impl Abort, run: &Run<'_>, ran: &Ran, outcome: &Outco
     assert_eq!(rt; ran.output.flushes, outcome.flushes, "{name}, {number}");
 }
 
+/// What is expected of bytes that are written.
+#[derive(Clone, Copy)]
+pub enum Bytes<'a> {
+    /// They are these.
+    Are(&'a [u8]),
+    /// They are the first ones and then the second ones.
+    Join(&'a [u8], &'a [u8]),
+    /// They begin with these.
+    BeginWith(&'a [u8]),
+    /// They are the first of these.
+    Begin(&'a [u8]),
+    /// There is at least one.
+    AtLeastOne,
+    /// There are at most so many.
+    AtMost(usize),
+}
+
+impl Bytes<'_> {
+    /// Whether the bytes are expected.
+    fn fit(&self, got: &[u8]) -> bool {
+        match self {
+            Bytes::Are(text) => got == *text,
+            Bytes::Join(front, back) => is_joined(got, front, back),
+            Bytes::BeginWith(text) => got.starts_with(text),
+            Bytes::Begin(text) => text.starts_with(got),
+            Bytes::AtLeastOne => !got.is_empty(),
+            Bytes::AtMost(count) => got.len() <= *count,
+        }
+    }
+}
+
+/// Whether the bytes are the first ones and then the second ones.
+fn is_joined(got: &[u8], front: &[u8], back: &[u8]) -> bool {
+    got.starts_with(front) && &got[front.len().min(got.len())..] == back
+}
+
+/// What is expected of a run in part: what it writes, its status, and how often it reads and flushes the output.
+#[derive(Clone, Copy)]
+pub struct Parts<'a> {
+    pub output: Bytes<'a>,
+    pub message: Bytes<'a>,
+    pub status: u8,
+    pub reads: Option<usize>,
+    pub flushes: Option<usize>,
+}
+
+/// No output, any message, status 2, nothing read and no flush.
+pub const UNREAD: Parts<'static> = Parts {
+    output: Bytes::Are(b""),
+    message: Bytes::AtLeastOne,
+    status: 2,
+    reads: Some(0),
+    flushes: Some(0),
+};
+
+/// Runs the command, and expects this in part.
+pub fn expect_parts(rt: &impl Abort, alloc: Global, run: &Run<'_>, parts: &Parts<'_>) {
+    let ran = run.finish(alloc);
+    expect_ended(rt, run, &ran, parts);
+}
+
+/// Expects that the run has ended so.
+fn expect_ended(rt: &impl Abort, run: &Run<'_>, ran: &Ran, parts: &Parts<'_>) {
+    let (name, number) = (run.name, run.number);
+    assert!(rt;
+        parts.output.fit(ran.output.got()),
+        "output of {name}, {number}"
+    );
+    assert!(rt;
+        parts.message.fit(ran.message.got()),
+        "message of {name}, {number}"
+    );
+    assert_eq!(rt; ran.status, parts.status, "{name}, {number}");
+    assert_eq!(rt;
+        ran.reads,
+        parts.reads.unwrap_or(ran.reads),
+        "{name}, {number}"
+    );
+    assert_eq!(rt;
+        ran.output.flushes,
+        parts.flushes.unwrap_or(ran.output.flushes),
+        "{name}, {number}"
+    );
+}
+
 /// Runs the command, and expects that it is refused with this message, and status 2, before anything is read.
 pub fn expect_refused_unread(rt: &impl Abort, alloc: Global, run: &Run<'_>, message: &[u8]) {
-    let ran = run.finish(alloc);
-    let outcome = Outcome {
-        output: b"",
-        message,
-        status: 2,
-        flushes: 0,
+    let parts = Parts {
+        message: Bytes::Are(message),
+        ..UNREAD
     };
-    expect_outcome(rt, run, &ran, &outcome);
-    assert_eq!(rt; ran.reads, 0, "{}, {}", run.name, run.number);
+    expect_parts(rt, alloc, run, &parts);
 }
 
 /// Runs the command with an output that is full after `most` bytes, and expects that it stops there with this message.

@@ -1,10 +1,9 @@
 //! Complete runs of searches, of help, and of words that fit no command: the output, the message, and the status.
 
 use super::expected_output::repeated_words;
-use super::memory_devices::ArrayWriter;
 use super::runs::{
-    Outcome, RUN, Ran, Run, SINGLE, SINGLE_BYTES, Taken, WHOLE, expect, expect_broken,
-    expect_outcome, expect_refused_unread, expect_unflushed, expect_unreadable,
+    Bytes, Outcome, Parts, RUN, Run, SINGLE, SINGLE_BYTES, Taken, UNREAD, WHOLE, expect,
+    expect_broken, expect_parts, expect_refused_unread, expect_unflushed, expect_unreadable,
 };
 use std::alloc::{AllocError, Global};
 use std::process::Abort;
@@ -367,16 +366,23 @@ fn expect_elements(
         text: b"specification S [a] : noexit behaviour a; stop endspec",
         ..RUN
     };
+    if status == 2 {
+        expect_refused_unread(rt, alloc, &run, message);
+    } else {
+        expect_searched(rt, alloc, &run, message, status);
+    }
+    Ok(())
+}
+
+/// Expects that the text is read, and that no sequence is found.
+fn expect_searched(rt: &impl Abort, alloc: Global, run: &Run<'_>, message: &[u8], status: u8) {
     let outcome = Outcome {
         output: b"",
         message,
         status,
-        flushes: usize::from(status < 2),
+        flushes: 1,
     };
-    let ran = run.finish(alloc);
-    expect_outcome(rt, &run, &ran, &outcome);
-    assert_eq!(rt; ran.reads == 0, status == 2, "{count}");
-    Ok(())
+    expect(rt, alloc, run, &outcome);
 }
 
 #[test]
@@ -476,28 +482,20 @@ const HELP: &[&[&str]] = &[
 
 #[test]
 fn help_goes_to_the_output(rt: HostRuntime) {
+    let parts = Parts {
+        output: Bytes::AtLeastOne,
+        message: Bytes::Are(b""),
+        status: 0,
+        flushes: Some(1),
+        ..UNREAD
+    };
     for words in HELP {
         let run = Run {
             words: *words,
             ..RUN
         };
-        let ran = run.finish(rt.alloc());
-        expect_written(&rt, &ran.message, &ran.output);
-        expect_unread(&rt, &ran, 0, 1);
+        expect_parts(&rt, rt.alloc(), &run, &parts);
     }
-}
-
-/// Expects that the one writer has got nothing, and the other something.
-fn expect_written(rt: &impl Abort, empty: &ArrayWriter, filled: &ArrayWriter) {
-    assert!(rt; empty.got().is_empty());
-    assert!(rt; !filled.got().is_empty());
-}
-
-/// Expects that the run has read nothing, and has this status and so many flushes.
-fn expect_unread(rt: &impl Abort, ran: &Ran, status: u8, flushes: usize) {
-    assert_eq!(rt; ran.reads, 0);
-    assert_eq!(rt; ran.status, status);
-    assert_eq!(rt; ran.output.flushes, flushes);
 }
 
 /// Words that fit no command.
@@ -536,8 +534,6 @@ fn command_faults(rt: HostRuntime) {
             words: *words,
             ..RUN
         };
-        let ran = run.finish(rt.alloc());
-        expect_written(&rt, &ran.output, &ran.message);
-        expect_unread(&rt, &ran, 2, 0);
+        expect_parts(&rt, rt.alloc(), &run, &UNREAD);
     }
 }
