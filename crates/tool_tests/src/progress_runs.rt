@@ -5,8 +5,8 @@ use super::memory_devices::{ArrayWriter, SliceReader};
 use super::runs::{RUN, Ran, Run, Taken, WHOLE};
 use lotos_device::{FromRead, FromWrite};
 use lotos_tool::{
-    EverRequest, OutputProgress, Progress, Request, SearchRequest, ever_with_progress,
-    list_with_progress, request, run_args_with_terminal,
+    EverRequest, OutputProgress, Progress, Request, ever_with_progress, list_with_progress,
+    request, run_args_with_terminal,
 };
 use std::alloc::{AllocError, Global};
 use std::io::{Error, ErrorKind};
@@ -249,13 +249,6 @@ impl OutputProgress for Counter {
     }
 }
 
-/// Lists the sequences of one gate.
-fn search_observed(alloc: Global, search: &SearchRequest, counter: &mut Counter) {
-    let mut reader = FromRead::new(SliceReader::new(ONE_GATE, 4096));
-    let mut out = FromWrite::new(ArrayWriter::new(4096));
-    let _ = list_with_progress(alloc, search, &mut reader, &mut out, counter);
-}
-
 /// Searches the two sequences for a match.
 fn ever_observed(
     alloc: Global,
@@ -280,27 +273,18 @@ fn observe(alloc: Global, words: &[&str]) -> Result<Counter, AllocError> {
         visits: 0,
         lines: 0,
     };
-    if let Ok(asked) = request(alloc, words) {
-        observe_request(alloc, &asked, &mut counter)?;
+    match request(alloc, words) {
+        Ok(Request::Search(search)) => {
+            let mut reader = FromRead::new(SliceReader::new(ONE_GATE, 4096));
+            let mut out = FromWrite::new(ArrayWriter::new(4096));
+            let _ = list_with_progress(alloc, &search, &mut reader, &mut out, &mut counter);
+        }
+        Ok(Request::Ever(question)) => ever_observed(alloc, &question, &mut counter)?,
+        Ok(Request::Check) => {}
+        Ok(Request::Diagnose(_asked)) => {}
+        Err(_fault) => {}
     }
     Ok(counter)
-}
-
-/// Does what the request asks for, if it is a search.
-fn observe_request(
-    alloc: Global,
-    asked: &Request,
-    counter: &mut Counter,
-) -> Result<(), AllocError> {
-    match asked {
-        Request::Search(search) => {
-            search_observed(alloc, search, counter);
-            Ok(())
-        }
-        Request::Ever(question) => ever_observed(alloc, question, counter),
-        Request::Check => Ok(()),
-        Request::Diagnose(_asked) => Ok(()),
-    }
 }
 
 /// Asserts what an observer of the command is told.
