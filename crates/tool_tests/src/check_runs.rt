@@ -283,7 +283,7 @@ const TEXT: &[u8] =
 const LINE: &[u8] = b"P 0 noexit\n";
 
 /// A run that writes the line.
-const CHECKED: Run<'static> = Run {
+const CHECKED: Run<'static, 'static> = Run {
     name: "a check",
     words: CHECK,
     text: TEXT,

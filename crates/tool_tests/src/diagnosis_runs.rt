@@ -104,14 +104,14 @@ const MISTAKES: &[(&str, &[u8], &[u8], &[u8])] = &[
 
 /// Runs the words on a text that is refused, and expects the message with the explanation after it, no output and no
 /// flush.
-fn expect_refusal(
+fn expect_refusal<'a>(
     rt: &impl Abort,
     alloc: Global,
-    name: &str,
-    words: &[&str],
-    text: &[u8],
-    message: &[u8],
-    explanation: &[u8],
+    name: &'a str,
+    words: &'a [&'a str],
+    text: &'a [u8],
+    message: &'a [u8],
+    explanation: &'a [u8],
 ) {
     let run = Run {
         name,
@@ -132,7 +132,7 @@ fn expect_refusal(
 }
 
 /// Expects that each mistake is refused, and is explained or not.
-fn expect_mistakes(rt: &impl Abort, alloc: Global, words: &[&str], explains: bool) {
+fn expect_mistakes(rt: &impl Abort, alloc: Global, words: &'static [&'static str], explains: bool) {
     for (name, text, message, explanation) in MISTAKES {
         let explained: &[u8] = if explains { *explanation } else { b"" };
         expect_refusal(rt, alloc, *name, words, *text, *message, explained);
@@ -156,7 +156,7 @@ const TEXT: &[u8] =
 const LINE: &[u8] = b"P 1 noexit\n";
 
 /// A run that writes the line.
-const CHECKED: Run<'static> = Run {
+const CHECKED: Run<'static, 'static> = Run {
     name: "a check",
     words: WARN,
     text: TEXT,

@@ -2,8 +2,8 @@
 
 use super::expected_output::{expect_output, repeated, repeated_words};
 use super::runs::{
-    Outcome, RUN, Run, SINGLE, SINGLE_BYTES, Taken, WHOLE, expect, expect_broken,
-    expect_refused_unread, expect_unflushed, expect_unreadable,
+    Outcome, RUN, Run, SINGLE, Taken, WHOLE, expect, expect_broken, expect_refused_words,
+    expect_unflushed, expect_unreadable,
 };
 use std::alloc::{AllocError, Global};
 use std::process::Abort;
@@ -275,12 +275,7 @@ const PATTERNS: &[(&[&str], &[u8])] = &[
 #[test]
 fn words_are_refused_first(rt: HostRuntime) {
     for (words, message) in PATTERNS {
-        let run = Run {
-            name: "a pattern",
-            words: *words,
-            ..SINGLE_BYTES
-        };
-        expect_refused_unread(&rt, rt.alloc(), &run, *message);
+        expect_refused_words(&rt, rt.alloc(), "a pattern", *words, *message);
     }
 }
 
@@ -289,7 +284,7 @@ const WORDS: &[&str] = &["lotosseq", "ever", "--explain", "<until>", "B"];
 const LINE: &[u8] = b"A B : A B\n";
 
 /// A run that writes the line.
-const MATCHED: Run<'static> = Run {
+const MATCHED: Run<'static, 'static> = Run {
     name: "a match",
     words: WORDS,
     text: BUFFER,

@@ -74,7 +74,8 @@ pub fn expect_message(
         reads: None,
         flushes: None,
     };
-    expect_parts(rt, alloc, &Run { words, text, ..RUN }, &parts);
+    let run = Run { words, text, ..RUN };
+    expect_parts(rt, alloc, &run, &parts);
 }
 
 /// The bytes `front`, then `part` so many times, then `back`.

@@ -32,10 +32,10 @@ const ALL_WITH_PROGRESS: &[&str] = &[
 
 /// Asserts the messages of a run, with a terminal and without one, and that its output and its status are those of
 /// the same run without progress.
-fn assert_reports(
+fn assert_reports<'a>(
     rt: &impl Abort,
     alloc: Global,
-    words: (&[&str], &[&str]),
+    words: (&'a [&'a str], &'a [&'a str]),
     text: &[u8],
     flush_fails: bool,
     expected: (&[u8], &[u8], u8),
@@ -64,7 +64,7 @@ fn assert_report(
     rt: &impl Abort,
     alloc: Global,
     plain: &Ran,
-    run: &Run<'_>,
+    run: &Run<'_, '_>,
     terminal: bool,
     messages: &[u8],
 ) {
@@ -215,7 +215,7 @@ fn assert_unchanged(rt: &impl Abort, alloc: Global, plain: &Ran, most: usize, te
 }
 
 /// The listing without progress.
-const LISTED: Run<'static> = Run {
+const LISTED: Run<'static, 'static> = Run {
     words: ALL,
     text: ONE_GATE,
     ..RUN

@@ -30,13 +30,13 @@ pub const SINGLE: Taken = Taken { piece: 1, ..WHOLE };
 
 /// A run: its words, its text, and how its devices move bytes and fail.
 #[derive(Clone, Copy)]
-pub struct Run<'a> {
+pub struct Run<'a, 'b> {
     /// What is tested.
     pub name: &'a str,
     /// Which of the runs with this name it is.
     pub number: usize,
     pub words: &'a [&'a str],
-    pub text: &'a [u8],
+    pub text: &'b [u8],
     /// The most bytes that a read moves.
     pub piece: usize,
     /// The number of the read that fails, counted from 1.
@@ -46,7 +46,7 @@ pub struct Run<'a> {
 }
 
 /// A run without words over the empty text, whose devices do not fail.
-pub const RUN: Run<'static> = Run {
+pub const RUN: Run<'static, 'static> = Run {
     name: "",
     number: 0,
     words: &[],
@@ -58,7 +58,7 @@ pub const RUN: Run<'static> = Run {
 };
 
 /// A run without words whose devices move one byte per call.
-pub const SINGLE_BYTES: Run<'static> = Run {
+pub const SINGLE_BYTES: Run<'static, 'static> = Run {
     text: b"specification",
     piece: 1,
     output: SINGLE,
@@ -92,7 +92,7 @@ pub struct Ran {
     pub status: u8,
 }
 
-impl Run<'_> {
+impl Run<'_, '_> {
     /// Runs the command.
     pub fn finish(&self, alloc: Global) -> Ran {
         let reader = self.reader();
@@ -146,13 +146,13 @@ fn writer(taken: Taken) -> ArrayWriter {
 }
 
 /// Runs the command, and expects this outcome.
-pub fn expect(rt: &impl Abort, alloc: Global, run: &Run<'_>, outcome: &Outcome<'_>) {
+pub fn expect(rt: &impl Abort, alloc: Global, run: &Run<'_, '_>, outcome: &Outcome<'_>) {
     let ran = run.finish(alloc);
     expect_outcome(rt, run, &ran, outcome);
 }
 
 /// Expects that the run has ended so.
-fn expect_outcome(rt: &impl Abort, run: &Run<'_>, ran: &Ran, outcome: &Outcome<'_>) {
+fn expect_outcome(rt: &impl Abort, run: &Run<'_, '_>, ran: &Ran, outcome: &Outcome<'_>) {
     let (name, number) = (run.name, run.number);
     assert_eq!(rt; ran.output.got(), outcome.output, "{name}, {number}");
     assert_eq!(rt; ran.message.got(), outcome.message, "{name}, {number}");
@@ -216,13 +216,13 @@ pub const UNREAD: Parts<'static> = Parts {
 };
 
 /// Runs the command, and expects this in part.
-pub fn expect_parts(rt: &impl Abort, alloc: Global, run: &Run<'_>, parts: &Parts<'_>) {
+pub fn expect_parts(rt: &impl Abort, alloc: Global, run: &Run<'_, '_>, parts: &Parts<'_>) {
     let ran = run.finish(alloc);
     expect_ended(rt, run, &ran, parts);
 }
 
 /// Expects that the run has ended so.
-fn expect_ended(rt: &impl Abort, run: &Run<'_>, ran: &Ran, parts: &Parts<'_>) {
+fn expect_ended(rt: &impl Abort, run: &Run<'_, '_>, ran: &Ran, parts: &Parts<'_>) {
     let (name, number) = (run.name, run.number);
     assert!(rt;
         parts.output.fit(ran.output.got()),
@@ -246,7 +246,7 @@ fn expect_ended(rt: &impl Abort, run: &Run<'_>, ran: &Ran, parts: &Parts<'_>) {
 }
 
 /// Runs the command, and expects that it is refused with this message, and status 2, before anything is read.
-pub fn expect_refused_unread(rt: &impl Abort, alloc: Global, run: &Run<'_>, message: &[u8]) {
+pub fn expect_refused_unread(rt: &impl Abort, alloc: Global, run: &Run<'_, '_>, message: &[u8]) {
     let parts = Parts {
         message: Bytes::Are(message),
         ..UNREAD
@@ -254,11 +254,27 @@ pub fn expect_refused_unread(rt: &impl Abort, alloc: Global, run: &Run<'_>, mess
     expect_parts(rt, alloc, run, &parts);
 }
 
+/// The same for these words, over devices that move one byte per call.
+pub fn expect_refused_words<'a>(
+    rt: &impl Abort,
+    alloc: Global,
+    name: &'a str,
+    words: &'a [&'a str],
+    message: &[u8],
+) {
+    let run = Run {
+        name,
+        words,
+        ..SINGLE_BYTES
+    };
+    expect_refused_unread(rt, alloc, &run, message);
+}
+
 /// Runs the command with an output that is full after `most` bytes, and expects that it stops there with this message.
 pub fn expect_broken(
     rt: &impl Abort,
     alloc: Global,
-    run: &Run<'_>,
+    run: &Run<'_, '_>,
     most: usize,
     output: &[u8],
     message: &[u8],
@@ -279,7 +295,7 @@ pub fn expect_broken(
 fn expect_full(
     rt: &impl Abort,
     alloc: Global,
-    run: &Run<'_>,
+    run: &Run<'_, '_>,
     most: usize,
     when_full: WhenFull,
     output: &[u8],
@@ -307,7 +323,7 @@ fn expect_full(
 pub fn expect_unflushed(
     rt: &impl Abort,
     alloc: Global,
-    run: &Run<'_>,
+    run: &Run<'_, '_>,
     output: &[u8],
     message: &[u8],
 ) {
@@ -328,7 +344,7 @@ pub fn expect_unflushed(
 }
 
 /// Runs the command with a reader whose read with this number fails, and expects that the text is refused as unreadable.
-pub fn expect_unreadable(rt: &impl Abort, alloc: Global, run: &Run<'_>, number: usize) {
+pub fn expect_unreadable(rt: &impl Abort, alloc: Global, run: &Run<'_, '_>, number: usize) {
     let unreadable = Run {
         number,
         failing_read: Some(number),

@@ -3,7 +3,8 @@
 use super::expected_output::repeated_words;
 use super::runs::{
     Bytes, Outcome, Parts, RUN, Run, SINGLE, SINGLE_BYTES, Taken, UNREAD, WHOLE, expect,
-    expect_broken, expect_parts, expect_refused_unread, expect_unflushed, expect_unreadable,
+    expect_broken, expect_parts, expect_refused_unread, expect_refused_words, expect_unflushed,
+    expect_unreadable,
 };
 use std::alloc::{AllocError, Global};
 use std::process::Abort;
@@ -286,12 +287,7 @@ const PATTERNS: &[(&[&str], &[u8])] = &[
 #[test]
 fn patterns_that_are_refused_before_anything_is_read(rt: HostRuntime) {
     for (words, message) in PATTERNS {
-        let run = Run {
-            name: "a pattern",
-            words: *words,
-            ..SINGLE_BYTES
-        };
-        expect_refused_unread(&rt, rt.alloc(), &run, *message);
+        expect_refused_words(&rt, rt.alloc(), "a pattern", *words, *message);
     }
 }
 
@@ -318,19 +314,10 @@ const NO_LINES: &[&str] = &[
 ];
 
 /// Expects that the line is refused as a mark.
-fn expect_no_mark(rt: &impl Abort, alloc: Global, line: &str) {
+fn expect_no_mark(rt: &impl Abort, alloc: Global, line: &'static str) {
     let words = ["lotosseq", "search", "--depth", "1", "--after", line, "A"];
-    let run = Run {
-        name: line,
-        words: words.as_slice(),
-        ..SINGLE_BYTES
-    };
-    expect_refused_unread(
-        rt,
-        alloc,
-        &run,
-        b"lotosseq: E46 mark is no line of a listing\n",
-    );
+    let message = b"lotosseq: E46 mark is no line of a listing\n";
+    expect_refused_words(rt, alloc, line, words.as_slice(), message);
 }
 
 #[test]
@@ -375,7 +362,7 @@ fn expect_elements(
 }
 
 /// Expects that the text is read, and that no sequence is found.
-fn expect_searched(rt: &impl Abort, alloc: Global, run: &Run<'_>, message: &[u8], status: u8) {
+fn expect_searched(rt: &impl Abort, alloc: Global, run: &Run<'_, '_>, message: &[u8], status: u8) {
     let outcome = Outcome {
         output: b"",
         message,
@@ -404,7 +391,7 @@ const WORDS: &[&str] = &["lotosseq", "search", "--depth", "3", "A", "B", "exit"]
 const LINE: &[u8] = b"A B exit\n";
 
 /// A run that writes the line.
-const LISTED: Run<'static> = Run {
+const LISTED: Run<'static, 'static> = Run {
     name: "a listing",
     words: WORDS,
     text: TEXT,

@@ -1,7 +1,7 @@
 //! Bytes that are not ASCII or begin no token, in texts, in comments, in patterns and in marks.
 
 use super::super::expected_output::repeated;
-use super::super::runs::{Run, SINGLE_BYTES, expect_refused_unread};
+use super::super::runs::expect_refused_words;
 use super::{Answer, NOTHING, SEARCH, expect, expect_refused};
 use std::alloc::{AllocError, Global};
 use std::process::Abort;
@@ -94,30 +94,20 @@ const FOREIGN_NAMES: &[&str] = &[
     "A\0",
 ];
 
-/// Expects that the words are refused with this message before anything is read.
-fn expect_unread(rt: &impl Abort, alloc: Global, name: &str, words: &[&str], message: &[u8]) {
-    let run = Run {
-        name,
-        words,
-        ..SINGLE_BYTES
-    };
-    expect_refused_unread(rt, alloc, &run, message);
-}
-
 /// Expects that the name is no word of a pattern.
-fn expect_no_word(rt: &impl Abort, alloc: Global, name: &str) {
+fn expect_no_word(rt: &impl Abort, alloc: Global, name: &'static str) {
     let words = ["lotosseq", "search", "--depth", "1", name];
-    expect_unread(rt, alloc, name, words.as_slice(), NO_WORD);
+    expect_refused_words(rt, alloc, name, words.as_slice(), NO_WORD);
     let words = ["lotosseq", "search", "--depth", "1", "--strong", name];
-    expect_unread(rt, alloc, name, words.as_slice(), NO_WORD);
+    expect_refused_words(rt, alloc, name, words.as_slice(), NO_WORD);
 }
 
 const NO_WORD: &[u8] = b"lotosseq: E41 word 1 is neither a label nor an element\n";
 
 /// Expects that the name is no label after the element.
-fn expect_no_label(rt: &impl Abort, alloc: Global, element: &str, name: &str) {
+fn expect_no_label(rt: &impl Abort, alloc: Global, element: &'static str, name: &'static str) {
     let words = ["lotosseq", "search", "--depth", "1", element, name];
-    expect_unread(
+    expect_refused_words(
         rt,
         alloc,
         name,
@@ -139,7 +129,7 @@ fn letters_that_are_no_ascii_are_no_words_of_a_pattern(rt: HostRuntime) {
 fn letters_that_are_no_ascii_are_no_lines_of_a_listing(rt: HostRuntime) {
     for name in FOREIGN_NAMES {
         let words = ["lotosseq", "search", "--depth", "1", "--after", *name, "A"];
-        expect_unread(
+        expect_refused_words(
             &rt,
             rt.alloc(),
             *name,
