@@ -1,6 +1,11 @@
 //! Complete runs of `check`: the lines of the processes, and the faults of specifications, which a search reports too.
 
-use super::memory_devices::{ArrayWriter, SliceReader, WhenFull, run_on};
+use super::runs::{
+    Outcome, RUN, Run, SINGLE, Taken, WHOLE, expect, expect_broken, expect_unflushed,
+    expect_unreadable,
+};
+use std::alloc::Global;
+use std::process::Abort;
 
 const CHECK: &[&str] = &["lotosseq", "check"];
 
@@ -202,35 +207,73 @@ const REFUSED: &[(&str, &[u8], &[u8])] = &[
     ),
 ];
 
+/// Expects the lines of a check whose devices move so many bytes.
+fn expect_lines(
+    rt: &impl Abort,
+    alloc: Global,
+    name: &str,
+    text: &[u8],
+    output: &[u8],
+    piece: usize,
+) {
+    let pieces = Taken { piece, ..WHOLE };
+    let run = Run {
+        name,
+        number: piece,
+        words: CHECK,
+        text,
+        piece,
+        output: pieces,
+        message: pieces,
+        ..RUN
+    };
+    let outcome = Outcome {
+        output,
+        message: b"",
+        status: 0,
+        flushes: 1,
+    };
+    expect(rt, alloc, &run, &outcome);
+}
+
 #[test]
 fn lists_processes(rt: HostRuntime) {
     for (name, text, output) in ACCEPTED {
         for piece in [1usize, 7, 4096] {
-            let reader = SliceReader::new(*text, piece);
-            let out = ArrayWriter::new(piece);
-            let err = ArrayWriter::new(piece);
-            let (status, _reader, out, err) = run_on(rt.alloc(), CHECK, reader, out, err);
-            assert_eq!(rt; out.got(), *output, "{name}");
-            assert!(rt; err.got().is_empty(), "{name}");
-            assert_eq!(rt; status, 0, "{name}");
-            assert_eq!(rt; out.flushes, 1, "{name}");
+            expect_lines(&rt, rt.alloc(), *name, *text, *output, piece);
         }
     }
+}
+
+/// Expects that the words refuse the text with the message.
+fn expect_fault(
+    rt: &impl Abort,
+    alloc: Global,
+    name: &str,
+    words: &[&str],
+    text: &[u8],
+    message: &[u8],
+) {
+    let run = Run {
+        name,
+        words,
+        text,
+        ..RUN
+    };
+    let outcome = Outcome {
+        output: b"",
+        message,
+        status: 2,
+        flushes: 0,
+    };
+    expect(rt, alloc, &run, &outcome);
 }
 
 #[test]
 fn names_the_first_fault(rt: HostRuntime) {
     for (name, text, message) in REFUSED {
-        for words in [CHECK, SEARCH] {
-            let reader = SliceReader::new(*text, 4096);
-            let out = ArrayWriter::new(4096);
-            let err = ArrayWriter::new(4096);
-            let (status, _reader, out, err) = run_on(rt.alloc(), words, reader, out, err);
-            assert!(rt; out.got().is_empty(), "{name}");
-            assert_eq!(rt; err.got(), *message, "{name}");
-            assert_eq!(rt; status, 2, "{name}");
-            assert_eq!(rt; out.flushes, 0, "{name}");
-        }
+        expect_fault(&rt, rt.alloc(), *name, CHECK, *text, *message);
+        expect_fault(&rt, rt.alloc(), *name, SEARCH, *text, *message);
     }
 }
 
@@ -239,66 +282,43 @@ const TEXT: &[u8] =
 
 const LINE: &[u8] = b"P 0 noexit\n";
 
+/// A run that writes the line.
+const CHECKED: Run<'static, 'static> = Run {
+    name: "a check",
+    words: CHECK,
+    text: TEXT,
+    output: Taken { piece: 4, ..WHOLE },
+    message: SINGLE,
+    ..RUN
+};
+
+const UNWRITTEN: &[u8] = b"lotosseq: output cannot be written\n";
+
 #[test]
 fn the_output_fails_after_each_byte(rt: HostRuntime) {
-    for when_full in [WhenFull::Fails, WhenFull::TakesNothing] {
-        for k in 0usize..11 {
-            let reader = SliceReader::new(TEXT, 4096);
-            let mut out = ArrayWriter::new(4);
-            out.most = k;
-            out.when_full = when_full;
-            let err = ArrayWriter::new(1);
-            let (status, _reader, out, err) = run_on(rt.alloc(), CHECK, reader, out, err);
-            assert_eq!(rt; out.got(), &LINE[..k], "after {k}");
-            assert_eq!(rt;
-                err.got(),
-                b"lotosseq: output cannot be written\n".as_slice(),
-                "after {k}"
-            );
-            assert_eq!(rt; status, 6, "after {k}");
-            assert_eq!(rt; out.flushes, 0, "after {k}");
-        }
+    for most in 0usize..11 {
+        expect_broken(&rt, rt.alloc(), &CHECKED, most, LINE, UNWRITTEN);
     }
 }
 
 #[test]
 fn a_flush_that_fails_is_a_failed_write(rt: HostRuntime) {
-    for (text, line) in [
-        (TEXT, LINE),
-        (
-            b"specification S : noexit behaviour stop endspec".as_slice(),
-            b"".as_slice(),
-        ),
-    ] {
-        let reader = SliceReader::new(text, 4096);
-        let mut out = ArrayWriter::new(4096);
-        out.flush_fails = true;
-        let err = ArrayWriter::new(4096);
-        let (status, _reader, out, err) = run_on(rt.alloc(), CHECK, reader, out, err);
-        assert_eq!(rt; out.got(), line);
-        assert_eq!(rt;
-            err.got(),
-            b"lotosseq: output cannot be written\n".as_slice()
-        );
-        assert_eq!(rt; status, 6);
-        assert_eq!(rt; out.flushes, 1);
-    }
+    expect_unflushed(&rt, rt.alloc(), &CHECKED, LINE, UNWRITTEN);
+    let empty = Run {
+        text: b"specification S : noexit behaviour stop endspec",
+        ..CHECKED
+    };
+    expect_unflushed(&rt, rt.alloc(), &empty, b"", UNWRITTEN);
 }
 
 #[test]
 fn each_read_fails_in_turn(rt: HostRuntime) {
-    for k in 1usize..30 {
-        let mut reader = SliceReader::new(TEXT, 3);
-        reader.fails_at = Some(k);
-        let out = ArrayWriter::new(1);
-        let err = ArrayWriter::new(1);
-        let (status, _reader, out, err) = run_on(rt.alloc(), CHECK, reader, out, err);
-        assert_eq!(rt;
-            err.got(),
-            b"lotosseq: E47 input cannot be read\n".as_slice(),
-            "at {k}"
-        );
-        assert_eq!(rt; status, 2, "at {k}");
-        assert!(rt; out.got().is_empty(), "at {k}");
+    let run = Run {
+        piece: 3,
+        output: SINGLE,
+        ..CHECKED
+    };
+    for number in 1usize..30 {
+        expect_unreadable(&rt, rt.alloc(), &run, number);
     }
 }

@@ -1,7 +1,10 @@
 //! Complete runs of `check` with `--explain` and `--warn`: the lines of the processes, the message and the explanation.
 
 use super::expected_output::expect_message;
-use super::memory_devices::{ArrayWriter, SliceReader, run_on};
+use super::runs::{
+    Bytes, Outcome, Parts, RUN, Run, Taken, WHOLE, expect, expect_broken, expect_parts,
+    expect_unflushed, expect_unreadable,
+};
 use std::alloc::{AllocError, Global};
 use std::process::Abort;
 
@@ -101,48 +104,50 @@ const MISTAKES: &[(&str, &[u8], &[u8], &[u8])] = &[
 
 /// Runs the words on a text that is refused, and expects the message with the explanation after it, no output and no
 /// flush.
-fn expect_refusal(
+fn expect_refusal<'a>(
     rt: &impl Abort,
     alloc: Global,
-    name: &str,
-    words: &[&str],
-    text: &[u8],
-    message: &[u8],
-    explanation: &[u8],
+    name: &'a str,
+    words: &'a [&'a str],
+    text: &'a [u8],
+    message: &'a [u8],
+    explanation: &'a [u8],
 ) {
-    let reader = SliceReader::new(text, 3);
-    let out = ArrayWriter::new(4096);
-    let err = ArrayWriter::new(7);
-    let (status, _reader, out, err) = run_on(alloc, words, reader, out, err);
-    let (front, after) = err.got().split_at(message.len().min(err.got().len()));
-    assert_eq!(rt; front, message, "{name}");
-    assert_eq!(rt; after, explanation, "{name}");
-    assert_eq!(rt; status, 2, "{name}");
-    assert_eq!(rt; out.got(), b"".as_slice(), "{name}");
-    assert_eq!(rt; out.flushes, 0, "{name}");
+    let run = Run {
+        name,
+        words,
+        text,
+        piece: 3,
+        message: Taken { piece: 7, ..WHOLE },
+        ..RUN
+    };
+    let parts = Parts {
+        output: Bytes::Are(b""),
+        message: Bytes::Join(message, explanation),
+        status: 2,
+        reads: None,
+        flushes: Some(0),
+    };
+    expect_parts(rt, alloc, &run, &parts);
+}
+
+/// Expects that each mistake is refused, and is explained or not.
+fn expect_mistakes(rt: &impl Abort, alloc: Global, words: &'static [&'static str], explains: bool) {
+    for (name, text, message, explanation) in MISTAKES {
+        let explained: &[u8] = if explains { *explanation } else { b"" };
+        expect_refusal(rt, alloc, *name, words, *text, *message, explained);
+    }
 }
 
 #[test]
 fn mistakes_are_explained(rt: HostRuntime) {
-    for (name, text, message, explanation) in MISTAKES {
-        expect_refusal(
-            &rt,
-            rt.alloc(),
-            name,
-            EXPLAIN,
-            *text,
-            *message,
-            *explanation,
-        );
-        expect_refusal(&rt, rt.alloc(), name, BOTH, *text, *message, *explanation);
-    }
+    expect_mistakes(&rt, rt.alloc(), EXPLAIN, true);
+    expect_mistakes(&rt, rt.alloc(), BOTH, true);
 }
 
 #[test]
 fn mistakes_are_explained_on_request_alone(rt: HostRuntime) {
-    for (name, text, message, _explanation) in MISTAKES {
-        expect_refusal(&rt, rt.alloc(), name, WARN, *text, *message, b"");
-    }
+    expect_mistakes(&rt, rt.alloc(), WARN, false);
 }
 
 const TEXT: &[u8] =
@@ -150,34 +155,38 @@ const TEXT: &[u8] =
 
 const LINE: &[u8] = b"P 1 noexit\n";
 
+/// A run that writes the line.
+const CHECKED: Run<'static, 'static> = Run {
+    name: "a check",
+    words: WARN,
+    text: TEXT,
+    ..RUN
+};
+
+const UNWRITTEN: &[u8] = b"lotosseq: output cannot be written\n";
+
 #[test]
 fn an_accepted_specification_has_no_explanation(rt: HostRuntime) {
+    let outcome = Outcome {
+        output: LINE,
+        message: b"",
+        status: 0,
+        flushes: 1,
+    };
     for words in [EXPLAIN, WARN, BOTH] {
-        let reader = SliceReader::new(TEXT, 4096);
-        let out = ArrayWriter::new(4096);
-        let err = ArrayWriter::new(4096);
-        let (status, _reader, out, err) = run_on(rt.alloc(), words, reader, out, err);
-        assert_eq!(rt; out.got(), LINE);
-        assert_eq!(rt; err.got(), b"".as_slice());
-        assert_eq!(rt; status, 0);
-        assert_eq!(rt; out.flushes, 1);
+        expect(&rt, rt.alloc(), &Run { words, ..CHECKED }, &outcome);
     }
 }
 
 #[test]
 fn input_that_cannot_be_read_has_no_explanation(rt: HostRuntime) {
     for words in [EXPLAIN, WARN] {
-        let mut reader = SliceReader::new(TEXT, 3);
-        reader.fails_at = Some(2);
-        let out = ArrayWriter::new(4096);
-        let err = ArrayWriter::new(4096);
-        let (status, _reader, out, err) = run_on(rt.alloc(), words, reader, out, err);
-        assert_eq!(rt;
-            err.got(),
-            b"lotosseq: E47 input cannot be read\n".as_slice()
-        );
-        assert_eq!(rt; out.got(), b"".as_slice());
-        assert_eq!(rt; status, 2);
+        let run = Run {
+            words,
+            piece: 3,
+            ..CHECKED
+        };
+        expect_unreadable(&rt, rt.alloc(), &run, 2);
     }
 }
 
@@ -198,36 +207,45 @@ fn a_text_that_is_too_long_is_explained(rt: HostRuntime) -> Result<(), AllocErro
 #[test]
 fn output_that_fails_has_its_message_alone(rt: HostRuntime) {
     for words in [EXPLAIN, WARN, BOTH] {
+        let run = Run {
+            words,
+            output: Taken { piece: 2, ..WHOLE },
+            ..CHECKED
+        };
         for most in 0..LINE.len() {
-            let reader = SliceReader::new(TEXT, 4096);
-            let mut out = ArrayWriter::new(2);
-            out.most = most;
-            let err = ArrayWriter::new(4096);
-            let (status, _reader, out, err) = run_on(rt.alloc(), words, reader, out, err);
-            assert_eq!(rt; out.got(), &LINE[..most], "after {most}");
-            assert_eq!(rt;
-                err.got(),
-                b"lotosseq: output cannot be written\n".as_slice(),
-                "after {most}"
-            );
-            assert_eq!(rt; status, 6, "after {most}");
-            assert_eq!(rt; out.flushes, 0, "after {most}");
+            expect_broken(&rt, rt.alloc(), &run, most, LINE, UNWRITTEN);
         }
     }
 }
 
+/// Explains a fault over an error stream that is full after `most` bytes, and expects the status.
+fn expect_cut_message(rt: &impl Abort, alloc: Global, most: usize) {
+    let run = Run {
+        name: "a message that is cut",
+        number: most,
+        words: EXPLAIN,
+        text: b"specification S [a] : noexit\nbehaviour a stop\nendspec\n",
+        message: Taken {
+            piece: 5,
+            most,
+            ..WHOLE
+        },
+        ..RUN
+    };
+    let parts = Parts {
+        output: Bytes::Are(b""),
+        message: Bytes::AtMost(most),
+        status: 2,
+        reads: None,
+        flushes: Some(0),
+    };
+    expect_parts(rt, alloc, &run, &parts);
+}
+
 #[test]
 fn messages_that_cannot_be_written_change_no_status(rt: HostRuntime) {
-    let text = b"specification S [a] : noexit\nbehaviour a stop\nendspec\n";
     for most in [0usize, 1, 41, 42, 43, 60, 100] {
-        let reader = SliceReader::new(text, 4096);
-        let out = ArrayWriter::new(4096);
-        let mut err = ArrayWriter::new(5);
-        err.most = most;
-        let (status, _reader, out, err) = run_on(rt.alloc(), EXPLAIN, reader, out, err);
-        assert_eq!(rt; status, 2, "after {most}");
-        assert_eq!(rt; out.got(), b"".as_slice(), "after {most}");
-        assert!(rt; err.got().len() <= most, "after {most}");
+        expect_cut_message(&rt, rt.alloc(), most);
     }
 }
 
@@ -269,14 +287,22 @@ fn expect_warnings(
     lines: &[u8],
     warnings: &[u8],
 ) {
-    let reader = SliceReader::new(text, 5);
-    let out = ArrayWriter::new(3);
-    let err = ArrayWriter::new(7);
-    let (status, _reader, out, err) = run_on(alloc, words, reader, out, err);
-    assert_eq!(rt; out.got(), lines, "{name}");
-    assert_eq!(rt; err.got(), warnings, "{name}");
-    assert_eq!(rt; status, 0, "{name}");
-    assert_eq!(rt; out.flushes, 1, "{name}");
+    let run = Run {
+        name,
+        words,
+        text,
+        piece: 5,
+        output: Taken { piece: 3, ..WHOLE },
+        message: Taken { piece: 7, ..WHOLE },
+        ..RUN
+    };
+    let outcome = Outcome {
+        output: lines,
+        message: warnings,
+        status: 0,
+        flushes: 1,
+    };
+    expect(rt, alloc, &run, &outcome);
 }
 
 #[test]
@@ -290,17 +316,12 @@ fn warnings_after_the_lines(rt: HostRuntime) {
 
 #[test]
 fn no_warnings_if_the_output_fails(rt: HostRuntime) {
-    for (name, text, _lines, _warnings) in WARNED {
-        let reader = SliceReader::new(*text, 4096);
-        let mut out = ArrayWriter::new(4096);
-        out.flush_fails = true;
-        let err = ArrayWriter::new(4096);
-        let (status, _reader, _out, err) = run_on(rt.alloc(), WARN, reader, out, err);
-        assert_eq!(rt;
-            err.got(),
-            b"lotosseq: output cannot be written\n".as_slice(),
-            "{name}"
-        );
-        assert_eq!(rt; status, 6, "{name}");
+    for (name, text, lines, _warnings) in WARNED {
+        let run = Run {
+            name: *name,
+            text: *text,
+            ..CHECKED
+        };
+        expect_unflushed(&rt, rt.alloc(), &run, *lines, UNWRITTEN);
     }
 }

@@ -1,6 +1,12 @@
 //! Complete runs of `ever`: the output, the message, and the status.
 
-use super::memory_devices::{ArrayWriter, SliceReader, WhenFull, run_on};
+use super::expected_output::{expect_output, repeated, repeated_words};
+use super::runs::{
+    Outcome, RUN, Run, SINGLE, Taken, WHOLE, expect, expect_broken, expect_refused_words,
+    expect_unflushed, expect_unreadable,
+};
+use std::alloc::{AllocError, Global};
+use std::process::Abort;
 
 /// A run of `ever` over a text.
 struct Row {
@@ -215,19 +221,30 @@ const ROWS: &[Row] = &[
     },
 ];
 
+/// Expects what the row says. One flush ends an answer, with or without a line; none follows a refusal or a stop.
+fn expect_row(rt: &impl Abort, alloc: Global, row: &Row) {
+    let run = Run {
+        name: row.name,
+        words: row.words,
+        text: row.text,
+        piece: 7,
+        output: SINGLE,
+        message: Taken { piece: 5, ..WHOLE },
+        ..RUN
+    };
+    let outcome = Outcome {
+        output: row.output,
+        message: row.message,
+        status: row.status,
+        flushes: usize::from(row.status < 2),
+    };
+    expect(rt, alloc, &run, &outcome);
+}
+
 #[test]
 fn answers(rt: HostRuntime) {
     for row in ROWS {
-        let reader = SliceReader::new(row.text, 7);
-        let out = ArrayWriter::new(1);
-        let err = ArrayWriter::new(5);
-        let (status, _reader, out, err) = run_on(rt.alloc(), row.words, reader, out, err);
-        // One at the end of an answer, with or without a line; none after a refusal or a stop.
-        let flushes = if row.status <= 1 { 1usize } else { 0 };
-        assert_eq!(rt; out.got(), row.output, "{}", row.name);
-        assert_eq!(rt; err.got(), row.message, "{}", row.name);
-        assert_eq!(rt; status, row.status, "{}", row.name);
-        assert_eq!(rt; out.flushes, flushes, "{}", row.name);
+        expect_row(&rt, rt.alloc(), row);
     }
 }
 
@@ -258,15 +275,7 @@ const PATTERNS: &[(&[&str], &[u8])] = &[
 #[test]
 fn words_are_refused_first(rt: HostRuntime) {
     for (words, message) in PATTERNS {
-        let reader = SliceReader::new(b"specification", 1);
-        let out = ArrayWriter::new(1);
-        let err = ArrayWriter::new(1);
-        let (status, reader, out, err) = run_on(rt.alloc(), *words, reader, out, err);
-        assert_eq!(rt; status, 2);
-        assert_eq!(rt; reader.reads, 0);
-        assert!(rt; out.got().is_empty());
-        assert_eq!(rt; err.got(), *message);
-        assert_eq!(rt; out.flushes, 0);
+        expect_refused_words(&rt, rt.alloc(), "a pattern", *words, *message);
     }
 }
 
@@ -274,92 +283,57 @@ const WORDS: &[&str] = &["lotosseq", "ever", "--explain", "<until>", "B"];
 
 const LINE: &[u8] = b"A B : A B\n";
 
+/// A run that writes the line.
+const MATCHED: Run<'static, 'static> = Run {
+    name: "a match",
+    words: WORDS,
+    text: BUFFER,
+    output: Taken { piece: 4, ..WHOLE },
+    ..RUN
+};
+
+const UNWRITTEN: &[u8] = b"lotosseq: output cannot be written\n";
+
 #[test]
 fn the_output_fails_after_each_byte(rt: HostRuntime) {
-    for when_full in [WhenFull::Fails, WhenFull::TakesNothing] {
-        for k in 0..LINE.len() {
-            let reader = SliceReader::new(BUFFER, 4096);
-            let mut out = ArrayWriter::new(4);
-            out.most = k;
-            out.when_full = when_full;
-            let err = ArrayWriter::new(4096);
-            let (status, _reader, out, err) = run_on(rt.alloc(), WORDS, reader, out, err);
-            assert_eq!(rt; out.got(), &LINE[..k], "after {k}");
-            assert_eq!(rt;
-                err.got(),
-                b"lotosseq: output cannot be written\n".as_slice(),
-                "after {k}"
-            );
-            assert_eq!(rt; status, 6, "after {k}");
-            assert_eq!(rt; out.flushes, 0, "after {k}");
-        }
+    for most in 0..LINE.len() {
+        expect_broken(&rt, rt.alloc(), &MATCHED, most, LINE, UNWRITTEN);
     }
 }
 
 #[test]
 fn a_flush_that_fails_is_a_failed_write(rt: HostRuntime) {
-    let reader = SliceReader::new(BUFFER, 4096);
-    let mut out = ArrayWriter::new(4);
-    out.flush_fails = true;
-    let err = ArrayWriter::new(4096);
-    let (status, _reader, out, err) = run_on(rt.alloc(), WORDS, reader, out, err);
-    assert_eq!(rt; out.got(), LINE);
-    assert_eq!(rt;
-        err.got(),
-        b"lotosseq: output cannot be written\n".as_slice()
-    );
-    assert_eq!(rt; status, 6);
-    assert_eq!(rt; out.flushes, 1);
+    expect_unflushed(&rt, rt.alloc(), &MATCHED, LINE, UNWRITTEN);
 }
 
 #[test]
 fn a_flush_that_fails_without_a_match(rt: HostRuntime) {
-    let words = ["lotosseq", "ever", "<while>", "<any>", "B", "B"];
-    let reader = SliceReader::new(BUFFER, 4096);
-    let mut out = ArrayWriter::new(4);
-    out.flush_fails = true;
-    let err = ArrayWriter::new(4096);
-    let (status, _reader, out, err) = run_on(rt.alloc(), words.as_slice(), reader, out, err);
-    assert!(rt; out.got().is_empty());
-    assert_eq!(rt;
-        err.got(),
-        b"lotosseq: output cannot be written\n".as_slice()
-    );
-    assert_eq!(rt; status, 6);
-    assert_eq!(rt; out.flushes, 1);
+    let run = Run {
+        name: "no match",
+        words: &["lotosseq", "ever", "<while>", "<any>", "B", "B"],
+        ..MATCHED
+    };
+    expect_unflushed(&rt, rt.alloc(), &run, b"", UNWRITTEN);
 }
 
 #[test]
 fn each_read_fails_in_turn(rt: HostRuntime) {
-    for k in 1usize..30 {
-        let mut reader = SliceReader::new(BUFFER, 4);
-        reader.fails_at = Some(k);
-        let out = ArrayWriter::new(1);
-        let err = ArrayWriter::new(4096);
-        let (status, _reader, out, err) = run_on(rt.alloc(), WORDS, reader, out, err);
-        assert_eq!(rt;
-            err.got(),
-            b"lotosseq: E47 input cannot be read\n".as_slice(),
-            "at {k}"
-        );
-        assert_eq!(rt; status, 2, "at {k}");
-        assert!(rt; out.got().is_empty(), "at {k}");
+    let run = Run {
+        piece: 4,
+        output: SINGLE,
+        ..MATCHED
+    };
+    for number in 1usize..30 {
+        expect_unreadable(&rt, rt.alloc(), &run, number);
     }
 }
 
 #[test]
-fn a_match_longer_than_any_depth(rt: HostRuntime) {
-    let mut words = ["A"; 258];
-    words[0] = "lotosseq";
-    words[1] = "ever";
+fn a_match_longer_than_any_depth(rt: HostRuntime) -> Result<(), AllocError> {
+    let words = repeated_words(rt.alloc(), &["lotosseq", "ever"], &["A"], 256)?;
+    let line = repeated(rt.alloc(), b"A", b" A", 255, b"\n")?;
     let text =
         b"specification S [a] : noexit behaviour P[a] where process P [x] : noexit := x; P[x] endproc endspec";
-    let reader = SliceReader::new(text.as_slice(), 4096);
-    let out = ArrayWriter::new(4096);
-    let err = ArrayWriter::new(4096);
-    let (status, _reader, out, err) = run_on(rt.alloc(), words.as_slice(), reader, out, err);
-    assert_eq!(rt; out.got().len(), 512);
-    assert!(rt; out.got().ends_with(b"A A A\n"));
-    assert!(rt; err.got().is_empty());
-    assert_eq!(rt; status, 0);
+    expect_output(&rt, rt.alloc(), words.as_slice(), text, line.as_slice());
+    Ok(())
 }

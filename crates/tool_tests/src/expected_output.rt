@@ -1,6 +1,7 @@
 //! Generated texts and words, and a writer that compares what it takes with expected bytes of any length.
 
 use super::memory_devices::{ArrayWriter, SliceReader, run_on};
+use super::runs::{Bytes, Parts, RUN, Run, expect_parts};
 use std::alloc::{AllocError, Global};
 use std::io;
 use std::io::Write;
@@ -66,13 +67,15 @@ pub fn expect_message(
     message: &[u8],
     status: u8,
 ) {
-    let reader = SliceReader::new(text, 4096);
-    let out = ExpectedOutput::new(b"");
-    let err = ArrayWriter::new(4096);
-    let (found, _reader, out, err) = run_on(alloc, words, reader, out, err);
-    assert_eq!(rt; err.got(), message);
-    assert!(rt; out.is_complete());
-    assert_eq!(rt; found, status);
+    let parts = Parts {
+        output: Bytes::Are(b""),
+        message: Bytes::Are(message),
+        status,
+        reads: None,
+        flushes: None,
+    };
+    let run = Run { words, text, ..RUN };
+    expect_parts(rt, alloc, &run, &parts);
 }
 
 /// The bytes `front`, then `part` so many times, then `back`.

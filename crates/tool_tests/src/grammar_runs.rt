@@ -1,6 +1,7 @@
 //! Complete runs over texts with processes and comments, and the faults of texts.
 
-use super::memory_devices::{ArrayWriter, SliceReader, run_on};
+use super::expected_output::repeated;
+use super::runs::{Outcome, RUN, Run, expect};
 use std::alloc::{AllocError, Global};
 use std::process::Abort;
 
@@ -10,7 +11,7 @@ const WORDS: &[&str] = &["lotosseq", "search", "--depth", "1", "A"];
 fn processes_that_are_not_called_show_nothing(rt: HostRuntime) {
     let text =
         b"specification S [a] : noexit behaviour a; stop where process P : noexit := stop ||| P1 endproc process P1 : noexit := stop endproc endspec";
-    expect(&rt, rt.alloc(), "processes", text, b"A\n", b"");
+    expect_search(&rt, rt.alloc(), "processes", text, b"A\n", b"");
 }
 
 const FAULTS: &[(&str, &[u8], &[u8])] = &[
@@ -64,49 +65,63 @@ const FAULTS: &[(&str, &[u8], &[u8])] = &[
 #[test]
 fn faults_of_texts(rt: HostRuntime) {
     for (name, text, message) in FAULTS {
-        expect(&rt, rt.alloc(), name, *text, b"", *message);
+        expect_search(&rt, rt.alloc(), *name, *text, b"", *message);
     }
 }
 
 #[test]
 fn comments_separate_tokens(rt: HostRuntime) {
     let text = b"specification(**)S [a] : noexit behaviour a; (* b; *) stop endspec";
-    expect(&rt, rt.alloc(), "comments", text, b"A\n", b"");
+    expect_search(&rt, rt.alloc(), "comments", text, b"A\n", b"");
+}
+
+/// Searches a text with so many prefixes, one inside the other.
+fn expect_nested(
+    rt: &impl Abort,
+    alloc: Global,
+    count: usize,
+    output: &[u8],
+    message: &[u8],
+) -> Result<(), AllocError> {
+    let text = repeated(
+        alloc,
+        b"specification S [a] : noexit behaviour ",
+        b"a; ",
+        count,
+        b"stop endspec",
+    )?;
+    expect_search(rt, alloc, "prefixes", text.as_slice(), output, message);
+    Ok(())
 }
 
 #[test]
 fn prefixes_nest_so_deep_and_no_deeper(rt: HostRuntime) -> Result<(), AllocError> {
-    let cases: [(usize, &[u8], &[u8]); 2] = [
-        (200, b"A\n", b""),
-        (201, b"", b"lotosseq: 1:641: E05 nesting is over 200\n"),
-    ];
-    for (count, output, message) in cases {
-        let mut text = Vec::from_slice(rt.alloc(), b"specification S [a] : noexit behaviour ")?;
-        for _prefix in 0..count {
-            text.extend_from_slice(b"a; ")?;
-        }
-        text.extend_from_slice(b"stop endspec")?;
-        expect(
-            &rt,
-            rt.alloc(),
-            "prefixes",
-            text.as_slice(),
-            output,
-            message,
-        );
-    }
-    Ok(())
+    expect_nested(&rt, rt.alloc(), 200, b"A\n", b"")?;
+    let message = b"lotosseq: 1:641: E05 nesting is over 200\n";
+    expect_nested(&rt, rt.alloc(), 201, b"", message)
 }
 
 /// Searches the text, and expects the output and the message; with a message also status 2 and no flush, without one
 /// status 0 and one flush.
-fn expect(rt: &impl Abort, alloc: Global, name: &str, text: &[u8], output: &[u8], message: &[u8]) {
-    let reader = SliceReader::new(text, 4096);
-    let out = ArrayWriter::new(4096);
-    let err = ArrayWriter::new(4096);
-    let (status, _reader, out, err) = run_on(alloc, WORDS, reader, out, err);
-    assert_eq!(rt; out.got(), output, "{name}");
-    assert_eq!(rt; err.got(), message, "{name}");
-    assert_eq!(rt; status, if message.is_empty() { 0 } else { 2 }, "{name}");
-    assert_eq!(rt; out.flushes, usize::from(message.is_empty()), "{name}");
+fn expect_search(
+    rt: &impl Abort,
+    alloc: Global,
+    name: &str,
+    text: &[u8],
+    output: &[u8],
+    message: &[u8],
+) {
+    let run = Run {
+        name,
+        words: WORDS,
+        text,
+        ..RUN
+    };
+    let outcome = Outcome {
+        output,
+        message,
+        status: if message.is_empty() { 0 } else { 2 },
+        flushes: usize::from(message.is_empty()),
+    };
+    expect(rt, alloc, &run, &outcome);
 }

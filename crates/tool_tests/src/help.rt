@@ -1,6 +1,9 @@
 //! Runs that ask for help or for the version.
 
-use super::memory_devices::{ArrayWriter, SliceReader, WhenFull, run_on};
+use super::memory_devices::WhenFull;
+use super::runs::{Bytes, Parts, RUN, Run, Taken, UNREAD, WHOLE, expect_parts};
+use std::alloc::Global;
+use std::process::Abort;
 
 /// Command lines that ask for help or for the version, and the first line of the text.
 const ROWS: &[(&[&str], &[u8])] = &[
@@ -26,79 +29,91 @@ const ROWS: &[(&[&str], &[u8])] = &[
     ),
 ];
 
+/// Runs words that ask for help with this output, and expects the text and the message, and that nothing is read.
+fn expect_help(
+    rt: &impl Abort,
+    alloc: Global,
+    words: &[&str],
+    output: Taken,
+    text: Bytes<'_>,
+    message: &[u8],
+    flushes: usize,
+) {
+    let run = Run {
+        name: "help",
+        number: output.most,
+        words,
+        output,
+        ..RUN
+    };
+    let parts = Parts {
+        output: text,
+        message: Bytes::Are(message),
+        status: if message.is_empty() { 0 } else { 6 },
+        flushes: Some(flushes),
+        ..UNREAD
+    };
+    expect_parts(rt, alloc, &run, &parts);
+}
+
+/// Expects the first line of each help, with this output and this message.
+fn expect_first_lines(rt: &impl Abort, alloc: Global, output: Taken, message: &[u8]) {
+    for (words, line) in ROWS {
+        let text = Bytes::BeginWith(*line);
+        expect_help(rt, alloc, *words, output, text, message, 1);
+    }
+}
+
 #[test]
 fn help_of_each_subcommand(rt: HostRuntime) {
-    for (words, line) in ROWS {
-        let reader = SliceReader::new(b"", 1);
-        let out = ArrayWriter::new(4096);
-        let err = ArrayWriter::new(4096);
-        let (status, reader, out, err) = run_on(rt.alloc(), *words, reader, out, err);
-        assert_eq!(rt; status, 0);
-        assert_eq!(rt; reader.reads, 0);
-        assert!(rt; out.got().starts_with(line));
-        assert!(rt; err.got().is_empty());
-        assert_eq!(rt; out.flushes, 1);
-    }
+    expect_first_lines(&rt, rt.alloc(), WHOLE, b"");
+}
+
+#[test]
+fn help_whose_flush_fails(rt: HostRuntime) {
+    let output = Taken {
+        flush_fails: true,
+        ..WHOLE
+    };
+    expect_first_lines(&rt, rt.alloc(), output, UNWRITTEN);
+}
+
+const UNWRITTEN: &[u8] = b"lotosseq: output cannot be written\n";
+
+/// Runs the words with an output that is full after `most` bytes.
+fn expect_cut_help(
+    rt: &impl Abort,
+    alloc: Global,
+    words: &[&str],
+    most: usize,
+    when_full: WhenFull,
+    line: &[u8],
+) {
+    let output = Taken {
+        piece: 5,
+        most,
+        when_full,
+        ..WHOLE
+    };
+    let text = Bytes::Are(&line[..most.min(line.len())]);
+    expect_help(rt, alloc, words, output, text, UNWRITTEN, 0);
 }
 
 #[test]
 fn help_that_cannot_be_written(rt: HostRuntime) {
     let line: &[u8] = b"Checks the static rules and lists the processes\n";
-    let words = ["lotosseq", "check", "--help"];
-    for when_full in [WhenFull::Fails, WhenFull::TakesNothing] {
-        for most in 0..line.len() {
-            let reader = SliceReader::new(b"", 1);
-            let mut out = ArrayWriter::new(5);
-            out.most = most;
-            out.when_full = when_full;
-            let err = ArrayWriter::new(4096);
-            let (status, reader, out, err) = run_on(rt.alloc(), words.as_slice(), reader, out, err);
-            assert_eq!(rt; out.got(), &line[..most], "after {most}");
-            assert_eq!(rt;
-                err.got(),
-                b"lotosseq: output cannot be written\n".as_slice(),
-                "after {most}"
-            );
-            assert_eq!(rt; status, 6, "after {most}");
-            assert_eq!(rt; reader.reads, 0, "after {most}");
-        }
+    let words = ["lotosseq", "check", "--help"].as_slice();
+    for most in 0..line.len() {
+        expect_cut_help(&rt, rt.alloc(), words, most, WhenFull::Fails, line);
+        expect_cut_help(&rt, rt.alloc(), words, most, WhenFull::TakesNothing, line);
     }
 }
 
 #[test]
 fn version_that_cannot_be_written(rt: HostRuntime) {
     let line: &[u8] = b"lotosseq 0.1.0 (proved, logic dac8208d650f15bf)\n";
+    let words = ["lotosseq", "-V"].as_slice();
     for most in 0..line.len() {
-        let reader = SliceReader::new(b"", 1);
-        let mut out = ArrayWriter::new(5);
-        out.most = most;
-        let err = ArrayWriter::new(4096);
-        let words = ["lotosseq", "-V"];
-        let (status, _reader, out, err) = run_on(rt.alloc(), words.as_slice(), reader, out, err);
-        assert_eq!(rt; out.got(), &line[..most], "after {most}");
-        assert_eq!(rt;
-            err.got(),
-            b"lotosseq: output cannot be written\n".as_slice(),
-            "after {most}"
-        );
-        assert_eq!(rt; status, 6, "after {most}");
-    }
-}
-
-#[test]
-fn help_whose_flush_fails(rt: HostRuntime) {
-    for (words, line) in ROWS {
-        let reader = SliceReader::new(b"", 1);
-        let mut out = ArrayWriter::new(4096);
-        out.flush_fails = true;
-        let err = ArrayWriter::new(4096);
-        let (status, _reader, out, err) = run_on(rt.alloc(), *words, reader, out, err);
-        assert!(rt; out.got().starts_with(line));
-        assert_eq!(rt;
-            err.got(),
-            b"lotosseq: output cannot be written\n".as_slice()
-        );
-        assert_eq!(rt; status, 6);
-        assert_eq!(rt; out.flushes, 1);
+        expect_cut_help(&rt, rt.alloc(), words, most, WhenFull::Fails, line);
     }
 }

@@ -1,451 +1,426 @@
-//! The whole help of the program and of each command, and the version, line by line.
+//! The whole help of the program and of each command, and the version.
 
-use super::memory_devices::{ArrayWriter, SliceReader, run_on};
+use super::runs::{Outcome, RUN, Run, expect};
 use std::alloc::Global;
 use std::process::Abort;
 
-/// Runs the words, and expects these lines, no message and status 0.
-fn expect_lines(rt: &impl Abort, alloc: Global, words: &[&str], lines: &[&str]) {
-    let reader = SliceReader::new(b"", 1);
-    let out = ArrayWriter::new(4096);
-    let err = ArrayWriter::new(4096);
-    let (status, _reader, out, err) = run_on(alloc, words, reader, out, err);
-    assert_eq!(rt; err.got(), b"".as_slice());
-    assert_eq!(rt; status, 0);
-    compare_lines(rt, out.got(), lines);
-}
-
-/// Expects that the text is these lines.
-fn compare_lines(rt: &impl Abort, text: &[u8], lines: &[&str]) {
-    let mut rest = text;
-    for line in lines {
-        let (got, after) = first_line(rest);
-        assert_eq!(rt; got, line.as_bytes());
-        rest = after;
-    }
-    assert_eq!(rt; rest, b"".as_slice());
-}
-
-/// The first line of a text, and what comes after its line feed.
-fn first_line(text: &[u8]) -> (&[u8], &[u8]) {
-    match text.iter().position(|byte| *byte == b'\n') {
-        Some(end) => (&text[..end], &text[end + 1..]),
-        None => (text, b""),
-    }
+/// Runs the words, and expects this text, no message, status 0 and one flush.
+fn expect_text(rt: &impl Abort, alloc: Global, words: &[&str], text: &str) {
+    let outcome = Outcome {
+        output: text.as_bytes(),
+        message: b"",
+        status: 0,
+        flushes: 1,
+    };
+    expect(rt, alloc, &Run { words, ..RUN }, &outcome);
 }
 
 /// `lotosseq --help`
-const PROGRAM: &[&str] = &[
-    "Checks a basic LOTOS specification, and lists its observable action sequences",
-    "",
-    "The specification is read from standard input, and what is asked of it is written to",
-    "standard output. A file is given by `< FILE`, as in",
-    "  lotosseq check < ring.lotos",
-    "`lotosseq check --help` tells of the static rules, `lotosseq search --help` of the",
-    "listing, its options and the words of a pattern, and `lotosseq ever --help` of matches",
-    "of any length.",
-    "",
-    "Usage: lotosseq <COMMAND>",
-    "",
-    "Commands:",
-    "  search  Lists the sequences that match a pattern",
-    "  check   Checks the static rules and lists the processes",
-    "  ever    Finds a shortest match, of any length",
-    "  help    Print this message or the help of the given subcommand(s)",
-    "",
-    "Options:",
-    "  -h, --help",
-    "          Print help (see a summary with '-h')",
-    "",
-    "  -V, --version",
-    "          Print version",
-    "",
-    "Statuses:",
-    "  0  the specification is accepted, the listing is complete and has lines, or there is",
-    "     a match",
-    "  1  the listing is complete and has none, or there is no match",
-    "  2  the command, the pattern, the mark or the specification is refused, or cannot",
-    "     be read",
-    "  3  the limit of lines is reached",
-    "  4  a prefix reaches too many terms, or there are too many states",
-    "  5  memory was wanting",
-    "  6  the output cannot be written",
-];
+const PROGRAM: &str = "Checks a basic LOTOS specification, and lists its observable action sequences
+
+The specification is read from standard input, and what is asked of it is written to
+standard output. A file is given by `< FILE`, as in
+  lotosseq check < ring.lotos
+`lotosseq check --help` tells of the static rules, `lotosseq search --help` of the
+listing, its options and the words of a pattern, and `lotosseq ever --help` of matches
+of any length.
+
+Usage: lotosseq <COMMAND>
+
+Commands:
+  search  Lists the sequences that match a pattern
+  check   Checks the static rules and lists the processes
+  ever    Finds a shortest match, of any length
+  help    Print this message or the help of the given subcommand(s)
+
+Options:
+  -h, --help
+          Print help (see a summary with '-h')
+
+  -V, --version
+          Print version
+
+Statuses:
+  0  the specification is accepted, the listing is complete and has lines, or there is
+     a match
+  1  the listing is complete and has none, or there is no match
+  2  the command, the pattern, the mark or the specification is refused, or cannot
+     be read
+  3  the limit of lines is reached
+  4  a prefix reaches too many terms, or there are too many states
+  5  memory was wanting
+  6  the output cannot be written
+";
 
 /// `lotosseq search --help`
-const SEARCH: &[&str] = &[
-    "Lists the sequences that match a pattern",
-    "",
-    "Reads a specification in basic LOTOS from standard input (a file is given by `< FILE`)",
-    "and writes a listing to standard output. The listing has every sequence that matches",
-    "the pattern and that some derivation of at most N steps from the specification's",
-    "behaviour shows.",
-    "",
-    "Each sequence stands there once, in a line of its own: its labels, separated by one",
-    "blank, or `<empty>`. Shorter sequences stand first, and sequences of one length in",
-    "the order of their labels: gates by their names, then `exit`.",
-    "",
-    "For example, with the specification",
-    "  specification S [a,b] : exit behaviour a; b; exit endspec",
-    "the command `lotosseq search --depth 3 a b exit` lists",
-    "  A B exit",
-    "",
-    "Usage: lotosseq search [OPTIONS] --depth <N> [WORD]...",
-    "",
-    "Arguments:",
-    "  [WORD]...",
-    "          The words of the pattern",
-    "          ",
-    "          A pattern is a row of at most 256 elements, and matches the sequences that are made of",
-    "          one part for each of them, in this order. With no word it matches the empty sequence",
-    "          alone. Words are read in upper or lower case. In a shell those with `<` are quoted, as",
-    "          in `'<any>'`.",
-    "          ",
-    "            A              that one label: the name of a gate, or `exit` for successful",
-    "                           termination. For example, `A B` matches `A B`.",
-    "            <any>          any one label. `A <any>` matches `A B`.",
-    "            <until> A      any number of labels other than A, and then A. `<until> B` matches",
-    "                           `B` and `A A B`.",
-    "            <while> A      any number of labels A. `A <while> B` matches `A` and `A B B`.",
-    "            <while> <any>  any number of labels. `<while> <any> B` matches all that ends in `B`.",
-    "            <deadlock>     nothing, where the end is a deadlock. `A <deadlock>` matches `A`,",
-    "                           where nothing can follow.",
-    "            <until> <deadlock>",
-    "                           any number of labels, where the end is a deadlock.",
-    "          ",
-    "          A deadlock is a term that has no step at all, not even an internal one. These last two",
-    "          may stand only at the end. `i` is a word of a pattern only with `--strong`, as the",
-    "          internal action cannot be observed. The name of a gate that the specification does not",
-    "          have is no fault, unless `--known` is given; it never matches.",
-    "",
-    "Options:",
-    "      --depth <N>",
-    "          The most steps of a derivation, 0 to 255",
-    "          ",
-    "          Every step counts, those of the internal action `i` too, and so does successful",
-    "          termination. For example, `a; b; exit` shows `A B exit` with `--depth 3` and not with",
-    "          `--depth 2`.",
-    "",
-    "      --limit <N>",
-    "          The most lines that are written, 1 to 1000000000",
-    "          ",
-    "          The search stops when so many lines are written, with status 3, also where no line",
-    "          would follow. For example, `--limit 1` writes the first line alone.",
-    "",
-    "      --terms <N>",
-    "          The most terms that a prefix may reach, 1 to 1000000",
-    "          ",
-    "          A prefix is a beginning of a sequence that can still match. It reaches the terms in",
-    "          which derivations that show it end. The search stops with status 4 at the first prefix",
-    "          that reaches more. For example, with `--terms 1` the specification's behaviour",
-    "          `i; a; stop` stops the search at `<empty>`, which reaches two terms.",
-    "          ",
-    "          [default: 100000]",
-    "",
-    "      --after <LINE>",
-    "          Lists only what stands after this line of a listing",
-    "          ",
-    "          LINE is a line as the listing has it, in upper or lower case; what follows ` : ` in it",
-    "          is not looked at. It need not be a line of this listing. In a shell it is quoted. For",
-    "          example, `--after \"A B\"` goes on behind the line `A B`, and `--after \"<empty>\"`",
-    "          behind the empty sequence.",
-    "",
-    "      --explain",
-    "          Writes the least word of each sequence too",
-    "          ",
-    "          A line is then the sequence, ` : ` and a word: the labels of a derivation that shows",
-    "          the sequence, internal steps included. It is the shortest one, and of those the first",
-    "          in the order of labels, `i` being the last of these. For example, `i; i; a; stop` with",
-    "          `--depth 3 --explain A` lists",
-    "            A : i i A",
-    "",
-    "      --strong",
-    "          Makes the internal action `i` a label like others",
-    "          ",
-    "          Sequences then show internal steps, `i` may be a word of the pattern, and elements",
-    "          match it like other labels. For example, `i; i; a; stop` with",
-    "          `--depth 3 --strong i i A` lists",
-    "            i i A",
-    "",
-    "      --known",
-    "          Refuses words that name no gate of the specification",
-    "          ",
-    "          Each label of the pattern must then be a gate of the specification's own list, `exit`,",
-    "          or with `--strong` `i`. Without this option any other label is no fault, and never",
-    "          matches. For example, with the specification",
-    "            specification S [a] : exit behaviour a; exit endspec",
-    "          the command `lotosseq search --depth 2 --known B exit` is refused with",
-    "            E49 word 1 is no gate of the specification",
-    "",
-    "      --progress",
-    "          Tells on standard error how far the search is",
-    "          ",
-    "          At a terminal this is one line, which is renewed; else a line is written now and then.",
-    "          Output and status stay the same.",
-    "",
-    "  -h, --help",
-    "          Print help (see a summary with '-h')",
-    "",
-    "Statuses:",
-    "  0  the listing is complete and has lines",
-    "  1  the listing is complete and has none",
-    "  2  the command, the pattern, the mark or the specification is refused, or cannot",
-    "     be read",
-    "  3  the limit of lines is reached",
-    "  4  a prefix reaches too many terms",
-    "  5  memory was wanting",
-    "  6  the output cannot be written",
-];
+const SEARCH: &str = "Lists the sequences that match a pattern
+
+Reads a specification in basic LOTOS from standard input (a file is given by `< FILE`)
+and writes a listing to standard output. The listing has every sequence that matches
+the pattern and that some derivation of at most N steps from the specification's
+behaviour shows.
+
+Each sequence stands there once, in a line of its own: its labels, separated by one
+blank, or `<empty>`. Shorter sequences stand first, and sequences of one length in
+the order of their labels: gates by their names, then `exit`.
+
+For example, with the specification
+  specification S [a,b] : exit behaviour a; b; exit endspec
+the command `lotosseq search --depth 3 a b exit` lists
+  A B exit
+
+Usage: lotosseq search [OPTIONS] --depth <N> [WORD]...
+
+Arguments:
+  [WORD]...
+          The words of the pattern
+         \x20
+          A pattern is a row of at most 256 elements, and matches the sequences that are made of
+          one part for each of them, in this order. With no word it matches the empty sequence
+          alone. Words are read in upper or lower case. In a shell those with `<` are quoted, as
+          in `'<any>'`.
+         \x20
+            A              that one label: the name of a gate, or `exit` for successful
+                           termination. For example, `A B` matches `A B`.
+            <any>          any one label. `A <any>` matches `A B`.
+            <until> A      any number of labels other than A, and then A. `<until> B` matches
+                           `B` and `A A B`.
+            <while> A      any number of labels A. `A <while> B` matches `A` and `A B B`.
+            <while> <any>  any number of labels. `<while> <any> B` matches all that ends in `B`.
+            <deadlock>     nothing, where the end is a deadlock. `A <deadlock>` matches `A`,
+                           where nothing can follow.
+            <until> <deadlock>
+                           any number of labels, where the end is a deadlock.
+         \x20
+          A deadlock is a term that has no step at all, not even an internal one. These last two
+          may stand only at the end. `i` is a word of a pattern only with `--strong`, as the
+          internal action cannot be observed. The name of a gate that the specification does not
+          have is no fault, unless `--known` is given; it never matches.
+
+Options:
+      --depth <N>
+          The most steps of a derivation, 0 to 255
+         \x20
+          Every step counts, those of the internal action `i` too, and so does successful
+          termination. For example, `a; b; exit` shows `A B exit` with `--depth 3` and not with
+          `--depth 2`.
+
+      --limit <N>
+          The most lines that are written, 1 to 1000000000
+         \x20
+          The search stops when so many lines are written, with status 3, also where no line
+          would follow. For example, `--limit 1` writes the first line alone.
+
+      --terms <N>
+          The most terms that a prefix may reach, 1 to 1000000
+         \x20
+          A prefix is a beginning of a sequence that can still match. It reaches the terms in
+          which derivations that show it end. The search stops with status 4 at the first prefix
+          that reaches more. For example, with `--terms 1` the specification's behaviour
+          `i; a; stop` stops the search at `<empty>`, which reaches two terms.
+         \x20
+          [default: 100000]
+
+      --after <LINE>
+          Lists only what stands after this line of a listing
+         \x20
+          LINE is a line as the listing has it, in upper or lower case; what follows ` : ` in it
+          is not looked at. It need not be a line of this listing. In a shell it is quoted. For
+          example, `--after \"A B\"` goes on behind the line `A B`, and `--after \"<empty>\"`
+          behind the empty sequence.
+
+      --explain
+          Writes the least word of each sequence too
+         \x20
+          A line is then the sequence, ` : ` and a word: the labels of a derivation that shows
+          the sequence, internal steps included. It is the shortest one, and of those the first
+          in the order of labels, `i` being the last of these. For example, `i; i; a; stop` with
+          `--depth 3 --explain A` lists
+            A : i i A
+
+      --strong
+          Makes the internal action `i` a label like others
+         \x20
+          Sequences then show internal steps, `i` may be a word of the pattern, and elements
+          match it like other labels. For example, `i; i; a; stop` with
+          `--depth 3 --strong i i A` lists
+            i i A
+
+      --known
+          Refuses words that name no gate of the specification
+         \x20
+          Each label of the pattern must then be a gate of the specification's own list, `exit`,
+          or with `--strong` `i`. Without this option any other label is no fault, and never
+          matches. For example, with the specification
+            specification S [a] : exit behaviour a; exit endspec
+          the command `lotosseq search --depth 2 --known B exit` is refused with
+            E49 word 1 is no gate of the specification
+
+      --progress
+          Tells on standard error how far the search is
+         \x20
+          At a terminal this is one line, which is renewed; else a line is written now and then.
+          Output and status stay the same.
+
+  -h, --help
+          Print help (see a summary with '-h')
+
+Statuses:
+  0  the listing is complete and has lines
+  1  the listing is complete and has none
+  2  the command, the pattern, the mark or the specification is refused, or cannot
+     be read
+  3  the limit of lines is reached
+  4  a prefix reaches too many terms
+  5  memory was wanting
+  6  the output cannot be written
+";
 
 /// `lotosseq ever --help`
-const EVER: &[&str] = &[
-    "Finds a shortest match, of any length",
-    "",
-    "Reads a specification in basic LOTOS from standard input (a file is given by `< FILE`)",
-    "and looks for a derivation, of any number of steps, whose sequence matches the pattern.",
-    "If there is one, the sequence of one with the fewest steps is written to standard",
-    "output. If there is none at any depth, nothing is written there, and the status is 1.",
-    "",
-    "For example, with the specification",
-    "  specification S [a,b] : noexit behaviour P[a,b]",
-    "  where process P [x,y] : noexit := x; y; P[x,y] endproc endspec",
-    "the command `lotosseq ever '<while>' '<any>' B B` tells that it happens at no depth,",
-    "and `lotosseq ever '<until>' B` writes",
-    "  A B",
-    "",
-    "Usage: lotosseq ever [OPTIONS] [WORD]...",
-    "",
-    "Arguments:",
-    "  [WORD]...",
-    "          The words of the pattern",
-    "          ",
-    "          A pattern is a row of at most 256 elements, and matches the sequences that are made of",
-    "          one part for each of them, in this order. With no word it matches the empty sequence",
-    "          alone. Words are read in upper or lower case. In a shell those with `<` are quoted, as",
-    "          in `'<any>'`.",
-    "          ",
-    "            A              that one label: the name of a gate, or `exit` for successful",
-    "                           termination. For example, `A B` matches `A B`.",
-    "            <any>          any one label. `A <any>` matches `A B`.",
-    "            <until> A      any number of labels other than A, and then A. `<until> B` matches",
-    "                           `B` and `A A B`.",
-    "            <while> A      any number of labels A. `A <while> B` matches `A` and `A B B`.",
-    "            <while> <any>  any number of labels. `<while> <any> B` matches all that ends in `B`.",
-    "            <deadlock>     nothing, where the end is a deadlock. `A <deadlock>` matches `A`,",
-    "                           where nothing can follow.",
-    "            <until> <deadlock>",
-    "                           any number of labels, where the end is a deadlock.",
-    "          ",
-    "          A deadlock is a term that has no step at all, not even an internal one. These last two",
-    "          may stand only at the end. `i` is a word of a pattern only with `--strong`, as the",
-    "          internal action cannot be observed. A word that is neither an element nor `exit` nor `i`",
-    "          names a gate of the specification's own list. Where the list does not have it, the word",
-    "          is refused with E49 and status 2, as no sequence could show it. For example, `C` is",
-    "          refused for",
-    "            specification S [a,b] : noexit behaviour a; b; stop endspec",
-    "",
-    "Options:",
-    "      --states <N>",
-    "          The most states that may be reached, 1 to 100000000",
-    "          ",
-    "          A state is one of the specification and of the pattern together: a term that can be",
-    "          reached, and how much of the pattern the labels on the way match. If more of them are",
-    "          reached before a match is found, the search stops with status 4. Each takes some",
-    "          0.3 to 1.5 KiB of memory. For example, for `a; b; stop` and the pattern `A B` the",
-    "          search stops with `--states 1`.",
-    "          ",
-    "          [default: 1000000]",
-    "",
-    "      --explain",
-    "          Writes the word of the derivation too",
-    "          ",
-    "          The line is then the sequence, ` : ` and a word: the labels of the derivation, internal",
-    "          steps included. For example, `i; i; a; stop` with `--explain A` gives",
-    "            A : i i A",
-    "",
-    "      --strong",
-    "          Makes the internal action `i` a label like others",
-    "          ",
-    "          Sequences then show internal steps, `i` may be a word of the pattern, and elements",
-    "          match it like other labels. For example, `i; i; a; stop` with `--strong i i A` gives",
-    "            i i A",
-    "",
-    "      --progress",
-    "          Tells on standard error how far the search is",
-    "          ",
-    "          At a terminal this is one line, which is renewed; else a line is written now and then.",
-    "          Output and status stay the same.",
-    "",
-    "  -h, --help",
-    "          Print help (see a summary with '-h')",
-    "",
-    "Statuses:",
-    "  0  there is a match",
-    "  1  there is none, of any length",
-    "  2  the command, the pattern or the specification is refused, or cannot be read",
-    "  4  there are too many states",
-    "  5  memory was wanting",
-    "  6  the output cannot be written",
-];
+const EVER: &str = "Finds a shortest match, of any length
+
+Reads a specification in basic LOTOS from standard input (a file is given by `< FILE`)
+and looks for a derivation, of any number of steps, whose sequence matches the pattern.
+If there is one, the sequence of one with the fewest steps is written to standard
+output. If there is none at any depth, nothing is written there, and the status is 1.
+
+For example, with the specification
+  specification S [a,b] : noexit behaviour P[a,b]
+  where process P [x,y] : noexit := x; y; P[x,y] endproc endspec
+the command `lotosseq ever '<while>' '<any>' B B` tells that it happens at no depth,
+and `lotosseq ever '<until>' B` writes
+  A B
+
+Usage: lotosseq ever [OPTIONS] [WORD]...
+
+Arguments:
+  [WORD]...
+          The words of the pattern
+         \x20
+          A pattern is a row of at most 256 elements, and matches the sequences that are made of
+          one part for each of them, in this order. With no word it matches the empty sequence
+          alone. Words are read in upper or lower case. In a shell those with `<` are quoted, as
+          in `'<any>'`.
+         \x20
+            A              that one label: the name of a gate, or `exit` for successful
+                           termination. For example, `A B` matches `A B`.
+            <any>          any one label. `A <any>` matches `A B`.
+            <until> A      any number of labels other than A, and then A. `<until> B` matches
+                           `B` and `A A B`.
+            <while> A      any number of labels A. `A <while> B` matches `A` and `A B B`.
+            <while> <any>  any number of labels. `<while> <any> B` matches all that ends in `B`.
+            <deadlock>     nothing, where the end is a deadlock. `A <deadlock>` matches `A`,
+                           where nothing can follow.
+            <until> <deadlock>
+                           any number of labels, where the end is a deadlock.
+         \x20
+          A deadlock is a term that has no step at all, not even an internal one. These last two
+          may stand only at the end. `i` is a word of a pattern only with `--strong`, as the
+          internal action cannot be observed. A word that is neither an element nor `exit` nor `i`
+          names a gate of the specification's own list. Where the list does not have it, the word
+          is refused with E49 and status 2, as no sequence could show it. For example, `C` is
+          refused for
+            specification S [a,b] : noexit behaviour a; b; stop endspec
+
+Options:
+      --states <N>
+          The most states that may be reached, 1 to 100000000
+         \x20
+          A state is one of the specification and of the pattern together: a term that can be
+          reached, and how much of the pattern the labels on the way match. If more of them are
+          reached before a match is found, the search stops with status 4. Each takes some
+          0.3 to 1.5 KiB of memory. For example, for `a; b; stop` and the pattern `A B` the
+          search stops with `--states 1`.
+         \x20
+          [default: 1000000]
+
+      --explain
+          Writes the word of the derivation too
+         \x20
+          The line is then the sequence, ` : ` and a word: the labels of the derivation, internal
+          steps included. For example, `i; i; a; stop` with `--explain A` gives
+            A : i i A
+
+      --strong
+          Makes the internal action `i` a label like others
+         \x20
+          Sequences then show internal steps, `i` may be a word of the pattern, and elements
+          match it like other labels. For example, `i; i; a; stop` with `--strong i i A` gives
+            i i A
+
+      --progress
+          Tells on standard error how far the search is
+         \x20
+          At a terminal this is one line, which is renewed; else a line is written now and then.
+          Output and status stay the same.
+
+  -h, --help
+          Print help (see a summary with '-h')
+
+Statuses:
+  0  there is a match
+  1  there is none, of any length
+  2  the command, the pattern or the specification is refused, or cannot be read
+  4  there are too many states
+  5  memory was wanting
+  6  the output cannot be written
+";
 
 /// `lotosseq check --help`
-const CHECK: &[&str] = &[
-    "Checks the static rules and lists the processes",
-    "",
-    "Reads a specification in basic LOTOS from standard input. Where it breaks no static",
-    "rule, a line is written for each process, in the order of their definitions: its name,",
-    "the number of its gates, and `exit` or `noexit`. Else the first fault is named on",
-    "standard error, with its line and column.",
-    "",
-    "For example, with the specification",
-    "  specification S [a] : noexit behaviour P[a]",
-    "  where process P [x] : noexit := x; P[x] endproc endspec",
-    "the command `lotosseq check` lists",
-    "  P 1 noexit",
-    "",
-    "Usage: lotosseq check [OPTIONS]",
-    "",
-    "Options:",
-    "      --explain",
-    "          Explains a fault",
-    "          ",
-    "          The message of a fault in the specification is followed on standard error by its line",
-    "          with a mark under the place, and by what to do; where a word or a sign does not fit,",
-    "          also by what is there and what could be there. Output and status stay the same. For",
-    "          example, for `behaviour a stop` it has",
-    "            behaviour a stop",
-    "                        ^",
-    "            `stop` is a reserved word",
-    "            could be here, among others: `;` `[` `[]` `|[` `||` `|||` `[>` `>>` `where` `endspec`",
-    "            Put what is missing before it, or remove it.",
-    "",
-    "      --warn",
-    "          Warns of what is allowed and may be a mistake",
-    "          ",
-    "          If the specification is accepted, standard error has a line with the place of each",
-    "            process that no call names,",
-    "            gate of the specification or of a process that its behaviour does not use,",
-    "            gate in `|[..]|` that the left side or the right side never offers.",
-    "          Output and status stay the same. For example, it warns of the gate `b` of",
-    "            specification S [a,b] : noexit behaviour a; stop endspec",
-    "",
-    "  -h, --help",
-    "          Print help (see a summary with '-h')",
-    "",
-    "Statuses:",
-    "  0  the specification is accepted",
-    "  2  the command or the specification is refused, or cannot be read",
-    "  5  memory was wanting",
-    "  6  the output cannot be written",
-];
+const CHECK: &str = "Checks the static rules and lists the processes
+
+Reads a specification in basic LOTOS from standard input. Where it breaks no static
+rule, a line is written for each process, in the order of their definitions: its name,
+the number of its gates, and `exit` or `noexit`. Else the first fault is named on
+standard error, with its line and column.
+
+For example, with the specification
+  specification S [a] : noexit behaviour P[a]
+  where process P [x] : noexit := x; P[x] endproc endspec
+the command `lotosseq check` lists
+  P 1 noexit
+
+Usage: lotosseq check [OPTIONS]
+
+Options:
+      --explain
+          Explains a fault
+         \x20
+          The message of a fault in the specification is followed on standard error by its line
+          with a mark under the place, and by what to do; where a word or a sign does not fit,
+          also by what is there and what could be there. Output and status stay the same. For
+          example, for `behaviour a stop` it has
+            behaviour a stop
+                        ^
+            `stop` is a reserved word
+            could be here, among others: `;` `[` `[]` `|[` `||` `|||` `[>` `>>` `where` `endspec`
+            Put what is missing before it, or remove it.
+
+      --warn
+          Warns of what is allowed and may be a mistake
+         \x20
+          If the specification is accepted, standard error has a line with the place of each
+            process that no call names,
+            gate of the specification or of a process that its behaviour does not use,
+            gate in `|[..]|` that the left side or the right side never offers.
+          Output and status stay the same. For example, it warns of the gate `b` of
+            specification S [a,b] : noexit behaviour a; stop endspec
+
+  -h, --help
+          Print help (see a summary with '-h')
+
+Statuses:
+  0  the specification is accepted
+  2  the command or the specification is refused, or cannot be read
+  5  memory was wanting
+  6  the output cannot be written
+";
 
 /// `lotosseq -h`
-const PROGRAM_SUMMARY: &[&str] = &[
-    "Checks a basic LOTOS specification, and lists its observable action sequences",
-    "",
-    "Usage: lotosseq <COMMAND>",
-    "",
-    "Commands:",
-    "  search  Lists the sequences that match a pattern",
-    "  check   Checks the static rules and lists the processes",
-    "  ever    Finds a shortest match, of any length",
-    "  help    Print this message or the help of the given subcommand(s)",
-    "",
-    "Options:",
-    "  -h, --help     Print help (see more with '--help')",
-    "  -V, --version  Print version",
-    "",
-    "Statuses:",
-    "  0  the specification is accepted, the listing is complete and has lines, or there is",
-    "     a match",
-    "  1  the listing is complete and has none, or there is no match",
-    "  2  the command, the pattern, the mark or the specification is refused, or cannot",
-    "     be read",
-    "  3  the limit of lines is reached",
-    "  4  a prefix reaches too many terms, or there are too many states",
-    "  5  memory was wanting",
-    "  6  the output cannot be written",
-];
+const PROGRAM_SUMMARY: &str =
+    "Checks a basic LOTOS specification, and lists its observable action sequences
+
+Usage: lotosseq <COMMAND>
+
+Commands:
+  search  Lists the sequences that match a pattern
+  check   Checks the static rules and lists the processes
+  ever    Finds a shortest match, of any length
+  help    Print this message or the help of the given subcommand(s)
+
+Options:
+  -h, --help     Print help (see more with '--help')
+  -V, --version  Print version
+
+Statuses:
+  0  the specification is accepted, the listing is complete and has lines, or there is
+     a match
+  1  the listing is complete and has none, or there is no match
+  2  the command, the pattern, the mark or the specification is refused, or cannot
+     be read
+  3  the limit of lines is reached
+  4  a prefix reaches too many terms, or there are too many states
+  5  memory was wanting
+  6  the output cannot be written
+";
 
 /// `lotosseq search -h`
-const SEARCH_SUMMARY: &[&str] = &[
-    "Lists the sequences that match a pattern",
-    "",
-    "Usage: lotosseq search [OPTIONS] --depth <N> [WORD]...",
-    "",
-    "Arguments:",
-    "  [WORD]...  The words of the pattern: labels and elements",
-    "",
-    "Options:",
-    "      --depth <N>     The most steps of a derivation, 0 to 255",
-    "      --limit <N>     The most lines that are written, 1 to 1000000000",
-    "      --terms <N>     The most terms that a prefix may reach, 1 to 1000000 [default: 100000]",
-    "      --after <LINE>  Lists only what stands after this line of a listing",
-    "      --explain       Writes the least word of each sequence too",
-    "      --strong        Makes the internal action `i` a label like others",
-    "      --known         Refuses words that name no gate of the specification",
-    "      --progress      Tells on standard error how far the search is",
-    "  -h, --help          Print help (see more with '--help')",
-    "",
-    "Statuses:",
-    "  0  the listing is complete and has lines",
-    "  1  the listing is complete and has none",
-    "  2  the command, the pattern, the mark or the specification is refused, or cannot",
-    "     be read",
-    "  3  the limit of lines is reached",
-    "  4  a prefix reaches too many terms",
-    "  5  memory was wanting",
-    "  6  the output cannot be written",
-];
+const SEARCH_SUMMARY: &str = "Lists the sequences that match a pattern
+
+Usage: lotosseq search [OPTIONS] --depth <N> [WORD]...
+
+Arguments:
+  [WORD]...  The words of the pattern: labels and elements
+
+Options:
+      --depth <N>     The most steps of a derivation, 0 to 255
+      --limit <N>     The most lines that are written, 1 to 1000000000
+      --terms <N>     The most terms that a prefix may reach, 1 to 1000000 [default: 100000]
+      --after <LINE>  Lists only what stands after this line of a listing
+      --explain       Writes the least word of each sequence too
+      --strong        Makes the internal action `i` a label like others
+      --known         Refuses words that name no gate of the specification
+      --progress      Tells on standard error how far the search is
+  -h, --help          Print help (see more with '--help')
+
+Statuses:
+  0  the listing is complete and has lines
+  1  the listing is complete and has none
+  2  the command, the pattern, the mark or the specification is refused, or cannot
+     be read
+  3  the limit of lines is reached
+  4  a prefix reaches too many terms
+  5  memory was wanting
+  6  the output cannot be written
+";
 
 /// `lotosseq ever -h`
-const EVER_SUMMARY: &[&str] = &[
-    "Finds a shortest match, of any length",
-    "",
-    "Usage: lotosseq ever [OPTIONS] [WORD]...",
-    "",
-    "Arguments:",
-    "  [WORD]...  The words of the pattern: labels and elements",
-    "",
-    "Options:",
-    "      --states <N>  The most states that may be reached, 1 to 100000000 [default: 1000000]",
-    "      --explain     Writes the word of the derivation too",
-    "      --strong      Makes the internal action `i` a label like others",
-    "      --progress    Tells on standard error how far the search is",
-    "  -h, --help        Print help (see more with '--help')",
-    "",
-    "Statuses:",
-    "  0  there is a match",
-    "  1  there is none, of any length",
-    "  2  the command, the pattern or the specification is refused, or cannot be read",
-    "  4  there are too many states",
-    "  5  memory was wanting",
-    "  6  the output cannot be written",
-];
+const EVER_SUMMARY: &str = "Finds a shortest match, of any length
+
+Usage: lotosseq ever [OPTIONS] [WORD]...
+
+Arguments:
+  [WORD]...  The words of the pattern: labels and elements
+
+Options:
+      --states <N>  The most states that may be reached, 1 to 100000000 [default: 1000000]
+      --explain     Writes the word of the derivation too
+      --strong      Makes the internal action `i` a label like others
+      --progress    Tells on standard error how far the search is
+  -h, --help        Print help (see more with '--help')
+
+Statuses:
+  0  there is a match
+  1  there is none, of any length
+  2  the command, the pattern or the specification is refused, or cannot be read
+  4  there are too many states
+  5  memory was wanting
+  6  the output cannot be written
+";
 
 /// `lotosseq check -h`
-const CHECK_SUMMARY: &[&str] = &[
-    "Checks the static rules and lists the processes",
-    "",
-    "Usage: lotosseq check [OPTIONS]",
-    "",
-    "Options:",
-    "      --explain  Explains a fault",
-    "      --warn     Warns of what is allowed and may be a mistake",
-    "  -h, --help     Print help (see more with '--help')",
-    "",
-    "Statuses:",
-    "  0  the specification is accepted",
-    "  2  the command or the specification is refused, or cannot be read",
-    "  5  memory was wanting",
-    "  6  the output cannot be written",
-];
+const CHECK_SUMMARY: &str = "Checks the static rules and lists the processes
+
+Usage: lotosseq check [OPTIONS]
+
+Options:
+      --explain  Explains a fault
+      --warn     Warns of what is allowed and may be a mistake
+  -h, --help     Print help (see more with '--help')
+
+Statuses:
+  0  the specification is accepted
+  2  the command or the specification is refused, or cannot be read
+  5  memory was wanting
+  6  the output cannot be written
+";
 
 /// `lotosseq --version`
-const VERSION: &[&str] = &["lotosseq 0.1.0 (proved, logic dac8208d650f15bf)"];
+const VERSION: &str = "lotosseq 0.1.0 (proved, logic dac8208d650f15bf)
+";
 
-/// Words that ask for help or for the version, and the lines.
-const ROWS: &[(&[&str], &[&str])] = &[
+/// Words that ask for help or for the version, and the text.
+const ROWS: &[(&[&str], &str)] = &[
     (&["lotosseq", "--help"], PROGRAM),
     (&["lotosseq", "search", "--help"], SEARCH),
     (&["lotosseq", "ever", "--help"], EVER),
@@ -460,7 +435,7 @@ const ROWS: &[(&[&str], &[&str])] = &[
 
 #[test]
 fn each_help(rt: HostRuntime) {
-    for (words, lines) in ROWS {
-        expect_lines(&rt, rt.alloc(), *words, *lines);
+    for (words, text) in ROWS {
+        expect_text(&rt, rt.alloc(), *words, *text);
     }
 }

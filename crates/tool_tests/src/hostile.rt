@@ -6,7 +6,7 @@ mod lengths;
 mod nesting;
 mod truncated_texts;
 
-use super::memory_devices::{ArrayWriter, SliceReader, run_on};
+use super::runs::{self, Outcome, RUN, Run};
 use std::alloc::Global;
 use std::process::Abort;
 
@@ -33,14 +33,19 @@ fn expect(
     text: &[u8],
     answer: &Answer<'_>,
 ) {
-    let reader = SliceReader::new(text, 4096);
-    let out = ArrayWriter::new(4096);
-    let err = ArrayWriter::new(4096);
-    let (status, _reader, out, err) = run_on(alloc, words, reader, out, err);
-    assert_eq!(rt; out.got(), answer.output, "{name}");
-    assert_eq!(rt; err.got(), answer.message, "{name}");
-    assert_eq!(rt; status, answer.status, "{name}");
-    assert_eq!(rt; out.flushes, usize::from(answer.status < 2), "{name}");
+    let run = Run {
+        name,
+        words,
+        text,
+        ..RUN
+    };
+    let outcome = Outcome {
+        output: answer.output,
+        message: answer.message,
+        status: answer.status,
+        flushes: usize::from(answer.status < 2),
+    };
+    runs::expect(rt, alloc, &run, &outcome);
 }
 
 /// Searches and checks the text, and expects both to refuse it with the message.

@@ -1,7 +1,9 @@
 //! Runs with many lines, with a line of many labels, and with a line of one long label.
 
+use super::expected_output::{repeated, repeated_words};
 use super::memory_devices::{ArrayWriter, Comparer, SliceReader, run_on};
-use std::alloc::AllocError;
+use std::alloc::{AllocError, Global};
+use std::process::Abort;
 
 /// The lines that a run must write.
 #[derive(Clone, Copy, Debug)]
@@ -44,6 +46,32 @@ fn two_gates(line: usize, place: usize) -> u8 {
     }
 }
 
+/// What is expected of a run with long output: its lines, the length of each, and the number of all bytes.
+#[derive(Clone, Copy)]
+struct Lines {
+    expected: Expected,
+    length: usize,
+    bytes: usize,
+}
+
+/// Runs the words on the text, and expects these lines, no message and status 0.
+fn expect_lines(rt: &impl Abort, alloc: Global, words: &[&str], text: &[u8], lines: &Lines) {
+    let reader = SliceReader::new(text, 4096);
+    let out = Comparer::new(lines.expected, lines.length);
+    let err = ArrayWriter::new(4096);
+    let (status, _reader, out, err) = run_on(alloc, words, reader, out, err);
+    assert!(rt; err.got().is_empty());
+    assert_eq!(rt; status, 0);
+    expect_got(rt, &out, lines);
+}
+
+/// Expects that these lines were written, each at once.
+fn expect_got(rt: &impl Abort, out: &Comparer, lines: &Lines) {
+    assert_eq!(rt; out.others, 0);
+    assert_eq!(rt; out.got, lines.bytes);
+    assert_eq!(rt; out.largest, lines.length);
+}
+
 #[test]
 fn all_lines_of_twelve_labels(rt: HostRuntime) {
     let text: &[u8] =
@@ -52,14 +80,12 @@ fn all_lines_of_twelve_labels(rt: HostRuntime) {
         "lotosseq", "search", "--depth", "12", "<any>", "<any>", "<any>", "<any>", "<any>",
         "<any>", "<any>", "<any>", "<any>", "<any>", "<any>", "<any>",
     ];
-    let reader = SliceReader::new(text, 4096);
-    let out = Comparer::new(Expected::TwoGates, 24);
-    let err = ArrayWriter::new(4096);
-    let (status, _reader, out, err) = run_on(rt.alloc(), words, reader, out, err);
-    assert!(rt; err.got().is_empty());
-    assert_eq!(rt; out.others, 0);
-    assert_eq!(rt; out.got, 98_304);
-    assert_eq!(rt; status, 0);
+    let lines = Lines {
+        expected: Expected::TwoGates,
+        length: 24,
+        bytes: 98_304,
+    };
+    expect_lines(&rt, rt.alloc(), words, text, &lines);
 }
 
 /// The byte at an index of a line of labels `A`.
@@ -77,21 +103,14 @@ fn one_gate(place: usize) -> u8 {
 fn a_line_of_255_labels(rt: HostRuntime) -> Result<(), AllocError> {
     let text: &[u8] =
         b"specification S [a] : noexit behaviour P[a] where process P [x] : noexit := x; P[x] endproc endspec";
-    let mut words: Vec<&str> = Vec::from_slice(
-        rt.alloc(),
-        &["lotosseq", "search", "--depth", "255"],
-    )?;
-    for _word in 0..255 {
-        words.push("A")?;
-    }
-    let reader = SliceReader::new(text, 4096);
-    let out = Comparer::new(Expected::OneGate, 510);
-    let err = ArrayWriter::new(4096);
-    let (status, _reader, out, err) = run_on(rt.alloc(), words.as_slice(), reader, out, err);
-    assert!(rt; err.got().is_empty());
-    assert_eq!(rt; out.others, 0);
-    assert_eq!(rt; out.got, 510);
-    assert_eq!(rt; status, 0);
+    let front = ["lotosseq", "search", "--depth", "255"];
+    let words = repeated_words(rt.alloc(), front.as_slice(), &["A"], 255)?;
+    let lines = Lines {
+        expected: Expected::OneGate,
+        length: 510,
+        bytes: 510,
+    };
+    expect_lines(&rt, rt.alloc(), words.as_slice(), text, &lines);
     Ok(())
 }
 
@@ -103,27 +122,27 @@ fn long_name(place: usize) -> u8 {
     if place == LONG { b'\n' } else { b'A' }
 }
 
+/// A specification that does one gate with the long name.
+fn long_gate(alloc: Global) -> Result<Vec<u8>, AllocError> {
+    let gates = repeated(
+        alloc,
+        b"specification S [",
+        b"a",
+        LONG,
+        b"] : noexit behaviour ",
+    )?;
+    repeated(alloc, gates.as_slice(), b"a", LONG, b"; stop endspec")
+}
+
 #[test]
 fn a_line_that_is_longer_than_a_page(rt: HostRuntime) -> Result<(), AllocError> {
-    let alloc = rt.alloc();
-    let mut text = Vec::from_slice(alloc, b"specification S [")?;
-    for _letter in 0..LONG {
-        text.push(b'a')?;
-    }
-    text.extend_from_slice(b"] : noexit behaviour ")?;
-    for _letter in 0..LONG {
-        text.push(b'a')?;
-    }
-    text.extend_from_slice(b"; stop endspec")?;
+    let text = long_gate(rt.alloc())?;
     let words: &[&str] = &["lotosseq", "search", "--depth", "1", "<any>"];
-    let reader = SliceReader::new(text.as_slice(), 4096);
-    let out = Comparer::new(Expected::LongName, LONG + 1);
-    let err = ArrayWriter::new(4096);
-    let (status, _reader, out, err) = run_on(alloc, words, reader, out, err);
-    assert!(rt; err.got().is_empty());
-    assert_eq!(rt; out.others, 0);
-    assert_eq!(rt; out.got, LONG + 1);
-    assert_eq!(rt; out.largest, LONG + 1);
-    assert_eq!(rt; status, 0);
+    let lines = Lines {
+        expected: Expected::LongName,
+        length: LONG + 1,
+        bytes: LONG + 1,
+    };
+    expect_lines(&rt, rt.alloc(), words, text.as_slice(), &lines);
     Ok(())
 }

@@ -16,11 +16,29 @@ use std::io::Write;
 use std::process::Abort;
 
 /// Expects what a search reports that ended so, with 300 as the bound on the terms.
-fn expect_search(rt: &impl Abort, ended: &Ended, message: &[u8], status: u8) {
+fn expect_search(rt: &impl Abort, ended: Ended, message: &[u8], status: u8) {
     let mut err = ArrayWriter::new(4096);
-    let found = report_search(ended, 300, &mut err);
+    let found = report_search(&ended, 300, &mut err);
+    expect_report(rt, &err, message, found, status);
+}
+
+/// Expects this message and this status.
+fn expect_report(rt: &impl Abort, err: &ArrayWriter, message: &[u8], found: u8, status: u8) {
     assert_eq!(rt; err.got(), message);
     assert_eq!(rt; found, status);
+}
+
+/// Expects what a search reports that stopped for this cause after a line.
+fn expect_stop_after_a_line(
+    rt: &impl Abort,
+    alloc: Global,
+    why: Why,
+    message: &[u8],
+    status: u8,
+) -> Result<(), AllocError> {
+    let last = Some(String::from_str(alloc, "A exit")?);
+    expect_search(rt, Ended::Stopped { last, why }, message, status);
+    Ok(())
 }
 
 /// Expects what a search reports that stopped for this cause after a line, and before the first one.
@@ -31,18 +49,13 @@ fn expect_stop(
     messages: (&[u8], &[u8]),
     status: u8,
 ) -> Result<(), AllocError> {
-    let last = Some(String::from_str(alloc, "A exit")?);
-    let after = Ended::Stopped {
-        last,
-        why: causes.0,
-    };
-    expect_search(rt, &after, messages.0, status);
-    let before = Ended::Stopped {
+    let (after, before) = causes;
+    let ended = Ended::Stopped {
         last: None,
-        why: causes.1,
+        why: before,
     };
-    expect_search(rt, &before, messages.1, status);
-    Ok(())
+    expect_search(rt, ended, messages.1, status);
+    expect_stop_after_a_line(rt, alloc, after, messages.0, status)
 }
 
 #[test]
@@ -98,48 +111,46 @@ fn a_search_that_stopped_at_an_oversized_prefix(rt: HostRuntime) -> Result<(), A
 
 #[test]
 fn a_search_that_did_not_stop(rt: HostRuntime) {
-    expect_search(&rt, &Ended::Complete { lines: 0 }, b"", 1);
+    expect_search(&rt, Ended::Complete { lines: 0 }, b"", 1);
     for lines in [1u64, 256, 65_536, 4_294_967_296] {
-        expect_search(&rt, &Ended::Complete { lines }, b"", 0);
+        expect_search(&rt, Ended::Complete { lines }, b"", 0);
     }
     let refused = Ended::Refused(Refusal::E49(300));
     let message = b"lotosseq: E49 word 300 is no gate of the specification\n";
-    expect_search(&rt, &refused, message, 2);
+    expect_search(&rt, refused, message, 2);
 }
 
 /// Expects what a check reports that ended so.
-fn expect_check(rt: &impl Abort, ended: &Ended, message: &[u8], status: u8) {
+fn expect_check(rt: &impl Abort, ended: Ended, message: &[u8], status: u8) {
     let mut err = ArrayWriter::new(4096);
-    let found = report_check(ended, &mut err);
-    assert_eq!(rt; err.got(), message);
-    assert_eq!(rt; found, status);
+    let found = report_check(&ended, &mut err);
+    expect_report(rt, &err, message, found, status);
 }
 
 #[test]
 fn checks(rt: HostRuntime) {
     for lines in [0u64, 1, 256] {
-        expect_check(&rt, &Ended::Complete { lines }, b"", 0);
+        expect_check(&rt, Ended::Complete { lines }, b"", 0);
     }
     let refused = Ended::Refused(Refusal::E47);
-    expect_check(&rt, &refused, b"lotosseq: E47 input cannot be read\n", 2);
+    expect_check(&rt, refused, b"lotosseq: E47 input cannot be read\n", 2);
     let full = Ended::Stopped {
         last: None,
         why: Why::Write,
     };
-    expect_check(&rt, &full, b"lotosseq: output cannot be written\n", 6);
+    expect_check(&rt, full, b"lotosseq: output cannot be written\n", 6);
     let memory = Ended::Stopped {
         last: None,
         why: Why::Memory,
     };
-    expect_check(&rt, &memory, b"lotosseq: E99 out of memory\n", 5);
+    expect_check(&rt, memory, b"lotosseq: E99 out of memory\n", 5);
 }
 
 /// Expects what a search for a match reports that ended so, with 300 as the bound on the states.
-fn expect_ever(rt: &impl Abort, ended: &EverEnded, message: &[u8], status: u8) {
+fn expect_ever(rt: &impl Abort, ended: EverEnded, message: &[u8], status: u8) {
     let mut err = ArrayWriter::new(4096);
-    let found = report_ever(ended, 300, &mut err);
-    assert_eq!(rt; err.got(), message);
-    assert_eq!(rt; found, status);
+    let found = report_ever(&ended, 300, &mut err);
+    expect_report(rt, &err, message, found, status);
 }
 
 /// Why a search for a match stops, its message and its status.
@@ -156,39 +167,38 @@ const EVER_STOPS: &[(EverWhy, &[u8], u8)] = &[
 
 #[test]
 fn searches_for_a_match(rt: HostRuntime) {
-    expect_ever(&rt, &EverEnded::Matched, b"", 0);
+    expect_ever(&rt, EverEnded::Matched, b"", 0);
     expect_ever(
         &rt,
-        &EverEnded::NoMatch,
+        EverEnded::NoMatch,
         b"lotosseq: it happens at no depth\n",
         1,
     );
     let refused = EverEnded::Refused(Refusal::E47);
-    expect_ever(&rt, &refused, b"lotosseq: E47 input cannot be read\n", 2);
+    expect_ever(&rt, refused, b"lotosseq: E47 input cannot be read\n", 2);
     for (why, message, status) in EVER_STOPS {
-        expect_ever(&rt, &EverEnded::Stopped(*why), *message, *status);
+        expect_ever(&rt, EverEnded::Stopped(*why), *message, *status);
     }
 }
 
 /// Expects what is written for a fault of the words.
-fn expect_answer(rt: &impl Abort, fault: &CommandFault, output: &[u8], message: &[u8], status: u8) {
+fn expect_answer(rt: &impl Abort, fault: CommandFault, output: &[u8], message: &[u8], status: u8) {
     let mut out = FromWrite::new(ArrayWriter::new(4096));
     let mut err = ArrayWriter::new(4096);
-    let found = answer_fault(fault, &mut out, &mut err);
+    let found = answer_fault(&fault, &mut out, &mut err);
     assert_eq!(rt; out.into_inner().got(), output);
-    assert_eq!(rt; err.got(), message);
-    assert_eq!(rt; found, status);
+    expect_report(rt, &err, message, found, status);
 }
 
 #[test]
 fn faults_of_the_words(rt: HostRuntime) -> Result<(), AllocError> {
     let help = CommandFault::Help(String::from_str(rt.alloc(), "a line\nand another\n")?);
-    expect_answer(&rt, &help, b"a line\nand another\n", b"", 0);
+    expect_answer(&rt, help, b"a line\nand another\n", b"", 0);
     let wrong = CommandFault::Wrong(String::from_str(rt.alloc(), "error: no\n\nUsage: so\n")?);
-    expect_answer(&rt, &wrong, b"", b"error: no\n\nUsage: so\n", 2);
+    expect_answer(&rt, wrong, b"", b"error: no\n\nUsage: so\n", 2);
     expect_answer(
         &rt,
-        &CommandFault::Memory,
+        CommandFault::Memory,
         b"",
         b"lotosseq: E99 out of memory\n",
         5,

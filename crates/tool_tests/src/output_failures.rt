@@ -1,6 +1,7 @@
 //! Commands whose output fails within a listing, or cannot be flushed at its end.
 
-use super::memory_devices::{ArrayWriter, SliceReader, WhenFull, run_on};
+use super::runs::{RUN, Run, Taken, WHOLE, expect_broken, expect_unflushed};
+use std::alloc::Global;
 use std::process::Abort;
 
 const TEXT: &[u8] = b"specification S [a,b] : exit behaviour a; exit [> b; stop endspec";
@@ -35,44 +36,27 @@ const BROKEN: &[(usize, usize, &[u8])] = &[
     ),
 ];
 
+/// Runs the search with an output that is full after `most` bytes, and expects the message.
+fn fail_output(rt: &impl Abort, alloc: Global, most: usize, piece: usize, message: &[u8]) {
+    let run = Run {
+        name: "a listing",
+        words: WORDS,
+        text: TEXT,
+        output: Taken { piece, ..WHOLE },
+        ..RUN
+    };
+    expect_broken(rt, alloc, &run, most, LISTING, message);
+}
+
 #[test]
 fn the_output_fails_within_each_line(rt: HostRuntime) {
     for (first, last, message) in BROKEN {
         for most in *first..=*last {
             for piece in [1usize, 4, 4096] {
-                fail_output(&rt, rt.alloc(), most, piece, WhenFull::Fails, *message);
-                fail_output(
-                    &rt,
-                    rt.alloc(),
-                    most,
-                    piece,
-                    WhenFull::TakesNothing,
-                    *message,
-                );
+                fail_output(&rt, rt.alloc(), most, piece, *message);
             }
         }
     }
-}
-
-/// Runs the search with an output that is full after `most` bytes, and expects the message.
-fn fail_output(
-    rt: &impl Abort,
-    alloc: std::alloc::Global,
-    most: usize,
-    piece: usize,
-    when_full: WhenFull,
-    message: &[u8],
-) {
-    let reader = SliceReader::new(TEXT, 4096);
-    let mut out = ArrayWriter::new(piece);
-    out.most = most;
-    out.when_full = when_full;
-    let err = ArrayWriter::new(4096);
-    let (status, _reader, out, err) = run_on(alloc, WORDS, reader, out, err);
-    assert_eq!(rt; out.got(), &LISTING[..most.min(13)], "after {most}");
-    assert_eq!(rt; err.got(), message, "after {most}");
-    assert_eq!(rt; status, 6, "after {most}");
-    assert_eq!(rt; out.flushes, 0, "after {most}");
 }
 
 /// A command that ends with a flush; `broken` is the message if the flush fails.
@@ -161,20 +145,24 @@ const FLUSHED: &[Row] = &[
     },
 ];
 
+/// Runs the row with an output that can be flushed, and then with one that cannot, and expects one flush of each.
+fn expect_flush(rt: &impl Abort, alloc: Global, row: &Row) {
+    let run = Run {
+        name: row.name,
+        words: row.words,
+        text: row.text,
+        ..RUN
+    };
+    expect_unflushed(rt, alloc, &run, row.output, row.broken);
+    let ran = run.finish(alloc);
+    assert_eq!(rt; ran.output.got(), row.output, "{}", row.name);
+    assert_eq!(rt; ran.output.flushes, 1, "{}", row.name);
+    assert_eq!(rt; ran.status, row.status, "{}", row.name);
+}
+
 #[test]
 fn one_flush_ends_the_writing_or_fails(rt: HostRuntime) {
     for row in FLUSHED {
-        let name = row.name;
-        for fails in [false, true] {
-            let reader = SliceReader::new(row.text, 4096);
-            let mut out = ArrayWriter::new(4096);
-            out.flush_fails = fails;
-            let err = ArrayWriter::new(4096);
-            let (status, _reader, out, err) = run_on(rt.alloc(), row.words, reader, out, err);
-            assert_eq!(rt; out.got(), row.output, "{name}");
-            assert_eq!(rt; out.flushes, 1, "{name}");
-            assert_eq!(rt; status, if fails { 6 } else { row.status }, "{name}");
-            assert_eq!(rt; fails && err.got() != row.broken, false, "{name}");
-        }
+        expect_flush(&rt, rt.alloc(), row);
     }
 }

@@ -2,10 +2,11 @@
 
 use super::expected_output::{repeated, repeated_words};
 use super::memory_devices::{ArrayWriter, SliceReader};
+use super::runs::{RUN, Ran, Run, Taken, WHOLE};
 use lotos_device::{FromRead, FromWrite};
 use lotos_tool::{
-    EverEnded, EverRequest, OutputProgress, Progress, Request, ever_with_progress,
-    list_with_progress, request, run_args_with_terminal, run_with_terminal,
+    EverRequest, OutputProgress, Progress, Request, ever_with_progress, list_with_progress,
+    request, run_args_with_terminal,
 };
 use std::alloc::{AllocError, Global};
 use std::io::{Error, ErrorKind};
@@ -29,63 +30,53 @@ const ALL_WITH_PROGRESS: &[&str] = &[
     "A",
 ];
 
-/// A run: its standard output and standard error, and its status.
-#[derive(Drop)]
-struct Ran {
-    out: ArrayWriter,
-    err: ArrayWriter,
-    status: u8,
-}
-
-/// Runs the words on the text. The output cannot be flushed if `flush_fails`, and the error stream takes `most` bytes.
-fn run_words(
-    alloc: Global,
-    words: &[&str],
-    text: &[u8],
-    terminal: bool,
-    flush_fails: bool,
-    most: usize,
-) -> Ran {
-    let mut reader = FromRead::new(SliceReader::new(text, 4096));
-    let mut writer = ArrayWriter::new(4096);
-    writer.flush_fails = flush_fails;
-    let mut out = FromWrite::new(writer);
-    let mut err = ArrayWriter::new(4096);
-    err.most = most;
-    let status = run_with_terminal(alloc, words, &mut reader, &mut out, &mut err, terminal);
-    Ran {
-        out: out.into_inner(),
-        err,
-        status,
-    }
-}
-
 /// Asserts the messages of a run, with a terminal and without one, and that its output and its status are those of
 /// the same run without progress.
-fn assert_reports(
+fn assert_reports<'a>(
     rt: &impl Abort,
     alloc: Global,
-    words: (&[&str], &[&str]),
+    words: (&'a [&'a str], &'a [&'a str]),
     text: &[u8],
     flush_fails: bool,
     expected: (&[u8], &[u8], u8),
 ) {
-    let (plain_words, words) = words;
-    let (lines, renewed, status) = expected;
-    let plain = run_words(alloc, plain_words, text, false, flush_fails, 4096);
-    let elsewhere = run_words(alloc, words, text, false, flush_fails, 4096);
-    let terminal = run_words(alloc, words, text, true, flush_fails, 4096);
-    assert_eq!(rt; elsewhere.err.got(), lines);
-    assert_eq!(rt; terminal.err.got(), renewed);
-    assert_same(rt, &plain, &elsewhere);
-    assert_same(rt, &plain, &terminal);
-    assert_eq!(rt; plain.status, status);
+    let run = Run {
+        words: words.0,
+        text,
+        output: Taken {
+            flush_fails,
+            ..WHOLE
+        },
+        ..RUN
+    };
+    let plain = run.finish_with_terminal(alloc, false);
+    assert_eq!(rt; plain.status, expected.2);
+    let reporting = Run {
+        words: words.1,
+        ..run
+    };
+    assert_report(rt, alloc, &plain, &reporting, false, expected.0);
+    assert_report(rt, alloc, &plain, &reporting, true, expected.1);
+}
+
+/// Asserts the messages of a run, and that its output and its status are those of the plain run.
+fn assert_report(
+    rt: &impl Abort,
+    alloc: Global,
+    plain: &Ran,
+    run: &Run<'_, '_>,
+    terminal: bool,
+    messages: &[u8],
+) {
+    let ran = run.finish_with_terminal(alloc, terminal);
+    assert_eq!(rt; ran.message.got(), messages);
+    assert_same(rt, plain, &ran);
 }
 
 /// Asserts that two runs have the same output and status.
 fn assert_same(rt: &impl Abort, one: &Ran, other: &Ran) {
-    assert_eq!(rt; one.out.got(), other.out.got());
-    assert_eq!(rt; one.out.flushes, other.out.flushes);
+    assert_eq!(rt; one.output.got(), other.output.got());
+    assert_eq!(rt; one.output.flushes, other.output.flushes);
     assert_eq!(rt; one.status, other.status);
 }
 
@@ -212,21 +203,30 @@ fn a_short_search_reports_nothing(rt: HostRuntime) {
     );
 }
 
+/// The listing, over an error stream that is full after `most` bytes.
+fn assert_unchanged(rt: &impl Abort, alloc: Global, plain: &Ran, most: usize, terminal: bool) {
+    let run = Run {
+        words: ALL_WITH_PROGRESS,
+        message: Taken { most, ..WHOLE },
+        ..LISTED
+    };
+    let other = run.finish_with_terminal(alloc, terminal);
+    assert_same(rt, plain, &other);
+}
+
+/// The listing without progress.
+const LISTED: Run<'static, 'static> = Run {
+    words: ALL,
+    text: ONE_GATE,
+    ..RUN
+};
+
 #[test]
 fn an_error_stream_that_fails_changes_nothing(rt: HostRuntime) {
-    let plain = run_words(rt.alloc(), ALL, ONE_GATE, false, false, 4096);
+    let plain = LISTED.finish_with_terminal(rt.alloc(), false);
     for most in [0usize, 1, 50] {
-        for terminal in [false, true] {
-            let other = run_words(
-                rt.alloc(),
-                ALL_WITH_PROGRESS,
-                ONE_GATE,
-                terminal,
-                false,
-                most,
-            );
-            assert_same(&rt, &plain, &other);
-        }
+        assert_unchanged(&rt, rt.alloc(), &plain, most, false);
+        assert_unchanged(&rt, rt.alloc(), &plain, most, true);
     }
 }
 
@@ -254,11 +254,17 @@ fn ever_observed(
     alloc: Global,
     question: &EverRequest,
     counter: &mut Counter,
-) -> Result<EverEnded, AllocError> {
+) -> Result<(), AllocError> {
     let text = two_sequences(alloc)?;
-    let mut reader = FromRead::new(SliceReader::new(text.as_slice(), 4096));
+    ever_observed_in(alloc, question, text.as_slice(), counter);
+    Ok(())
+}
+
+/// Searches the text for a match.
+fn ever_observed_in(alloc: Global, question: &EverRequest, text: &[u8], counter: &mut Counter) {
+    let mut reader = FromRead::new(SliceReader::new(text, 4096));
     let mut out = FromWrite::new(ArrayWriter::new(4096));
-    Ok(ever_with_progress(alloc, question, &mut reader, &mut out, counter))
+    let _ = ever_with_progress(alloc, question, &mut reader, &mut out, counter);
 }
 
 /// What an observer of the command is told.
@@ -273,9 +279,7 @@ fn observe(alloc: Global, words: &[&str]) -> Result<Counter, AllocError> {
             let mut out = FromWrite::new(ArrayWriter::new(4096));
             let _ = list_with_progress(alloc, &search, &mut reader, &mut out, &mut counter);
         }
-        Ok(Request::Ever(question)) => {
-            let _ = ever_observed(alloc, &question, &mut counter)?;
-        }
+        Ok(Request::Ever(question)) => ever_observed(alloc, &question, &mut counter)?,
         Ok(Request::Check) => {}
         Ok(Request::Diagnose(_asked)) => {}
         Err(_fault) => {}
@@ -283,37 +287,43 @@ fn observe(alloc: Global, words: &[&str]) -> Result<Counter, AllocError> {
     Ok(counter)
 }
 
-#[test]
-fn an_observer_is_told_of_all_visits_and_lines(rt: HostRuntime) -> Result<(), AllocError> {
-    let listed = observe(rt.alloc(), ALL)?;
-    assert_eq!(rt; listed.visits, 2_485);
-    assert_eq!(rt; listed.lines, 71);
-    let unmatched = observe(rt.alloc(), &["lotosseq", "ever", "<until>", "C"])?;
-    assert_eq!(rt; unmatched.visits, 2_601);
-    assert_eq!(rt; unmatched.lines, 0);
-    let matched = observe(rt.alloc(), &["lotosseq", "ever", "<until>", "<deadlock>"])?;
-    assert_eq!(rt; matched.visits, 2_601);
-    assert_eq!(rt; matched.lines, 1);
+/// Asserts what an observer of the command is told.
+fn assert_told(
+    rt: &impl Abort,
+    alloc: Global,
+    words: &[&str],
+    visits: usize,
+    lines: usize,
+) -> Result<(), AllocError> {
+    let told = observe(alloc, words)?;
+    assert_eq!(rt; told.visits, visits);
+    assert_eq!(rt; told.lines, lines);
     Ok(())
 }
 
 #[test]
+fn an_observer_is_told_of_all_visits_and_lines(rt: HostRuntime) -> Result<(), AllocError> {
+    let matched = ["lotosseq", "ever", "<until>", "<deadlock>"];
+    let unmatched = ["lotosseq", "ever", "<until>", "C"];
+    assert_told(&rt, rt.alloc(), ALL, 2_485, 71)?;
+    assert_told(&rt, rt.alloc(), unmatched.as_slice(), 2_601, 0)?;
+    assert_told(&rt, rt.alloc(), matched.as_slice(), 2_601, 1)
+}
+
+/// Runs arguments that cannot be read, with an error stream that is a terminal or is none.
+fn assert_unreadable(rt: &impl Abort, alloc: Global, terminal: bool) {
+    let mut reader = FromRead::new(SliceReader::new(ONE_GATE, 4096));
+    let mut out = FromWrite::new(ArrayWriter::new(4096));
+    let mut err = ArrayWriter::new(4096);
+    let args = Err(Error::from(ErrorKind::InvalidData));
+    let status = run_args_with_terminal(alloc, args, &mut reader, &mut out, &mut err, terminal);
+    assert_eq!(rt; err.got(), b"lotosseq: E99 out of memory\n".as_slice());
+    assert_eq!(rt; status, 5);
+    assert!(rt; out.into_inner().got().is_empty());
+}
+
+#[test]
 fn arguments_that_cannot_be_read_by_a_terminal(rt: HostRuntime) {
-    for terminal in [false, true] {
-        let mut reader = FromRead::new(SliceReader::new(ONE_GATE, 4096));
-        let mut out = FromWrite::new(ArrayWriter::new(4096));
-        let mut err = ArrayWriter::new(4096);
-        let args = Err(Error::from(ErrorKind::InvalidData));
-        let status = run_args_with_terminal(
-            rt.alloc(),
-            args,
-            &mut reader,
-            &mut out,
-            &mut err,
-            terminal,
-        );
-        assert_eq!(rt; err.got(), b"lotosseq: E99 out of memory\n".as_slice());
-        assert_eq!(rt; status, 5);
-        assert!(rt; out.into_inner().got().is_empty());
-    }
+    assert_unreadable(&rt, rt.alloc(), false);
+    assert_unreadable(&rt, rt.alloc(), true);
 }

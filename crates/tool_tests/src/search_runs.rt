@@ -10,7 +10,7 @@ mod operator_rows;
 mod repetition;
 mod strong;
 
-use super::memory_devices::{ArrayWriter, SliceReader, run_on};
+use super::runs::{self, Outcome, RUN, Run};
 use std::alloc::Global;
 use std::process::Abort;
 
@@ -26,13 +26,17 @@ struct Row {
 
 /// Runs the search, and expects the output, the message, the status, and one flush.
 fn expect(rt: &impl Abort, alloc: Global, row: &Row) {
-    let name = row.name;
-    let reader = SliceReader::new(row.text, 4096);
-    let out = ArrayWriter::new(4096);
-    let err = ArrayWriter::new(4096);
-    let (status, _reader, out, err) = run_on(alloc, row.words, reader, out, err);
-    assert_eq!(rt; out.got(), row.output, "{name}");
-    assert_eq!(rt; err.got(), row.message, "{name}");
-    assert_eq!(rt; status, row.status, "{name}");
-    assert_eq!(rt; out.flushes, 1, "{name}");
+    let run = Run {
+        name: row.name,
+        words: row.words,
+        text: row.text,
+        ..RUN
+    };
+    let outcome = Outcome {
+        output: row.output,
+        message: row.message,
+        status: row.status,
+        flushes: 1,
+    };
+    runs::expect(rt, alloc, &run, &outcome);
 }

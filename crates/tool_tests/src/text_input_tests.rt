@@ -3,62 +3,89 @@
 use super::memory_devices::{Blanks, SliceReader};
 use lotos_device::{FromRead, ReadFault, Source, read_text};
 use lotos_text::TEXT_LIMIT;
+use std::alloc::Global;
+use std::process::Abort;
 use std::test::Fail;
+
+/// Reads the text by pieces of this many bytes, and expects it whole.
+fn expect_whole(
+    rt: &impl Abort,
+    alloc: Global,
+    text: &[u8],
+    pieces: &str,
+    piece: usize,
+) -> Result<(), Fail> {
+    let mut reader = FromRead::new(SliceReader::new(text, piece));
+    let read = read_text(alloc, &mut reader).ok().ok_or("a fault")?;
+    assert_eq!(rt; read.as_slice(), text, "by {pieces}");
+    assert!(rt; !reader.failed(), "by {pieces}");
+    Ok(())
+}
 
 #[test]
 fn reads_a_text_whole_from_any_pieces(rt: HostRuntime) -> Result<(), Fail> {
     let text: &[u8] = b"specification S: noexit behaviour stop endspec";
-    for (pieces, piece) in [
-        ("single bytes", 1),
-        ("three bytes", 3),
-        ("all at once", 4096),
-    ] {
-        let mut reader = FromRead::new(SliceReader::new(text, piece));
-        let read = read_text(rt.alloc(), &mut reader).ok().ok_or("a fault")?;
-        assert_eq!(rt; read.as_slice(), text, "by {pieces}");
-        assert!(rt; !reader.failed(), "by {pieces}");
-    }
-    Ok(())
+    expect_whole(&rt, rt.alloc(), text, "single bytes", 1)?;
+    expect_whole(&rt, rt.alloc(), text, "three bytes", 3)?;
+    expect_whole(&rt, rt.alloc(), text, "all at once", 4096)
+}
+
+/// Reads a text, and expects this fault, and that the source remembers a failure.
+fn expect_fault<'a>(
+    rt: &impl Abort,
+    alloc: Global,
+    name: &str,
+    bytes: SliceReader<'a>,
+    fault: Option<ReadFault>,
+) -> SliceReader<'a> {
+    let fails = bytes.fails_at.is_some();
+    let mut reader = FromRead::new(bytes);
+    let found = read_text(alloc, &mut reader).err();
+    assert_eq!(rt; found, fault, "{name}");
+    assert_eq!(rt; reader.failed(), fails, "{name}");
+    reader.into_inner()
+}
+
+/// The read with this number fails.
+fn expect_device_fault(rt: &impl Abort, alloc: Global, number: usize) {
+    let mut bytes = SliceReader::new(b"stop", 1);
+    bytes.fails_at = Some(number);
+    let bytes = expect_fault(rt, alloc, "a failed read", bytes, Some(ReadFault::Device));
+    assert_eq!(rt; bytes.reads, number);
 }
 
 #[test]
 fn a_failed_read_is_a_fault_of_the_device(rt: HostRuntime) {
     for number in 1usize..=5 {
-        let mut bytes = SliceReader::new(b"stop", 1);
-        bytes.fails_at = Some(number);
-        let mut reader = FromRead::new(bytes);
-        let fault = read_text(rt.alloc(), &mut reader).err();
-        assert_eq!(rt; fault, Some(ReadFault::Device), "at read {number}");
-        assert!(rt; reader.failed(), "at read {number}");
-        assert_eq!(rt; reader.into_inner().reads, number, "at read {number}");
+        expect_device_fault(&rt, rt.alloc(), number);
     }
+}
+
+/// Reads a text of so many bytes, and expects that all of them are read.
+fn expect_length(
+    rt: &impl Abort,
+    alloc: Global,
+    text: &str,
+    length: usize,
+    fault: Option<ReadFault>,
+) -> Result<(), Fail> {
+    let bytes = vec![in alloc; b' '; length]?;
+    let read = expect_fault(rt, alloc, text, SliceReader::new(&bytes, 4096), fault);
+    assert!(rt; read.rest.is_empty(), "at {text}");
+    Ok(())
 }
 
 #[test]
 fn a_text_may_have_so_many_bytes_and_no_more(rt: HostRuntime) -> Result<(), Fail> {
-    let cases = [
-        ("the longest text", TEXT_LIMIT, None),
-        ("one byte more", TEXT_LIMIT + 1, Some(ReadFault::TooLong)),
-    ];
-    for (text, length, fault) in cases {
-        let bytes = vec![in rt.alloc(); b' '; length]?;
-        let mut reader = FromRead::new(SliceReader::new(&bytes, 4096));
-        assert_eq!(rt;
-            read_text(rt.alloc(), &mut reader).err(),
-            fault,
-            "at {text}"
-        );
-        assert!(rt; reader.into_inner().rest.is_empty(), "at {text}");
-    }
-    Ok(())
+    expect_length(&rt, rt.alloc(), "the longest text", TEXT_LIMIT, None)?;
+    let too_long = Some(ReadFault::TooLong);
+    expect_length(&rt, rt.alloc(), "one byte more", TEXT_LIMIT + 1, too_long)
 }
 
 #[test]
 fn an_endless_text_is_given_up_after_one_byte_too_many(rt: HostRuntime) {
     let mut reader = FromRead::new(Blanks { reads: 0 });
-    assert_eq!(rt;
-        read_text(rt.alloc(), &mut reader).err(),
-        Some(ReadFault::TooLong)
-    );
+    let found = read_text(rt.alloc(), &mut reader).err();
+    assert_eq!(rt; found, Some(ReadFault::TooLong));
     assert_eq!(rt; reader.into_inner().reads, 1_048_577);
 }

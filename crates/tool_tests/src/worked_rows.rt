@@ -1,6 +1,13 @@
 //! Complete runs of searches, of help, and of words that fit no command: the output, the message, and the status.
 
-use super::memory_devices::{ArrayWriter, SliceReader, WhenFull, run_on};
+use super::expected_output::repeated_words;
+use super::runs::{
+    Bytes, Outcome, Parts, RUN, Run, SINGLE, SINGLE_BYTES, Taken, UNREAD, WHOLE, expect,
+    expect_broken, expect_parts, expect_refused_unread, expect_refused_words, expect_unflushed,
+    expect_unreadable,
+};
+use std::alloc::{AllocError, Global};
+use std::process::Abort;
 
 /// A search of a text, and what it writes.
 struct Row {
@@ -175,19 +182,33 @@ const ROWS: &[Row] = &[
     },
 ];
 
+/// Runs the search with devices that move so many bytes, and expects what it writes, and a flush if the status is 0 or 1.
+fn expect_search(rt: &impl Abort, alloc: Global, row: &Row, piece: usize) {
+    let pieces = Taken { piece, ..WHOLE };
+    let run = Run {
+        name: row.name,
+        number: piece,
+        words: row.words,
+        text: row.text,
+        piece,
+        output: pieces,
+        message: pieces,
+        ..RUN
+    };
+    let outcome = Outcome {
+        output: row.output,
+        message: row.message,
+        status: row.status,
+        flushes: usize::from(row.status < 2),
+    };
+    expect(rt, alloc, &run, &outcome);
+}
+
 #[test]
 fn searches(rt: HostRuntime) {
     for row in ROWS {
-        let name = row.name;
         for piece in [1usize, 7, 4096] {
-            let reader = SliceReader::new(row.text, piece);
-            let out = ArrayWriter::new(piece);
-            let err = ArrayWriter::new(piece);
-            let (status, _reader, out, err) = run_on(rt.alloc(), row.words, reader, out, err);
-            assert_eq!(rt; out.got(), row.output, "{name}");
-            assert_eq!(rt; err.got(), row.message, "{name}");
-            assert_eq!(rt; status, row.status, "{name}");
-            assert_eq!(rt; out.flushes, usize::from(status < 2), "{name}");
+            expect_search(&rt, rt.alloc(), row, piece);
         }
     }
 }
@@ -266,15 +287,7 @@ const PATTERNS: &[(&[&str], &[u8])] = &[
 #[test]
 fn patterns_that_are_refused_before_anything_is_read(rt: HostRuntime) {
     for (words, message) in PATTERNS {
-        let reader = SliceReader::new(b"specification", 1);
-        let out = ArrayWriter::new(1);
-        let err = ArrayWriter::new(1);
-        let (status, reader, out, err) = run_on(rt.alloc(), *words, reader, out, err);
-        assert_eq!(rt; err.got(), *message);
-        assert_eq!(rt; status, 2);
-        assert_eq!(rt; reader.reads, 0);
-        assert!(rt; out.got().is_empty());
-        assert_eq!(rt; out.flushes, 0);
+        expect_refused_words(&rt, rt.alloc(), "a pattern", *words, *message);
     }
 }
 
@@ -300,52 +313,75 @@ const NO_LINES: &[&str] = &[
     "A :A: B",
 ];
 
-#[test]
-fn marks_that_are_refused_before_anything_is_read(rt: HostRuntime) {
-    for line in NO_LINES {
-        let reader = SliceReader::new(b"specification", 1);
-        let out = ArrayWriter::new(1);
-        let err = ArrayWriter::new(1);
-        let words = ["lotosseq", "search", "--depth", "1", "--after", *line, "A"];
-        let (status, reader, out, err) = run_on(rt.alloc(), words.as_slice(), reader, out, err);
-        assert_eq!(rt;
-            err.got(),
-            b"lotosseq: E46 mark is no line of a listing\n".as_slice(),
-            "{line}"
-        );
-        assert_eq!(rt; status, 2, "{line}");
-        assert_eq!(rt; reader.reads, 0, "{line}");
-        assert!(rt; out.got().is_empty(), "{line}");
-        assert_eq!(rt; out.flushes, 0, "{line}");
-    }
+/// Expects that the line is refused as a mark.
+fn expect_no_mark(rt: &impl Abort, alloc: Global, line: &'static str) {
+    let words = ["lotosseq", "search", "--depth", "1", "--after", line, "A"];
+    let message = b"lotosseq: E46 mark is no line of a listing\n";
+    expect_refused_words(rt, alloc, line, words.as_slice(), message);
 }
 
 #[test]
-fn a_pattern_has_at_most_256_elements(rt: HostRuntime) -> Result<(), std::test::Fail> {
-    for count in [256usize, 257] {
-        let mut words: Vec<&str> = Vec::from_slice(
-            rt.alloc(),
-            &["lotosseq", "search", "--depth", "255"],
-        )?;
-        for _word in 0..count {
-            words.push("A")?;
-        }
-        let text = b"specification S [a] : noexit behaviour a; stop endspec";
-        let reader = SliceReader::new(text, 4096);
-        let out = ArrayWriter::new(4096);
-        let err = ArrayWriter::new(4096);
-        let (status, reader, out, err) = run_on(rt.alloc(), words.as_slice(), reader, out, err);
-        let message: &[u8] = if count == 256 {
-            b""
-        } else {
-            b"lotosseq: E44 pattern is over 256 elements\n"
-        };
-        assert_eq!(rt; err.got(), message, "{count}");
-        assert_eq!(rt; status, if count == 256 { 1 } else { 2 }, "{count}");
-        assert_eq!(rt; reader.reads == 0, count == 257, "{count}");
-        assert!(rt; out.got().is_empty(), "{count}");
+fn marks_that_are_refused_before_anything_is_read(rt: HostRuntime) {
+    for line in NO_LINES {
+        expect_no_mark(&rt, rt.alloc(), *line);
+    }
+}
+
+/// The words of a search for so many labels `A`.
+fn many_words(alloc: Global, count: usize) -> Result<Vec<&'static str>, AllocError> {
+    repeated_words(
+        alloc,
+        &["lotosseq", "search", "--depth", "255"],
+        &["A"],
+        count,
+    )
+}
+
+/// Expects what a search for so many labels writes, and its status; if it is refused, nothing was read.
+fn expect_elements(
+    rt: &impl Abort,
+    alloc: Global,
+    count: usize,
+    message: &[u8],
+    status: u8,
+) -> Result<(), AllocError> {
+    let words = many_words(alloc, count)?;
+    let run = Run {
+        name: "elements of a pattern",
+        number: count,
+        words: words.as_slice(),
+        text: b"specification S [a] : noexit behaviour a; stop endspec",
+        ..RUN
+    };
+    if status == 2 {
+        expect_refused_unread(rt, alloc, &run, message);
+    } else {
+        expect_searched(rt, alloc, &run, message, status);
     }
     Ok(())
+}
+
+/// Expects that the text is read, and that no sequence is found.
+fn expect_searched(rt: &impl Abort, alloc: Global, run: &Run<'_, '_>, message: &[u8], status: u8) {
+    let outcome = Outcome {
+        output: b"",
+        message,
+        status,
+        flushes: 1,
+    };
+    expect(rt, alloc, run, &outcome);
+}
+
+#[test]
+fn a_pattern_has_at_most_256_elements(rt: HostRuntime) -> Result<(), AllocError> {
+    expect_elements(&rt, rt.alloc(), 256, b"", 1)?;
+    expect_elements(
+        &rt,
+        rt.alloc(),
+        257,
+        b"lotosseq: E44 pattern is over 256 elements\n",
+        2,
+    )
 }
 
 const TEXT: &[u8] = b"specification S [a,b] : exit behaviour a; b; exit endspec";
@@ -354,128 +390,137 @@ const WORDS: &[&str] = &["lotosseq", "search", "--depth", "3", "A", "B", "exit"]
 
 const LINE: &[u8] = b"A B exit\n";
 
+/// A run that writes the line.
+const LISTED: Run<'static, 'static> = Run {
+    name: "a listing",
+    words: WORDS,
+    text: TEXT,
+    output: SINGLE,
+    message: SINGLE,
+    ..RUN
+};
+
 #[test]
 fn each_read_fails_in_turn(rt: HostRuntime) {
-    for k in 1usize..59 {
-        let mut reader = SliceReader::new(TEXT, 1);
-        reader.fails_at = Some(k);
-        let out = ArrayWriter::new(1);
-        let err = ArrayWriter::new(1);
-        let (status, _reader, out, err) = run_on(rt.alloc(), WORDS, reader, out, err);
-        assert_eq!(rt;
-            err.got(),
-            b"lotosseq: E47 input cannot be read\n".as_slice(),
-            "at {k}"
-        );
-        assert_eq!(rt; status, 2, "at {k}");
-        assert!(rt; out.got().is_empty(), "at {k}");
+    let run = Run { piece: 1, ..LISTED };
+    for number in 1usize..59 {
+        expect_unreadable(&rt, rt.alloc(), &run, number);
     }
 }
 
 #[test]
 fn the_output_fails_after_each_byte(rt: HostRuntime) {
-    for when_full in [WhenFull::Fails, WhenFull::TakesNothing] {
-        for k in 0usize..9 {
-            let reader = SliceReader::new(TEXT, 4096);
-            let mut out = ArrayWriter::new(1);
-            out.most = k;
-            out.when_full = when_full;
-            let err = ArrayWriter::new(1);
-            let (status, _reader, out, err) = run_on(rt.alloc(), WORDS, reader, out, err);
-            assert_eq!(rt; out.got(), &LINE[..k], "after {k}");
-            assert_eq!(rt;
-                err.got(),
-                b"lotosseq: stopped before the first line: output cannot be written\n".as_slice(),
-                "after {k}"
-            );
-            assert_eq!(rt; status, 6, "after {k}");
-        }
+    for most in 0usize..9 {
+        expect_broken(
+            &rt,
+            rt.alloc(),
+            &LISTED,
+            most,
+            LINE,
+            b"lotosseq: stopped before the first line: output cannot be written\n",
+        );
     }
 }
 
 #[test]
 fn a_flush_that_fails_is_a_failed_write(rt: HostRuntime) {
-    let reader = SliceReader::new(TEXT, 4096);
-    let mut out = ArrayWriter::new(4);
-    out.flush_fails = true;
-    let err = ArrayWriter::new(1);
-    let (status, _reader, out, err) = run_on(rt.alloc(), WORDS, reader, out, err);
-    assert_eq!(rt; out.got(), LINE);
-    assert_eq!(rt;
-        err.got(),
-        b"lotosseq: stopped after A B exit: output cannot be written\n".as_slice()
+    let run = Run {
+        output: Taken { piece: 4, ..WHOLE },
+        ..LISTED
+    };
+    expect_unflushed(
+        &rt,
+        rt.alloc(),
+        &run,
+        LINE,
+        b"lotosseq: stopped after A B exit: output cannot be written\n",
     );
-    assert_eq!(rt; status, 6);
-    assert_eq!(rt; out.flushes, 1);
 }
 
 #[test]
 fn a_message_that_cannot_be_written_changes_no_status(rt: HostRuntime) {
-    let reader = SliceReader::new(b"", 1);
-    let out = ArrayWriter::new(1);
-    let mut err = ArrayWriter::new(1);
-    err.most = 3;
-    let (status, _reader, _out, err) = run_on(rt.alloc(), WORDS, reader, out, err);
-    assert_eq!(rt; err.got(), b"lot".as_slice());
-    assert_eq!(rt; status, 2);
+    let run = Run {
+        name: "a message that cannot be written",
+        words: WORDS,
+        text: b"",
+        message: Taken {
+            piece: 1,
+            most: 3,
+            ..WHOLE
+        },
+        ..SINGLE_BYTES
+    };
+    let outcome = Outcome {
+        output: b"",
+        message: b"lot",
+        status: 2,
+        flushes: 0,
+    };
+    expect(&rt, rt.alloc(), &run, &outcome);
 }
+
+/// Words that ask for help.
+const HELP: &[&[&str]] = &[
+    &["lotosseq", "--help"],
+    &["lotosseq", "search", "--help"],
+    &["lotosseq", "check", "--help"],
+    &["lotosseq", "help"],
+];
 
 #[test]
 fn help_goes_to_the_output(rt: HostRuntime) {
-    for words in [
-        ["lotosseq", "--help"].as_slice(),
-        ["lotosseq", "search", "--help"].as_slice(),
-        ["lotosseq", "check", "--help"].as_slice(),
-        ["lotosseq", "help"].as_slice(),
-    ] {
-        let reader = SliceReader::new(b"", 1);
-        let out = ArrayWriter::new(4096);
-        let err = ArrayWriter::new(4096);
-        let (status, reader, out, err) = run_on(rt.alloc(), words, reader, out, err);
-        assert_eq!(rt; status, 0);
-        assert_eq!(rt; reader.reads, 0);
-        assert!(rt; !out.got().is_empty());
-        assert!(rt; err.got().is_empty());
-        assert_eq!(rt; out.flushes, 1);
+    let parts = Parts {
+        output: Bytes::AtLeastOne,
+        message: Bytes::Are(b""),
+        status: 0,
+        flushes: Some(1),
+        ..UNREAD
+    };
+    for words in HELP {
+        let run = Run {
+            words: *words,
+            ..RUN
+        };
+        expect_parts(&rt, rt.alloc(), &run, &parts);
     }
 }
 
+/// Words that fit no command.
+const NO_COMMANDS: &[&[&str]] = &[
+    &["lotosseq"],
+    &["lotosseq", "search", "A"],
+    &["lotosseq", "search", "--depth", "256", "A"],
+    &["lotosseq", "search", "--depth", "1", "--depth", "1"],
+    &["lotosseq", "search", "--depth", "one"],
+    &["lotosseq", "search", "--depth"],
+    &["lotosseq", "search", "--limit", "1", "A"],
+    &["lotosseq", "search", "--depth=1", "--limit", "0"],
+    &["lotosseq", "search", "--depth=1", "--limit=1000000001"],
+    &["lotosseq", "search", "--depth=1", "--limit=1", "--limit=1"],
+    &["lotosseq", "search", "--depth=1", "--limit"],
+    &["lotosseq", "search", "--depth=1", "--terms", "0"],
+    &["lotosseq", "search", "--depth=1", "--terms=1000001"],
+    &["lotosseq", "search", "--depth=1", "--terms=1", "--terms=1"],
+    &["lotosseq", "search", "--depth=1", "--terms"],
+    &["lotosseq", "search", "--depth=1", "--after"],
+    &["lotosseq", "search", "--depth=1", "--after=A", "--after=A"],
+    &["lotosseq", "search", "--depth=1", "--explain", "--explain"],
+    &["lotosseq", "search", "--depth=1", "--explain=yes"],
+    &["lotosseq", "search", "--depth=1", "--strong", "--strong"],
+    &["lotosseq", "search", "--depth=1", "--strong=yes"],
+    &["lotosseq", "search", "--depth=1", "--all"],
+    &["lotosseq", "check", "A"],
+    &["lotosseq", "check", "--depth", "1"],
+    &["lotosseq", "check", "search", "--depth", "1"],
+];
+
 #[test]
 fn command_faults(rt: HostRuntime) {
-    for words in [
-        ["lotosseq"].as_slice(),
-        ["lotosseq", "search", "A"].as_slice(),
-        ["lotosseq", "search", "--depth", "256", "A"].as_slice(),
-        ["lotosseq", "search", "--depth", "1", "--depth", "1"].as_slice(),
-        ["lotosseq", "search", "--depth", "one"].as_slice(),
-        ["lotosseq", "search", "--depth"].as_slice(),
-        ["lotosseq", "search", "--limit", "1", "A"].as_slice(),
-        ["lotosseq", "search", "--depth=1", "--limit", "0"].as_slice(),
-        ["lotosseq", "search", "--depth=1", "--limit=1000000001"].as_slice(),
-        ["lotosseq", "search", "--depth=1", "--limit=1", "--limit=1"].as_slice(),
-        ["lotosseq", "search", "--depth=1", "--limit"].as_slice(),
-        ["lotosseq", "search", "--depth=1", "--terms", "0"].as_slice(),
-        ["lotosseq", "search", "--depth=1", "--terms=1000001"].as_slice(),
-        ["lotosseq", "search", "--depth=1", "--terms=1", "--terms=1"].as_slice(),
-        ["lotosseq", "search", "--depth=1", "--terms"].as_slice(),
-        ["lotosseq", "search", "--depth=1", "--after"].as_slice(),
-        ["lotosseq", "search", "--depth=1", "--after=A", "--after=A"].as_slice(),
-        ["lotosseq", "search", "--depth=1", "--explain", "--explain"].as_slice(),
-        ["lotosseq", "search", "--depth=1", "--explain=yes"].as_slice(),
-        ["lotosseq", "search", "--depth=1", "--strong", "--strong"].as_slice(),
-        ["lotosseq", "search", "--depth=1", "--strong=yes"].as_slice(),
-        ["lotosseq", "search", "--depth=1", "--all"].as_slice(),
-        ["lotosseq", "check", "A"].as_slice(),
-        ["lotosseq", "check", "--depth", "1"].as_slice(),
-        ["lotosseq", "check", "search", "--depth", "1"].as_slice(),
-    ] {
-        let reader = SliceReader::new(b"", 1);
-        let out = ArrayWriter::new(4096);
-        let err = ArrayWriter::new(4096);
-        let (status, reader, out, err) = run_on(rt.alloc(), words, reader, out, err);
-        assert_eq!(rt; status, 2);
-        assert_eq!(rt; reader.reads, 0);
-        assert!(rt; out.got().is_empty());
-        assert!(rt; !err.got().is_empty());
+    for words in NO_COMMANDS {
+        let run = Run {
+            words: *words,
+            ..RUN
+        };
+        expect_parts(&rt, rt.alloc(), &run, &UNREAD);
     }
 }

@@ -1,6 +1,9 @@
 //! Messages that cannot be written: this changes neither the output nor the status.
 
-use super::super::memory_devices::{ArrayWriter, SliceReader, WhenFull, run_on};
+use super::super::memory_devices::WhenFull;
+use super::super::runs::{Bytes, Parts, RUN, Run, Taken, UNREAD, WHOLE, expect_parts};
+use std::alloc::Global;
+use std::process::Abort;
 
 const TEXT: &[u8] = b"specification S [a,b] : exit behaviour a; exit [> b; stop endspec";
 
@@ -89,38 +92,68 @@ const ROWS: &[Row] = &[
     },
 ];
 
+/// Runs the row over an error stream that is full after `most` bytes, and expects what the row says.
+fn expect_row(rt: &impl Abort, alloc: Global, row: &Row, most: usize, when_full: WhenFull) {
+    let run = Run {
+        name: row.name,
+        number: most,
+        words: row.words,
+        text: row.text,
+        output: Taken {
+            piece: 4,
+            most: row.most,
+            ..WHOLE
+        },
+        message: Taken {
+            piece: 3,
+            most,
+            when_full,
+            ..WHOLE
+        },
+        ..RUN
+    };
+    let parts = Parts {
+        output: Bytes::Are(row.output),
+        message: Bytes::Begin(row.message),
+        status: row.status,
+        reads: None,
+        flushes: None,
+    };
+    expect_parts(rt, alloc, &run, &parts);
+}
+
 #[test]
 fn a_message_that_cannot_be_written_changes_nothing(rt: HostRuntime) {
     for row in ROWS {
-        let name = row.name;
-        for when_full in [WhenFull::Fails, WhenFull::TakesNothing] {
-            for most in 0..row.message.len() {
-                let reader = SliceReader::new(row.text, 4096);
-                let mut out = ArrayWriter::new(4);
-                out.most = row.most;
-                let mut err = ArrayWriter::new(3);
-                err.most = most;
-                err.when_full = when_full;
-                let (status, _reader, out, err) = run_on(rt.alloc(), row.words, reader, out, err);
-                assert_eq!(rt; out.got(), row.output, "{name} after {most}");
-                assert_eq!(rt; status, row.status, "{name} after {most}");
-                assert!(rt; row.message.starts_with(err.got()), "{name} after {most}");
-            }
+        for most in 0..row.message.len() {
+            expect_row(&rt, rt.alloc(), row, most, WhenFull::Fails);
+            expect_row(&rt, rt.alloc(), row, most, WhenFull::TakesNothing);
         }
     }
+}
+
+/// Runs words that fit no command over an error stream that is full after `most` bytes.
+fn expect_unread(rt: &impl Abort, alloc: Global, most: usize) {
+    let run = Run {
+        words: &["lotosseq", "search", "A"],
+        text: TEXT,
+        message: Taken {
+            piece: 3,
+            most,
+            ..WHOLE
+        },
+        ..RUN
+    };
+    let parts = Parts {
+        message: Bytes::AtMost(most),
+        ..UNREAD
+    };
+    expect_parts(rt, alloc, &run, &parts);
 }
 
 #[test]
 fn a_command_fault_that_cannot_be_written_changes_nothing(rt: HostRuntime) {
     for most in 0usize..40 {
-        let reader = SliceReader::new(TEXT, 4096);
-        let out = ArrayWriter::new(4096);
-        let mut err = ArrayWriter::new(3);
-        err.most = most;
-        let words = ["lotosseq", "search", "A"];
-        let (status, reader, out, _err) = run_on(rt.alloc(), words.as_slice(), reader, out, err);
-        assert_eq!(rt; status, 2, "after {most}");
-        assert_eq!(rt; reader.reads, 0, "after {most}");
-        assert!(rt; out.got().is_empty(), "after {most}");
+        expect_unread(&rt, rt.alloc(), most);
     }
 }

@@ -1,6 +1,7 @@
 //! Bytes that are not ASCII or begin no token, in texts, in comments, in patterns and in marks.
 
-use super::super::memory_devices::{ArrayWriter, SliceReader, run_on};
+use super::super::expected_output::repeated;
+use super::super::runs::expect_refused_words;
 use super::{Answer, NOTHING, SEARCH, expect, expect_refused};
 use std::alloc::{AllocError, Global};
 use std::process::Abort;
@@ -34,9 +35,12 @@ fn each_byte_may_stand_in_a_comment(rt: HostRuntime) -> Result<(), AllocError> {
         status: 0,
     };
     for byte in 0u8..=255 {
-        let mut text = Vec::from_slice(rt.alloc(), b"specification S [a] : noexit behaviour a(*")?;
-        text.push(byte)?;
-        text.extend_from_slice(b"*); stop endspec")?;
+        let text = around(
+            rt.alloc(),
+            b"specification S [a] : noexit behaviour a(*",
+            byte,
+            b"*); stop endspec",
+        )?;
         expect(
             &rt,
             rt.alloc(),
@@ -49,12 +53,20 @@ fn each_byte_may_stand_in_a_comment(rt: HostRuntime) -> Result<(), AllocError> {
     Ok(())
 }
 
+/// The byte between two parts of a text.
+fn around(alloc: Global, front: &[u8], byte: u8, back: &[u8]) -> Result<Vec<u8>, AllocError> {
+    repeated(alloc, front, &[byte], 1, back)
+}
+
 #[test]
 fn bytes_that_are_no_ascii_begin_no_token(rt: HostRuntime) -> Result<(), AllocError> {
     for byte in 128u8..=255 {
-        let mut text = Vec::from_slice(rt.alloc(), b"specification S [a] : noexit behaviour a;")?;
-        text.push(byte)?;
-        text.extend_from_slice(b" stop endspec")?;
+        let text = around(
+            rt.alloc(),
+            b"specification S [a] : noexit behaviour a;",
+            byte,
+            b" stop endspec",
+        )?;
         expect_refused(
             &rt,
             rt.alloc(),
@@ -82,31 +94,34 @@ const FOREIGN_NAMES: &[&str] = &[
     "A\0",
 ];
 
+/// Expects that the name is no word of a pattern.
+fn expect_no_word(rt: &impl Abort, alloc: Global, name: &'static str) {
+    let words = ["lotosseq", "search", "--depth", "1", name];
+    expect_refused_words(rt, alloc, name, words.as_slice(), NO_WORD);
+    let words = ["lotosseq", "search", "--depth", "1", "--strong", name];
+    expect_refused_words(rt, alloc, name, words.as_slice(), NO_WORD);
+}
+
+const NO_WORD: &[u8] = b"lotosseq: E41 word 1 is neither a label nor an element\n";
+
+/// Expects that the name is no label after the element.
+fn expect_no_label(rt: &impl Abort, alloc: Global, element: &'static str, name: &'static str) {
+    let words = ["lotosseq", "search", "--depth", "1", element, name];
+    expect_refused_words(
+        rt,
+        alloc,
+        name,
+        words.as_slice(),
+        b"lotosseq: E42 word 1 needs a label or <deadlock> after it\n",
+    );
+}
+
 #[test]
 fn letters_that_are_no_ascii_are_no_words_of_a_pattern(rt: HostRuntime) {
     for name in FOREIGN_NAMES {
-        for words in [
-            ["lotosseq", "search", "--depth", "1", *name].as_slice(),
-            ["lotosseq", "search", "--depth", "1", "--strong", *name].as_slice(),
-        ] {
-            expect_refused_unread(
-                &rt,
-                rt.alloc(),
-                name,
-                words,
-                b"lotosseq: E41 word 1 is neither a label nor an element\n",
-            );
-        }
-        for element in ["<until>", "<UNTIL>"] {
-            let words = ["lotosseq", "search", "--depth", "1", element, *name];
-            expect_refused_unread(
-                &rt,
-                rt.alloc(),
-                name,
-                words.as_slice(),
-                b"lotosseq: E42 word 1 needs a label or <deadlock> after it\n",
-            );
-        }
+        expect_no_word(&rt, rt.alloc(), *name);
+        expect_no_label(&rt, rt.alloc(), "<until>", *name);
+        expect_no_label(&rt, rt.alloc(), "<UNTIL>", *name);
     }
 }
 
@@ -114,31 +129,12 @@ fn letters_that_are_no_ascii_are_no_words_of_a_pattern(rt: HostRuntime) {
 fn letters_that_are_no_ascii_are_no_lines_of_a_listing(rt: HostRuntime) {
     for name in FOREIGN_NAMES {
         let words = ["lotosseq", "search", "--depth", "1", "--after", *name, "A"];
-        expect_refused_unread(
+        expect_refused_words(
             &rt,
             rt.alloc(),
-            name,
+            *name,
             words.as_slice(),
             b"lotosseq: E46 mark is no line of a listing\n",
         );
     }
-}
-
-/// Runs the words, and expects them to be refused before anything is read.
-fn expect_refused_unread(
-    rt: &impl Abort,
-    alloc: Global,
-    name: &str,
-    words: &[&str],
-    message: &[u8],
-) {
-    let reader = SliceReader::new(b"specification", 1);
-    let out = ArrayWriter::new(4096);
-    let err = ArrayWriter::new(4096);
-    let (status, reader, out, err) = run_on(alloc, words, reader, out, err);
-    assert_eq!(rt; err.got(), message, "{name}");
-    assert_eq!(rt; status, 2, "{name}");
-    assert_eq!(rt; reader.reads, 0, "{name}");
-    assert!(rt; out.got().is_empty(), "{name}");
-    assert_eq!(rt; out.flushes, 0, "{name}");
 }

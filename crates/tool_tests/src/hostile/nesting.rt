@@ -2,6 +2,7 @@
 
 use super::{Answer, NOTHING, SEARCH, expect, expect_refused};
 use std::alloc::{AllocError, Global};
+use std::process::Abort;
 
 const FRONT: &[u8] = b"specification S [a] : noexit behaviour ";
 
@@ -103,16 +104,29 @@ const ROWS: &[Row] = &[
     },
 ];
 
+/// Searches the text with the construct nested 200 times.
+fn expect_nested(rt: &impl Abort, alloc: Global, row: &Row) -> Result<(), AllocError> {
+    let text = text_of(alloc, row, 200)?;
+    let answer = Answer {
+        output: row.output,
+        message: NOTHING,
+        status: if row.output.is_empty() { 1 } else { 0 },
+    };
+    expect(rt, alloc, row.name, SEARCH, text.as_slice(), &answer);
+    Ok(())
+}
+
+/// Searches the text with the construct nested 201 times.
+fn expect_too_deep(rt: &impl Abort, alloc: Global, row: &Row) -> Result<(), AllocError> {
+    let text = text_of(alloc, row, 201)?;
+    expect_refused(rt, alloc, row.name, text.as_slice(), row.message);
+    Ok(())
+}
+
 #[test]
 fn constructs_nest_so_deep(rt: HostRuntime) -> Result<(), AllocError> {
     for row in ROWS {
-        let text = text_of(rt.alloc(), row, 200)?;
-        let answer = Answer {
-            output: row.output,
-            message: NOTHING,
-            status: if row.output.is_empty() { 1 } else { 0 },
-        };
-        expect(&rt, rt.alloc(), row.name, SEARCH, text.as_slice(), &answer);
+        expect_nested(&rt, rt.alloc(), row)?;
     }
     Ok(())
 }
@@ -120,8 +134,7 @@ fn constructs_nest_so_deep(rt: HostRuntime) -> Result<(), AllocError> {
 #[test]
 fn constructs_nest_no_deeper(rt: HostRuntime) -> Result<(), AllocError> {
     for row in ROWS {
-        let text = text_of(rt.alloc(), row, 201)?;
-        expect_refused(&rt, rt.alloc(), row.name, text.as_slice(), row.message);
+        expect_too_deep(&rt, rt.alloc(), row)?;
     }
     Ok(())
 }

@@ -1,7 +1,9 @@
 //! Searches that refuse words that name no gate of the specification, and the same searches without `--known`.
 
 use super::Row;
-use crate::memory_devices::{ArrayWriter, SliceReader, run_on};
+use crate::runs::{Outcome, RUN, Run, SINGLE_BYTES, Taken, WHOLE, expect, expect_refused_unread};
+use std::alloc::Global;
+use std::process::Abort;
 
 const TWO_STEPS: &[u8] = b"specification S [a,b] : exit behaviour a; b; exit endspec";
 
@@ -188,19 +190,30 @@ const ROWS: &[Row] = &[
     },
 ];
 
+/// Runs the search with devices that move a few bytes, and expects what the row says, and one flush if it is not refused.
+fn expect_row(rt: &impl Abort, alloc: Global, row: &Row) {
+    let run = Run {
+        name: row.name,
+        words: row.words,
+        text: row.text,
+        piece: 7,
+        output: Taken { piece: 4, ..WHOLE },
+        message: Taken { piece: 5, ..WHOLE },
+        ..RUN
+    };
+    let outcome = Outcome {
+        output: row.output,
+        message: row.message,
+        status: row.status,
+        flushes: usize::from(row.status != 2),
+    };
+    expect(rt, alloc, &run, &outcome);
+}
+
 #[test]
 fn words_that_name_no_gate(rt: HostRuntime) {
     for row in ROWS {
-        let name = row.name;
-        let reader = SliceReader::new(row.text, 7);
-        let out = ArrayWriter::new(4);
-        let err = ArrayWriter::new(5);
-        let (status, _reader, out, err) = run_on(rt.alloc(), row.words, reader, out, err);
-        let flushes = if row.status == 2 { 0usize } else { 1 };
-        assert_eq!(rt; out.got(), row.output, "{name}");
-        assert_eq!(rt; err.got(), row.message, "{name}");
-        assert_eq!(rt; status, row.status, "{name}");
-        assert_eq!(rt; out.flushes, flushes, "{name}");
+        expect_row(&rt, rt.alloc(), row);
     }
 }
 
@@ -227,14 +240,12 @@ const REFUSED_UNREAD: &[(&[&str], &[u8])] = &[
 #[test]
 fn faults_of_the_pattern_and_the_mark_come_first(rt: HostRuntime) {
     for (words, message) in REFUSED_UNREAD {
-        let reader = SliceReader::new(TWO_STEPS, 1);
-        let out = ArrayWriter::new(1);
-        let err = ArrayWriter::new(1);
-        let (status, reader, out, err) = run_on(rt.alloc(), *words, reader, out, err);
-        assert_eq!(rt; err.got(), *message);
-        assert_eq!(rt; status, 2);
-        assert_eq!(rt; reader.reads, 0);
-        assert!(rt; out.got().is_empty());
-        assert_eq!(rt; out.flushes, 0);
+        let run = Run {
+            name: "a fault of the words",
+            words: *words,
+            text: TWO_STEPS,
+            ..SINGLE_BYTES
+        };
+        expect_refused_unread(&rt, rt.alloc(), &run, *message);
     }
 }
