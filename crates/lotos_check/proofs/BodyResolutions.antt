@@ -18,13 +18,7 @@ use Rattle.lotos_check.specs.declared.fault.CheckFault.TheVariants.{E99}
 use Rattle.std.specs.declared.alloc.AllocError.{AllocError}
 use Rattle.lotos_check.proofs.JoinedLists.{in_back, in_front}
 use Rattle.lotos_check.proofs.DefinitionParts.{formals_shown, inner_shown}
-
-pairs_append : {X Y : Type 0} {P : X → Y → Type 0} (xs us : List X) (ys vs : List Y) → Pairwise P xs ys → Pairwise P us vs →
-    Pairwise P (xs ++ us) (ys ++ vs)
-pairs_append [] us [] vs no_pair q = q
-pairs_append [] us (y ∷ ys) vs h q = elim h [ ]
-pairs_append (x ∷ xs) us [] vs h q = elim h [ ]
-pairs_append (x ∷ xs) us (y ∷ ys) vs (one_pair p r) q = one_pair p (pairs_append xs us ys vs r q)
+use Rattle.lotos_check.proofs.Pairs.{pairs_joined}
 
 -- what is found of these and then of those is found of both
 pub adds_append : (these those : List ScopedDefinition) (old between new : List ResolvedBody) → AddsBodies these old between →
@@ -33,7 +27,7 @@ pub adds_append : (these those : List ScopedDefinition) (old between new : List 
 adds_append these those old between new h k = record {
   more = h.more ++ k.more;
   joined = rw (k.joined, h.joined) (append_assoc old h.more k.more);
-  found = pairs_append these those h.more k.more h.found k.found;
+  found = pairs_joined these those h.more k.more h.found k.found;
 }
 
 -- of no definitions nothing is found
