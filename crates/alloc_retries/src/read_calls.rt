@@ -3,6 +3,7 @@
 use crate::lines::Line;
 use crate::retry_heap::{Heap, Stop};
 use lotos_device::{FromRead, ReadFault, read_text};
+use lotos_text::TEXT_LIMIT;
 use std::alloc::Global;
 use std::fmt::Write;
 use std::io::{self, Read};
@@ -35,7 +36,7 @@ fn text_of(heap: &mut Heap, length: u64) -> Result<Vec<u8>, ReadFault> {
 /// Reads a whole text from a source made for it.
 fn read(alloc: Global, length: u64) -> Result<Vec<u8>, ReadFault> {
     let mut source = FromRead::new(io::repeat(b'a').take(length));
-    read_text(alloc, &mut source)
+    read_text(alloc, &mut source, TEXT_LIMIT)
 }
 
 fn write_length(line: &mut Line, text: &[u8]) -> Result<(), Stop> {

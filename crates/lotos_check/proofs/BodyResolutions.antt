@@ -6,7 +6,7 @@ use Rattle.lotos_text.specs.AstView.{DefinitionView, def, DefinitionListView, mo
 use Rattle.lotos_text.specs.AstOf.{definition_view, definitions_view}
 use Rattle.lotos_text.specs.declared.ast.Definition.{Definition, out-Definition}
 use Rattle.lotos_text.specs.declared.ast.Placed.{Placed}
-use Rattle.lotos_check.specs.NameLists.{Name, In, texts}
+use Rattle.lotos_check.specs.NameLists.{Name, texts}
 use Rattle.lotos_check.specs.Scope.{Scope, ScopedDefinition, count, within, definitions_in_scope, definition_in_scope}
 use Rattle.lotos_check.specs.ProcessScopes.{HasNames, IsScopeStack, BindsAll}
 use Rattle.lotos_check.specs.Flat.{Pairwise, no_pair, one_pair}
@@ -18,13 +18,7 @@ use Rattle.lotos_check.specs.declared.fault.CheckFault.TheVariants.{E99}
 use Rattle.std.specs.declared.alloc.AllocError.{AllocError}
 use Rattle.lotos_check.proofs.JoinedLists.{in_back, in_front}
 use Rattle.lotos_check.proofs.DefinitionParts.{formals_shown, inner_shown}
-
-pairs_append : {X Y : Type 0} {P : X → Y → Type 0} (xs us : List X) (ys vs : List Y) → Pairwise P xs ys → Pairwise P us vs →
-    Pairwise P (xs ++ us) (ys ++ vs)
-pairs_append [] us [] vs no_pair q = q
-pairs_append [] us (y ∷ ys) vs h q = elim h [ ]
-pairs_append (x ∷ xs) us [] vs h q = elim h [ ]
-pairs_append (x ∷ xs) us (y ∷ ys) vs (one_pair p r) q = one_pair p (pairs_append xs us ys vs r q)
+use Rattle.lotos_check.proofs.Pairs.{pairs_joined}
 
 -- what is found of these and then of those is found of both
 pub adds_append : (these those : List ScopedDefinition) (old between new : List ResolvedBody) → AddsBodies these old between →
@@ -33,7 +27,7 @@ pub adds_append : (these those : List ScopedDefinition) (old between new : List 
 adds_append these those old between new h k = record {
   more = h.more ++ k.more;
   joined = rw (k.joined, h.joined) (append_assoc old h.more k.more);
-  found = pairs_append these those h.more k.more h.found k.found;
+  found = pairs_joined these those h.more k.more h.found k.found;
 }
 
 -- of no definitions nothing is found

@@ -8,62 +8,29 @@ use Rattle.lotos_check.specs.NameLists.{In}
 use Rattle.lotos_check.specs.Flat.{FlatProcess, Pairwise, no_pair, one_pair}
 use Rattle.lotos_check.specs.Guard.{Calls, CallsUnguarded}
 use Rattle.lotos_check.specs.RankingSteps.{AreCalls, CallsInRange, ListsCall, AreConsistentRanks, count_unranked}
-
--- the list that is read at an index is the one there
-pub list_at : {X : Type 0} (items_of : X → List ℕ) (edges : List X) (p : ℕ) (x : X) → p < length edges →
-    x ≡ get_or edges p x → slice_get (map items_of edges) p ≡ Some (items_of x)
-list_at items_of edges p x h e = rw (slice_get-map items_of edges p, slice_get_read edges (length edges) p x refl h e) refl
-
--- there is a list for each process
-pub edges_length : (edges : List (List ℕ)) (processes : List FlatProcess) → Pairwise AreCalls edges processes →
-    length edges ≡ length processes
-edges_length [] [] no_pair = refl
-edges_length [] (process ∷ processes) all = elim all [ ]
-edges_length (calls ∷ edges) [] all = elim all [ ]
-edges_length (calls ∷ edges) (process ∷ processes) (one_pair h all) = ap suc (edges_length edges processes all)
+use Rattle.lotos_check.proofs.Pairs.{pair_end, pair_of_first, pair_of_second, pairs_length}
 
 -- what is in the list of a process is called by it
 pub lists_call : (edges : List (List ℕ)) (processes : List FlatProcess) → Pairwise AreCalls edges processes → (p q : ℕ) →
     ListsCall edges p q → Calls processes p q
-lists_call [] [] no_pair p q (calls, e, i) = cc
-lists_call [] (process ∷ processes) all p q lists = elim all [ ]
-lists_call (calls ∷ edges) [] all p q lists = elim all [ ]
-lists_call (calls ∷ edges) (process ∷ processes) (one_pair h all) zero q (list, e, i) =
-    let same : calls ≡ list = cc in
-    record { process = process; located = refl; calls = (h q).0 (rw same i) }
-lists_call (calls ∷ edges) (process ∷ processes) (one_pair h all) (suc p) q lists =
-    let later = lists_call edges processes all p q lists in
-    record { process = later.process; located = later.located; calls = later.calls }
+lists_call edges processes all p q (list, e, i) =
+    let r = pair_of_first edges processes all p list e in
+    record { process = r.0; located = r.1; calls = (r.2 q).0 i }
 
 -- what a process calls is in its list
 pub calls_list : (edges : List (List ℕ)) (processes : List FlatProcess) → Pairwise AreCalls edges processes → (p q : ℕ) →
     Calls processes p q → ListsCall edges p q
-calls_list [] [] no_pair p q c = let e = c.located in cc
-calls_list [] (process ∷ processes) all p q c = elim all [ ]
-calls_list (calls ∷ edges) [] all p q c = elim all [ ]
-calls_list (calls ∷ edges) (process ∷ processes) (one_pair h all) zero q c =
-    let e = c.located in
-    let same : process ≡ c.process = cc in
-    (calls, refl, (h q).1 (rw same c.calls))
-calls_list (calls ∷ edges) (process ∷ processes) (one_pair h all) (suc p) q c =
-    calls_list edges processes all p q (record { process = c.process; located = c.located; calls = c.calls })
+calls_list edges processes all p q c =
+    let r = pair_of_second edges processes all p c.process c.located in
+    (r.0, r.1, (r.2 q).1 c.calls)
 
 -- where every call goes to a process that there is, the lists hold such processes only
 pub in_range : (edges : List (List ℕ)) (processes : List FlatProcess) (count : ℕ) → count ≡ length processes →
     Pairwise AreCalls edges processes → ((p q : ℕ) → Calls processes p q → q < count) → CallsInRange edges
 in_range edges processes count counted all within = λ p q lists.
     let below = within p q (lists_call edges processes all p q lists) in
-    let sized = edges_length edges processes all in
+    let sized = pairs_length edges processes all in
     omega arith
-
-pair_end : (edges : List (List ℕ)) (processes : List FlatProcess) (calls : List ℕ) (process : FlatProcess) →
-    Pairwise AreCalls edges processes → AreCalls calls process →
-    Pairwise AreCalls (edges ++ calls ∷ []) (processes ++ process ∷ [])
-pair_end [] [] calls process no_pair h = one_pair h no_pair
-pair_end [] (other ∷ processes) calls process all h = elim all [ ]
-pair_end (first ∷ edges) [] calls process all h = elim all [ ]
-pair_end (first ∷ edges) (other ∷ processes) calls process (one_pair g all) h =
-    one_pair g (pair_end edges processes calls process all h)
 
 -- the lists so far, and the list of the next process
 pub next_list : {X Y : Type 0} (items_of : X → List ℕ) (process_of : Y → FlatProcess) (edges : List X)
@@ -108,4 +75,4 @@ unnumbered edges n e = record {
 -- at the beginning no process has a rank
 pub none_numbered : (edges : List (List ℕ)) (processes : List FlatProcess) (n : ℕ) → n ≡ length processes →
     Pairwise AreCalls edges processes → AreConsistentRanks edges (replicate n None) 0
-none_numbered edges processes n e all = let sized = edges_length edges processes all in unnumbered edges n (omega arith)
+none_numbered edges processes n e all = let sized = pairs_length edges processes all in unnumbered edges n (omega arith)

@@ -13,8 +13,10 @@ use Rattle.lotos_check.specs.Bodies.{ContainsCall, itself, under_prefix, left_ch
 use Rattle.lotos_check.specs.StaticFaults.{IsE23}
 use Rattle.lotos_check.specs.Acceptance.{IsAccepted}
 use Rattle.lotos_check.proofs.JoinedLists.{in_either}
+use Rattle.lotos_check.proofs.ListIndices.{get_front}
 use Rattle.lotos_check.proofs.FlatSystemUnique.{paired_at}
 use Rattle.lotos_check.proofs.ScopedDefinitions.{listed_count}
+use Rattle.lotos_check.proofs.Pairs.{pair_of_first}
 
 -- the behaviour contains a call of a name that is bound to the process, with these gates
 record IsCalled (scope : Scope) (known : List Name) (body : BehaviourView) (k : ℕ) (gates : List Name) : Type 0 where
@@ -75,11 +77,6 @@ named_call scope known t c k gates of_exit h = elim h [ ]
 -- the second list is in the first from that index on
 abbrev StandsFrom : List ScopedDefinition → ℕ → List ScopedDefinition → Type 0
 StandsFrom all k some = (i j : ℕ) (v : ScopedDefinition) → j ≡ k + i → slice_get some i ≡ Some v → slice_get all j ≡ Some v
-
-get_front : (xs ys : List ScopedDefinition) (i : ℕ) (v : ScopedDefinition) → slice_get xs i ≡ Some v → slice_get (xs ++ ys) i ≡ Some v
-get_front [] ys i v e = cc
-get_front (x ∷ xs) ys zero v e = e
-get_front (x ∷ xs) ys (suc i) v e = get_front xs ys i v e
 
 get_back : (xs ys : List ScopedDefinition) (i j : ℕ) (v : ScopedDefinition) → j ≡ length xs + i → slice_get ys i ≡ Some v →
     slice_get (xs ++ ys) j ≡ Some v
@@ -170,20 +167,12 @@ meant_at all (w ∷ ws) numbered n q d (nearest x) =
 meant_at all (w ∷ ws) numbered n q d (outward none x) = meant_at all ws (λ v i. numbered v (inr i)) n q d x
 meant_at all [] numbered n q d x = elim x [ ]
 
-process_at : (vs : List ScopedDefinition) (ps : List FlatProcess) → Pairwise IsProcess vs ps → (i : ℕ) (v : ScopedDefinition) → slice_get vs i ≡ Some v →
-    (p : FlatProcess) × (slice_get ps i ≡ Some p) × IsProcess v p
-process_at [] [] no_pair i v e = cc
-process_at (w ∷ vs) (p ∷ ps) (one_pair h hs) zero v e = let f : w ≡ v = cc in (p, refl, subst (λ x. IsProcess x p) f h)
-process_at (w ∷ vs) (p ∷ ps) (one_pair h hs) (suc i) v e = process_at vs ps hs i v e
-process_at [] (p ∷ ps) h i v e = elim h [ ]
-process_at (w ∷ vs) [] h i v e = elim h [ ]
-
 -- the process of the number that a name means is the definition that it means
 called_process : (whole : DefinitionView) (s : System) → IsFlat whole s → (v : ScopedDefinition) → In v (all_definitions whole) → (n : Name) (k : ℕ) (d : DefinitionView) →
     Binds v.scope n k d → IsProcessOf s k d
 called_process whole s flat v i n k d m =
     let at = meant_at (processes_of whole) v.scope (visible_numbered whole v i) n k d m in
-    let p = process_at (processes_of whole) s.processes flat.processes k at.scoped at.located in
+    let p = pair_of_first (processes_of whole) s.processes flat.processes k at.scoped at.located in
     record {
       process = p.0;
       located = p.1;

@@ -12,7 +12,7 @@ use Rattle.lotos_check.specs.ProcessScopes.{HasNames}
 use Rattle.lotos_check.specs.Resolution.{IsActionDeclared, IsUndeclaredAction}
 use Rattle.lotos_check.specs.declared.fault.CheckFault.TheVariants.{E21}
 use Rattle.lotos_check.proofs.JoinedLists.{in_front, in_back, in_either}
-use Rattle.lotos_check.proofs.NameTests.{in_if_any, out_if_none}
+use Rattle.lotos_check.proofs.NameTests.{name_found, name_missing}
 
 module _ {K : Type 0} (now : K → Name) where
   -- the name is among the keys, which are the old ones and some more after them
@@ -28,7 +28,7 @@ module _ {K : Type 0} (now : K → Name) where
     more = [];
     joined = sym (append-nil old);
     from = λ m i. inl i;
-    holds = λ m h. elim h [ inl i ↦ i | inr e ↦ subst (λ m. In m (map now old)) e (in_if_any now n old found) ];
+    holds = λ m h. elim h [ inl i ↦ i | inr e ↦ subst (λ m. In m (map now old)) e (name_found now n old found) ];
   }
   inserted n old key is_text false none =
       let grown = map-append now old (key ∷ []) in
@@ -117,7 +117,7 @@ module _ {K : Type 0} (now : K → Name) where
     -- the next of the gates is among the keys
     pub found_more : there ≡ true → Found keys gates left
     found_more yes_there =
-        let i = subst (λ m. In m (map now keys)) text (in_if_any now n keys (sym says ∙ yes_there)) in
+        let i = subst (λ m. In m (map now keys)) text (name_found now n keys (sym says ∙ yes_there)) in
         record {
           done = λ g h. elim (found.done g h) [
             | inl j ↦ inl j
@@ -131,7 +131,7 @@ module _ {K : Type 0} (now : K → Name) where
         In q gates × (In q.name names → ⊥)
     found_unknown not_there names knows q same = (
       subst (λ r. In r gates) (sym same) (found.left p (subst (In p) (sym next) (inl refl))),
-      λ i. out_if_none now n keys (sym says ∙ not_there)
+      λ i. name_missing now n keys (sym says ∙ not_there)
           (subst (λ m. In m (map now keys)) (ap (λ r. r.name) same ∙ sym text) ((knows q.name).1 i)),
     )
 

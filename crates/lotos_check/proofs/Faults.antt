@@ -16,6 +16,8 @@ use Rattle.lotos_check.specs.declared.fault.CheckFault.TheVariants.{E20, E21, E2
 use Rattle.lotos_check.proofs.UnguardedSets.{unguarded_has_no_ranking}
 use Rattle.lotos_check.proofs.ScopedDefinitions.{everywhere_in_order}
 use Rattle.lotos_check.proofs.FlatSystemUnique.{same_processes}
+use Rattle.lotos_check.proofs.Pairs.{pair_of_second}
+use Rattle.lotos_check.proofs.ListIndices.{get_in, get_map, one_item}
 
 -- a name that is declared twice breaks a rule
 pub repeat_faulty : (whole : DefinitionView) (fault : CheckFault) → IsDuplicateFault whole fault → IsStaticFault whole fault
@@ -73,11 +75,11 @@ misnamed_faulty whole (E99 e) h = tt
 
 found_at : (vs : List ScopedDefinition) (found : List ResolvedBody) → Pairwise IsResolvedBody vs found → (i : ℕ) (d : DefinitionView) (r : ResolvedBody) →
     slice_get (map (λ v. v.definition) vs) i ≡ Some d → slice_get found i ≡ Some r → (v : ScopedDefinition) × In v vs × (v.definition ≡ d) × IsResolvedBody v r
-found_at [] [] no_pair i d r e f = cc
-found_at (v ∷ vs) (x ∷ found) (one_pair h hs) zero d r e f = let g : x ≡ r = cc in (v, inl refl, (cc), subst (IsResolvedBody v) g h)
-found_at (v ∷ vs) (x ∷ found) (one_pair h hs) (suc i) d r e f = let n = found_at vs found hs i d r e f in (n.0, inr n.1, n.2, n.3)
-found_at [] (x ∷ found) h i d r e f = elim h [ ]
-found_at (v ∷ vs) [] h i d r e f = elim h [ ]
+found_at vs found pairs i d r e f =
+    let n = pair_of_second vs found pairs i r f in
+    let m = get_map (λ (v : ScopedDefinition). v.definition) vs i d e in
+    let same = ap (λ (v : ScopedDefinition). v.definition) (one_item vs i n.0 m.0 n.1 m.1) in
+    (n.0, get_in vs i n.0 n.1, same ∙ m.2, n.2)
 
 never_at : (v : ScopedDefinition) (never : Option ℕ) (at : ℕ) → never ≡ Some at →
     MatchOption never (LeftsExit v.scope (texts (formals_of v.definition)) (body_of v.definition))
@@ -145,19 +147,13 @@ faulty_refused whole (E27 name set) h = unguarded_refused whole name set.items h
 faulty_refused whole (E99 e) h = tt
 
 -- the definition of a process is in the list of all, after the specification
-process_at : (vs : List ScopedDefinition) (i : ℕ) (d : DefinitionView) → slice_get (map (λ v. v.definition) vs) i ≡ Some d →
-    (v : ScopedDefinition) × (slice_get vs i ≡ Some v) × (v.definition ≡ d)
-process_at [] i d e = cc
-process_at (v ∷ vs) zero d e = (v, refl, (cc))
-process_at (v ∷ vs) (suc i) d e = process_at vs i d e
-
 -- an unguarded set that is not empty breaks the rule of guarded recursion, by the name of its first process
 pub unguarded_faulty : (whole : DefinitionView) (system : System) (set : List ℕ) (first : ℕ) (others : List ℕ) (name : Placed) (d : DefinitionView) →
     IsFlat whole system → IsLargestUnguardedSet system.processes set → set ≡ first ∷ others →
     slice_get (definitions_in whole) (suc first) ≡ Some d → name ≡ name_of d → IsE27 whole name set
 unguarded_faulty whole system set first others name d flat unguarded begins stands named =
     let e = everywhere_in_order whole in
-    let at = process_at (processes_of whole) first d (rw e at stands) in
+    let at = get_map (λ (v : ScopedDefinition). v.definition) (processes_of whole) first d (rw e at stands) in
     record {
       system = system;
       flat = flat;

@@ -4,65 +4,16 @@ use Rattle.std.specs.Prelude.{slice_get}
 use Rattle.lotos_text.specs.AstView.{BehaviourView, DefinitionView, body_of}
 use Rattle.lotos_text.specs.declared.ast.Placed.{Placed}
 use Rattle.lotos_text.specs.declared.ast.Functionality.{Functionality}
-use Rattle.lotos_check.specs.NameLists.{Name, In, Below, IsAscendingNames, none, one, more, IsSetOf}
+use Rattle.lotos_check.specs.NameLists.{Name, In, IsSetOf}
 use Rattle.lotos_check.specs.Scope.{Scope, ScopedDefinition, Binds, IsDistinctScope, processes_of, within}
 use Rattle.lotos_check.specs.StaticFaults.{IsDistinct}
 use Rattle.lotos_check.specs.Flat.{Flat, FlatProcess, System, Pairwise, no_pair, one_pair, IsProcess, IsFlat, Resolves, of_stop, of_exit, of_prefix, of_choice, of_par, of_par_all, of_hide, of_enable, of_disable, of_call}
 use Rattle.lotos_check.specs.Guard.{Calls, CallsUnguarded, itself, left_choice, right_choice, left_par, right_par, under_hide, left_enable, left_disable, right_disable}
 use Rattle.lotos_check.proofs.BindingUnique.{one_meant}
+use Rattle.lotos_check.proofs.ListIndices.{get_in}
+use Rattle.lotos_check.proofs.NameOrder.{one_set}
+use Rattle.lotos_check.proofs.Pairs.{pair_of_second, pairs_length}
 use Rattle.lotos_check.proofs.ScopedDefinitions.{visible_distinct, meant_below}
-
-below_differ : (x y : Name) → Below x y → x ≡ y → ⊥
-below_differ [] [] h e = h
-below_differ [] (b ∷ y) h e = cc
-below_differ (a ∷ x) [] h e = h
-below_differ (a ∷ x) (b ∷ y) (inl h) e = let f : a ≡ b = cc in absurd (omega arith)
-below_differ (a ∷ x) (b ∷ y) (inr (f, h)) e = below_differ x y h (cc)
-
-not_below : (x : Name) → Below x x → ⊥
-not_below x h = below_differ x x h refl
-
-below_both : (x y z : Name) → Below x y → Below y z → Below x z
-below_both [] [] z h k = absurd h
-below_both [] (b ∷ y) [] h k = absurd k
-below_both [] (b ∷ y) (c ∷ z) h k = tt
-below_both (a ∷ x) [] z h k = absurd h
-below_both (a ∷ x) (b ∷ y) [] h k = absurd k
-below_both (a ∷ x) (b ∷ y) (c ∷ z) (inl h) (inl k) = inl (omega arith)
-below_both (a ∷ x) (b ∷ y) (c ∷ z) (inl h) (inr (f, k)) = inl (subst (λ n. a < n) f h)
-below_both (a ∷ x) (b ∷ y) (c ∷ z) (inr (e, h)) (inl k) = inl (subst (λ n. n < c) (sym e) k)
-below_both (a ∷ x) (b ∷ y) (c ∷ z) (inr (e, h)) (inr (f, k)) = inr (e ∙ f, below_both x y z h k)
-
-first_below : (x : Name) (xs : List Name) → IsAscendingNames (x ∷ xs) → (y : Name) → In y xs → Below x y
-first_below x [] a y i = absurd i
-first_below x (z ∷ zs) (more b a) y (inl e) = subst (Below x) e b
-first_below x (z ∷ zs) (more b a) y (inr i) = below_both x z y b (first_below z zs a y i)
-
-rest_ascends : (x : Name) (xs : List Name) → IsAscendingNames (x ∷ xs) → IsAscendingNames xs
-rest_ascends x [] one = none
-rest_ascends x (y ∷ ys) (more b a) = a
-
-same_first : (x y : Name) (xs ys : List Name) → IsAscendingNames (x ∷ xs) → IsAscendingNames (y ∷ ys) → (x ≡ y) ⊎ In y xs → (y ≡ x) ⊎ In x ys → x ≡ y
-same_first x y xs ys a b (inl e) j = e
-same_first x y xs ys a b (inr i) (inl e) = sym e
-same_first x y xs ys a b (inr i) (inr j) = absurd (not_below x (below_both x y x (first_below x xs a y i) (first_below y ys b x j)))
-
-in_rest : (x y n : Name) (xs ys : List Name) → IsAscendingNames (x ∷ xs) → x ≡ y → (In n (x ∷ xs) → In n (y ∷ ys)) → In n xs → In n ys
-in_rest x y n xs ys a e to i = elim (to (inr i)) [
-  | inl f ↦ absurd (not_below x (subst (Below x) (sym (e ∙ f)) (first_below x xs a n i)))
-  | inr j ↦ j
-]
-
--- lists of names in order without repeats are equal if they have the same members
-pub one_set : (xs ys : List Name) → IsAscendingNames xs → IsAscendingNames ys → ((n : Name) → In n xs → In n ys) → ((n : Name) → In n ys → In n xs) → xs ≡ ys
-one_set [] [] a b to from = refl
-one_set [] (y ∷ ys) a b to from = absurd (from y (inl refl))
-one_set (x ∷ xs) [] a b to from = absurd (to x (inl refl))
-one_set (x ∷ xs) (y ∷ ys) a b to from =
-    let e = same_first x y xs ys a b (from y (inl refl)) (to x (inl refl)) in
-    let r = one_set xs ys (rest_ascends x xs a) (rest_ascends y ys b)
-    (λ n. in_rest x y n xs ys a e (to n)) (λ n. in_rest y x n ys xs b (sym e) (from n)) in
-    cc
 
 one_set_of : (xs ys : List Name) (list : List Placed) → IsSetOf xs list → IsSetOf ys list → xs ≡ ys
 one_set_of xs ys list h k =
@@ -150,18 +101,7 @@ called_meant scope t c q (of_prefix x) h = elim h [ ]
 -- an item of the second of two lists has its pair
 pub paired_at : (vs : List ScopedDefinition) (ps : List FlatProcess) → Pairwise IsProcess vs ps → (i : ℕ) (p : FlatProcess) → slice_get ps i ≡ Some p →
     (v : ScopedDefinition) × In v vs × IsProcess v p
-paired_at [] [] no_pair i p e = cc
-paired_at (v ∷ vs) (q ∷ ps) (one_pair h hs) zero p e = let f : q ≡ p = cc in (v, inl refl, subst (IsProcess v) f h)
-paired_at (v ∷ vs) (q ∷ ps) (one_pair h hs) (suc i) p e = let r = paired_at vs ps hs i p e in (r.0, inr r.1, r.2)
-paired_at [] (q ∷ ps) h i p e = elim h [ ]
-paired_at (v ∷ vs) [] h i p e = elim h [ ]
-
--- two lists item by item have one length
-pub paired_length : {X Y : Type 0} {P : X → Y → Type 0} (xs : List X) (ys : List Y) → Pairwise P xs ys → length xs ≡ length ys
-paired_length [] [] no_pair = refl
-paired_length (x ∷ xs) (y ∷ ys) (one_pair h hs) = let r = paired_length xs ys hs in omega arith
-paired_length [] (y ∷ ys) h = elim h [ ]
-paired_length (x ∷ xs) [] h = elim h [ ]
+paired_at vs ps pairs i p e = let r = pair_of_second vs ps pairs i p e in (r.0, get_in vs i r.0 r.1, r.2)
 
 -- every unguarded call of a flat system goes to one of its processes
 pub calls_within : (whole : DefinitionView) (s : System) → IsFlat whole s → (p q : ℕ) → Calls s.processes p q → q < length s.processes
@@ -169,5 +109,5 @@ calls_within whole s flat p q h =
     let at = paired_at (processes_of whole) s.processes flat.processes p h.process h.located in
     let m = called_meant at.0.scope (body_of at.0.definition) h.process.body q at.2.body h.calls in
     let b = meant_below whole at.0 (inr at.1) m.0 q m.1 m.2 in
-    let l = paired_length (processes_of whole) s.processes flat.processes in
+    let l = pairs_length (processes_of whole) s.processes flat.processes in
     omega arith

@@ -1,4 +1,4 @@
--- Whether a name is among the keys of a set.
+-- Whether something is among the keys of a set.
 use Rattle.std.proofs.Common.{◌≡◌, List, [], ◌∷◌, map, refl, sym, inl, inr, Bool, true, false}
 use Rattle.std.specs.Prelude.{not}
 use Rattle.std.specs.List.{list_any}
@@ -6,30 +6,40 @@ use Rattle.std.specs.Str.{bytes_eq}
 use Rattle.std.proofs.lemmas.Slice.Eq.{bytes_eq-Decides}
 use Rattle.lotos_check.specs.NameLists.{Name, In}
 
--- a test that finds the name says that it is among the keys
-pub in_if_any : {K : Type 0} (now : K → Name) (n : Name) (ks : List K) → list_any (λ k. bytes_eq n (now k)) ks ≡ true →
-    In n (map now ks)
-in_if_any now n [] e = cc
-in_if_any now n (k ∷ ks) e =
-    let others = in_if_any now n ks in
-    let by = (λ (b : Bool) (h : bytes_eq n (now k) ≡ b). elim b as (λ b. bytes_eq n (now k) ≡ b → In n (map now (k ∷ ks))) [
-      | true ↦ λ h. inl (sym ((bytes_eq-Decides n (now k)).0 h))
-      | false ↦ λ h. inr (others (rw h at e))
-    ] h) in
-    by (bytes_eq n (now k)) refl
+-- keys that are tested for what they stand for, by a test that decides whether that is the same
+module _ {K X : Type 0} (now : K → X) (same : X → X → Bool) (sound : (x y : X) → same x y ≡ true → x ≡ y)
+    (complete : (x y : X) → x ≡ y → same x y ≡ true) where
+  -- a test that finds it says that it is among the keys
+  pub in_if_any : (n : X) (ks : List K) → list_any (λ k. same n (now k)) ks ≡ true → In n (map now ks)
+  in_if_any n [] e = cc
+  in_if_any n (k ∷ ks) e =
+      let others = in_if_any n ks in
+      let by = (λ (b : Bool) (h : same n (now k) ≡ b). elim b as (λ b. same n (now k) ≡ b → In n (map now (k ∷ ks))) [
+        | true ↦ λ h. inl (sym (sound n (now k) h))
+        | false ↦ λ h. inr (others (rw h at e))
+      ] h) in
+      by (same n (now k)) refl
 
--- a test that does not find the name says that it is not among the keys
-pub out_if_none : {K : Type 0} (now : K → Name) (n : Name) (ks : List K) → list_any (λ k. bytes_eq n (now k)) ks ≡ false →
+  -- a test that does not find it says that it is not
+  pub out_if_none : (n : X) (ks : List K) → list_any (λ k. same n (now k)) ks ≡ false → In n (map now ks) → ⊥
+  out_if_none n [] e i = i
+  out_if_none n (k ∷ ks) e (inl h) = let t = complete n (now k) (sym h) in let f = rw t at e in cc
+  out_if_none n (k ∷ ks) e (inr i) =
+      let others = out_if_none n ks in
+      let by = (λ (b : Bool) (h : same n (now k) ≡ b). elim b as (λ b. same n (now k) ≡ b → ⊥) [
+        | true ↦ λ h. let g = rw h at e in cc
+        | false ↦ λ h. others (rw h at e) i
+      ] h) in
+      by (same n (now k)) refl
+
+-- a name that a test finds is among the keys
+pub name_found : {K : Type 0} (now : K → Name) (n : Name) (ks : List K) → list_any (λ k. bytes_eq n (now k)) ks ≡ true → In n (map now ks)
+name_found now = in_if_any now bytes_eq (λ x y. (bytes_eq-Decides x y).0) (λ x y. (bytes_eq-Decides x y).1)
+
+-- a name that a test does not find is not
+pub name_missing : {K : Type 0} (now : K → Name) (n : Name) (ks : List K) → list_any (λ k. bytes_eq n (now k)) ks ≡ false →
     In n (map now ks) → ⊥
-out_if_none now n [] e i = i
-out_if_none now n (k ∷ ks) e (inl h) = let t = (bytes_eq-Decides n (now k)).1 (sym h) in let f = rw t at e in cc
-out_if_none now n (k ∷ ks) e (inr i) =
-    let others = out_if_none now n ks in
-    let by = (λ (b : Bool) (h : bytes_eq n (now k) ≡ b). elim b as (λ b. bytes_eq n (now k) ≡ b → ⊥) [
-      | true ↦ λ h. let g = rw h at e in cc
-      | false ↦ λ h. others (rw h at e) i
-    ] h) in
-    by (bytes_eq n (now k)) refl
+name_missing now = out_if_none now bytes_eq (λ x y. (bytes_eq-Decides x y).0) (λ x y. (bytes_eq-Decides x y).1)
 
 -- where the negation is false, the truth value is true
 pub true_of_not : (b r : Bool) → r ≡ not b → r ≡ false → b ≡ true

@@ -20,7 +20,8 @@ use Rattle.lotos_check.proofs.Faults.{unguarded_faulty}
 use Rattle.lotos_check.proofs.DefinitionOrder.{in_order}
 use Rattle.lotos_check.proofs.ScopedDefinitions.{definitions_count, everywhere_in_order}
 use Rattle.lotos_check.proofs.Rules.{walked, flat_system}
-use Rattle.lotos_check.proofs.FlatSystemUnique.{calls_within, paired_length}
+use Rattle.lotos_check.proofs.FlatSystemUnique.{calls_within}
+use Rattle.lotos_check.proofs.Pairs.{pairs_length}
 
 -- the list has all definitions of the specification
 module _ {W : Type 0} (view : W → DefinitionView) (definitions : List W) (whole : DefinitionView) (listed : map view definitions ≡ definitions_in whole) where
@@ -35,7 +36,7 @@ module _ {W : Type 0} (view : W → DefinitionView) (definitions : List W) (whol
   -- something was found of each
   pub found_length : (found : List ResolvedBody) → AddsBodies (all_definitions whole) [] found → length definitions ≡ length found
   found_length found adds =
-      let bodies = paired_length (all_definitions whole) found (walked whole found adds) in
+      let bodies = pairs_length (all_definitions whole) found (walked whole found adds) in
       let order = ap length (everywhere_in_order whole) in
       let all = length-map (all_definitions whole) (λ v. v.definition) in
       let seen = length-map definitions view in
@@ -49,7 +50,7 @@ module _ {W : Type 0} (view : W → DefinitionView) (definitions : List W) (whol
       let first : k ≡ unguarded.first = rw unguarded.begins at e in
       let call = unguarded.unguarded.unguarded k (subst (In k) (sym unguarded.begins) (inl (sym first))) in
       let within = slice_get_within system.processes k call.1.process call.1.located in
-      let processes = paired_length (processes_of whole) system.processes flat.processes in
+      let processes = pairs_length (processes_of whole) system.processes flat.processes in
       let order = ap length (everywhere_in_order whole) in
       let all = length-map (all_definitions whole) (λ v. v.definition) in
       let seen = length-map definitions view in

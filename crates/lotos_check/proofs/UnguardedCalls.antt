@@ -3,6 +3,7 @@ use Rattle.std.proofs.Common.{◌≡◌, ◌↔◌, ◌⊎◌, ℕ, List, [], �
 use Rattle.lotos_check.specs.NameLists.{Name, In}
 use Rattle.lotos_check.specs.Flat.{Flat, choice, par, hide, enable, disable, call}
 use Rattle.lotos_check.specs.Guard.{CallsUnguarded, itself, left_choice, right_choice, left_par, right_par, under_hide, left_enable, left_disable, right_disable}
+use Rattle.lotos_check.proofs.JoinedLists.{in_added, in_front, in_last}
 
 -- the second list has the processes of the first and those that the behaviour calls unguarded
 abbrev pub Adds : List ℕ → List ℕ → Flat → Type 0
@@ -93,36 +94,14 @@ adds_hide old new gs b a = adds_one old new b (hide gs b) a (λ q c. from_hide c
 pub adds_enable : (old new : List ℕ) (l r : Flat) → Adds old new l → Adds old new (enable l r)
 adds_enable old new l r a = adds_one old new l (enable l r) a (λ q c. from_enable c) (λ q c. left_enable c)
 
-end_later : {x k q : ℕ} (xs : List ℕ) → In q xs ⊎ (k ≡ q) → In q (x ∷ xs) ⊎ (k ≡ q)
-end_later xs (inl i) = inl (inr i)
-end_later xs (inr e) = inr e
-
--- what is in a list with one more at its end was in it, or is that one
-pub in_end : (xs : List ℕ) (k q : ℕ) → In q (xs ++ k ∷ []) → In q xs ⊎ (k ≡ q)
-in_end [] k q (inl e) = inr e
-in_end [] k q (inr i) = elim i [ ]
-in_end (x ∷ xs) k q (inl e) = inl (inl e)
-in_end (x ∷ xs) k q (inr i) = end_later xs (in_end xs k q i)
-
--- what is in a list is in it with one more at its end
-pub in_before_end : (xs : List ℕ) (k q : ℕ) → In q xs → In q (xs ++ k ∷ [])
-in_before_end [] k q i = elim i [ ]
-in_before_end (x ∷ xs) k q (inl e) = inl e
-in_before_end (x ∷ xs) k q (inr i) = inr (in_before_end xs k q i)
-
--- the one at the end is in the list
-pub in_at_end : (xs : List ℕ) (k : ℕ) → In k (xs ++ k ∷ [])
-in_at_end [] k = inl refl
-in_at_end (x ∷ xs) k = inr (in_at_end xs k)
-
 call_out : (old : List ℕ) (k q : ℕ) (gs : List Name) → In q old ⊎ (k ≡ q) → In q old ⊎ CallsUnguarded (call k gs) q
 call_out old k q gs (inl i) = inl i
 call_out old k q gs (inr e) = inr (rw (← e) itself)
 
 call_back : (old : List ℕ) (k q : ℕ) (gs : List Name) → In q old ⊎ CallsUnguarded (call k gs) q → In q (old ++ k ∷ [])
-call_back old k q gs (inl i) = in_before_end old k q i
-call_back old k q gs (inr c) = rw (← from_call c) (in_at_end old k)
+call_back old k q gs (inl i) = in_front q old (k ∷ []) i
+call_back old k q gs (inr c) = rw (← from_call c) (in_last k old)
 
 -- an instantiation adds the process that it names
 pub adds_call : (old : List ℕ) (k : ℕ) (gs : List Name) → Adds old (old ++ k ∷ []) (call k gs)
-adds_call old k gs q = (λ i. call_out old k q gs (in_end old k q i), call_back old k q gs)
+adds_call old k gs q = (λ i. call_out old k q gs (in_added q old k i), call_back old k q gs)

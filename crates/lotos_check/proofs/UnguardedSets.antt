@@ -8,7 +8,8 @@ use Rattle.lotos_check.specs.Flat.{FlatProcess, Pairwise}
 use Rattle.lotos_check.specs.Guard.{IsLargestUnguardedSet, IsRanking, IsUnguardedSet}
 use Rattle.lotos_check.specs.RankingSteps.{AreCalls, AreUnranked, AreMaximalRanks, IsUnguarded}
 use Rattle.lotos_check.specs.Acceptance.{AreRanks}
-use Rattle.lotos_check.proofs.CallLists.{edges_length, lists_call, calls_list}
+use Rattle.lotos_check.proofs.CallLists.{lists_call, calls_list}
+use Rattle.lotos_check.proofs.Pairs.{pairs_length}
 
 falls_from : (processes : List FlatProcess) (set : List ℕ) (rank : ℕ → ℕ) → IsUnguardedSet processes set →
     IsRanking processes rank → (n p : ℕ) → rank p < n → In p set → ⊥
@@ -82,7 +83,7 @@ module _ (edges : List (List ℕ)) (processes : List FlatProcess) (ranks : List 
         let count : length (map Some numbers) ≡ length numbers = length-map numbers Some in
         let same : length ranks ≡ length numbers = rw whole at count in
         let sized = given.ordered.sized in
-        let listed = edges_length edges processes all in
+        let listed = pairs_length edges processes all in
         omega arith;
     falls = λ p q r s calls has_p has_q.
         let next = given.ordered.falls p q r (calls_list edges processes all p q calls) (number_read numbers whole p r has_p) in

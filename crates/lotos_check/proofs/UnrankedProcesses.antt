@@ -3,19 +3,16 @@ use Rattle.std.proofs.Common.{◌≡◌, ◌+◌, ◌<◌, ◌≤◌, ℕ, zero,
 use Rattle.std.proofs.Math.ListN.{drop_of_length-le}
 use Rattle.std.proofs.lemmas.List.{append-nil}
 use Rattle.std.specs.Prelude.{slice_get}
-use Rattle.lotos_check.specs.NameLists.{In}
-use Rattle.lotos_check.specs.Guard.{IsAscending, none, one, more}
+use Rattle.lotos_check.specs.NameLists.{In, none}
+use Rattle.lotos_check.specs.Guard.{IsAscending}
 use Rattle.lotos_check.specs.RankingSteps.{AreUnranked}
+use Rattle.lotos_check.proofs.AscendingLists.{put_first}
 
 -- the indices at which the list has no rank, if its first index is n
 abbrev pub places : ℕ → List (Option ℕ) → List ℕ
 places n [] = []
 places n (None ∷ ranks) = n ∷ places (n + 1) ranks
 places n (Some r ∷ ranks) = places (n + 1) ranks
-
-rises_on : (x : ℕ) (ys : List ℕ) → ((y : ℕ) → In y ys → x < y) → IsAscending ys → IsAscending (x ∷ ys)
-rises_on x [] h r = one
-rises_on x (y ∷ ys) h r = more (h y (inl refl)) r
 
 from_place : (n p : ℕ) (ranks : List (Option ℕ)) → In p (places n ranks) →
     (k : ℕ) × (p ≡ n + k) × (slice_get ranks k ≡ Some None)
@@ -36,7 +33,7 @@ to_place n (suc k) p (Some r ∷ ranks) e h = to_place (n + 1) k p ranks (omega 
 rises_places : (n : ℕ) (ranks : List (Option ℕ)) → IsAscending (places n ranks)
 rises_places n [] = none
 rises_places n (None ∷ ranks) =
-    rises_on n (places (n + 1) ranks) (λ y i. let p = from_place (n + 1) y ranks i in let e = p.1 in omega arith)
+    put_first ◌<◌ n (places (n + 1) ranks) (λ y i. let p = from_place (n + 1) y ranks i in let e = p.1 in omega arith)
     (rises_places (n + 1) ranks)
 rises_places n (Some r ∷ ranks) = rises_places (n + 1) ranks
 

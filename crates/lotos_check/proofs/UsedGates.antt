@@ -16,6 +16,7 @@ use Rattle.lotos_check.specs.UsedGates.{AreNamesOf, IsActionOf, UsesOnly}
 use Rattle.lotos_check.specs.Acceptance.{IsAccepted}
 use Rattle.lotos_check.proofs.JoinedLists.{in_front, in_back, in_either}
 use Rattle.lotos_check.proofs.FlatSystemUnique.{paired_at}
+use Rattle.lotos_check.proofs.MappedLists.{in_map_from}
 
 -- a name that cannot be missing from a list is in it
 in_unless_missing : (n : Name) (names : List Name) → ((In n names → ⊥) → ⊥) → In n names
@@ -31,16 +32,10 @@ in_unless_missing n (m ∷ names) h =
     ] e) in
     by (bytes_eq m n) refl
 
--- a name of the texts is that of a placed name
-placed_of : (n : Name) (list : List Placed) → In n (texts list) → (g : Placed) × In g list × (g.name ≡ n)
-placed_of n [] i = absurd i
-placed_of n (g ∷ list) (inl e) = (g, inl refl, e)
-placed_of n (g ∷ list) (inr i) = let r = placed_of n list i in (r.0, inr r.1, r.2)
-
 -- if each gate of a list is in scope, each of its names is
 module _ (known gates : List Name) (wider : AreNamesOf gates known) where
   names_used : (list : List Placed) → ((g : Placed) → In g list → In g.name known) → AreNamesOf gates (texts list)
-  names_used list h n i = let g = placed_of n list i in wider n (subst (λ m. In m known) g.2 (h g.0 g.1))
+  names_used list h n i = let g = in_map_from (λ (p : Placed). p.name) n list i in wider n (subst (λ m. In m known) g.2 (h g.0 g.1))
 
   action_used : (a : Action) (b : BehaviourView) → GatesDeclared known (t.prefix a b) → IsActionOf gates (action_of a)
   action_used Internal b d = tt

@@ -6,7 +6,7 @@ use Rattle.std.specs.Str.{bytes_eq}
 use Rattle.std.proofs.lemmas.List.{append-nil, map-append}
 use Rattle.lotos_text.specs.declared.ast.Placed.{Placed}
 use Rattle.lotos_check.specs.NameLists.{Name, In, texts, IsDuplicate, AreDistinct}
-use Rattle.lotos_check.proofs.NameTests.{in_if_any, out_if_none, true_of_not, false_of_not}
+use Rattle.lotos_check.proofs.NameTests.{name_found, name_missing, true_of_not, false_of_not}
 
 -- of all names only these are left, those before are distinct, and these are their texts
 pub record Seen (keys : List Name) (all left : List Placed) : Type 0 where
@@ -56,7 +56,7 @@ module _ {K : Type 0} (now : K → Name) (old new : List K) (key : K) (all rest 
       Seen (map now new) all left
   seen_more put is_text grows =
       let none = false_of_not _ _ says put in
-      let apart = out_if_none now n old none in
+      let apart = name_missing now n old none in
       let grown : new ≡ old ++ key ∷ [] = rw none at grows in
       record {
         before = seen.before ++ p ∷ [];
@@ -70,7 +70,7 @@ module _ {K : Type 0} (now : K → Name) (old new : List K) (key : K) (all rest 
   -- if it was not, p is in the list for the second time
   pub seen_again : added ≡ false → IsDuplicate p all
   seen_again stayed =
-      let found = in_if_any now n old (true_of_not _ _ says stayed) in
+      let found = name_found now n old (true_of_not _ _ says stayed) in
       record {
         before = seen.before;
         after = left;
@@ -83,7 +83,3 @@ module _ {K : Type 0} (now : K → Name) (old new : List K) (key : K) (all rest 
 pub seen_all : (keys : List Name) (all left : List Placed) → Seen keys all left → left ≡ [] → AreDistinct all
 seen_all keys all left seen none =
     subst AreDistinct (sym (seen.joined ∙ ap (λ t. seen.before ++ t) none ∙ append-nil seen.before)) seen.distinct
-
--- the items from an index on are the one at the index and those from the next index on
-pub from_place : {X : Type 0} (xs : List X) (i : ℕ) (d x : X) → i < length xs → x ≡ get_or xs i d → drop i xs ≡ x ∷ drop (i + 1) xs
-from_place xs i d x h e = rw (drop-cons xs i d h, add-one) (ap (λ y. y ∷ drop (suc i) xs) (sym e))

@@ -2,7 +2,7 @@
 use Rattle.std.specs.Prelude.{◌≡◌, ℕ, ◌<◌, List, [], ◌∷◌, Option, Some, slice_get}
 use Rattle.lotos_text.specs.AstView.{DefinitionView, name_of}
 use Rattle.lotos_text.specs.declared.ast.Placed.{Placed}
-use Rattle.lotos_check.specs.NameLists.{Name, In}
+use Rattle.lotos_check.specs.NameLists.{Name, In, IsAscendingBy}
 use Rattle.lotos_check.specs.Scope.{ScopedDefinition, processes_of}
 use Rattle.lotos_check.specs.Flat.{Flat, choice, par, hide, enable, disable, call, FlatProcess, System, IsFlat}
 
@@ -38,10 +38,8 @@ abbrev pub IsUnguardedSet : List FlatProcess → List ℕ → Type 0
 IsUnguardedSet processes set = (p : ℕ) → In p set → (q : ℕ) × Calls processes p q × In q set
 
 -- each number is smaller than the next
-pub data IsAscending : List ℕ → Type 0 where
-  none : IsAscending []
-  one : {x : ℕ} → IsAscending (x ∷ [])
-  more : {x y : ℕ} {ys : List ℕ} → x < y → IsAscending (y ∷ ys) → IsAscending (x ∷ y ∷ ys)
+abbrev pub IsAscending : List ℕ → Type 0
+IsAscending = IsAscendingBy ◌<◌
 
 -- the largest set of that kind, ascending: every other lies inside it
 pub record IsLargestUnguardedSet (processes : List FlatProcess) (set : List ℕ) : Type 0 where

@@ -37,11 +37,15 @@ Lex smaller (x ∷ xs) (y ∷ ys) = smaller x y ⊎ ((x ≡ y) × Lex smaller xs
 abbrev pub Below : Name → Name → Type 0
 Below = Lex ◌<◌
 
+-- each item is smaller than the next
+pub data IsAscendingBy {A : Type 0} (smaller : A → A → Type 0) : List A → Type 0 where
+  none : IsAscendingBy smaller []
+  one : {x : A} → IsAscendingBy smaller (x ∷ [])
+  more : {x y : A} {ys : List A} → smaller x y → IsAscendingBy smaller (y ∷ ys) → IsAscendingBy smaller (x ∷ y ∷ ys)
+
 -- each name is smaller than the next
-pub data IsAscendingNames : List Name → Type 0 where
-  none : IsAscendingNames []
-  one : {x : Name} → IsAscendingNames (x ∷ [])
-  more : {x y : Name} {ys : List Name} → Below x y → IsAscendingNames (y ∷ ys) → IsAscendingNames (x ∷ y ∷ ys)
+abbrev pub IsAscendingNames : List Name → Type 0
+IsAscendingNames = IsAscendingBy Below
 
 -- the names of the list in the order of their bytes, without repeats
 pub record IsSetOf (names : List Name) (list : List Placed) : Type 0 where

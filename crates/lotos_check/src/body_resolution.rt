@@ -1,5 +1,5 @@
 //! The resolution of all bodies, in the order of the text.
-ghost use Rattle.std.specs.Prelude.{◌≡◌, ◌+◌, ◌<◌, ◌^◌, IfErr, OnOk};
+ghost use Rattle.std.specs.Prelude.{◌≡◌, ◌+◌, ◌<◌, ◌^◌, IfErr, IfOk, OnOk};
 ghost use Rattle.lotos_text.specs.AstView.{inner_of};
 ghost use Rattle.lotos_text.specs.AstOf.{definition_view};
 ghost use Rattle.lotos_check.specs.Scope.{Scope, count, definition_in_scope};
@@ -8,7 +8,7 @@ ghost use Rattle.lotos_check.specs.Resolution.{AddsBodies, IsNameFaultIn};
 
 use crate::fault::CheckFault;
 use crate::gate_scope::add_gates;
-use crate::process_scope::{Binding, bind_definitions, count_inner};
+use crate::process_scope::{Binding, bind_definitions};
 use crate::resolution::resolve;
 use crate::resolved_body::ResolvedBody;
 use indexmap::{IndexMap, IndexSet};
@@ -16,15 +16,17 @@ use lotos_text::Definition;
 use std::alloc::Global;
 
 /// Appends the resolutions of a definition's body and of those of its inner definitions, which are numbered from
-/// `first` on. `scopes` are the processes visible around the definition; they are unchanged unless it fails.
+/// `first` on, and returns the number that comes after theirs. `scopes` are the processes visible around the
+/// definition; they are unchanged unless it fails.
 pub(crate) fn resolve_bodies<'a>(
     alloc: Global,
     scopes: &mut Vec<IndexMap<&'a str, Binding<'a>>>,
     definition: &'a Definition,
     first: usize,
     into: &mut Vec<ResolvedBody>,
-) -> Result<(), CheckFault>
+) -> Result<usize, CheckFault>
     requires { first + count (inner_of (definition_view definition.now)) < 2 ^ 63 }
+    ensures next { IfOk result (λ number. number ≡ first + count (inner_of (definition_view definition.now))) }
     ensures stack { OnOk result (scopes.new.items ≡ scopes.old.items) }
     ensures adds { OnOk result ((scope : Scope) → IsScopeStack (λ k. k.now) scopes.old.items scope →
         AddsBodies (definition_in_scope scope first (definition_view definition.now))
@@ -46,9 +48,8 @@ pub(crate) fn resolve_bodies<'a>(
     into.push(found)?;
     let mut number = first;
     for inner in &definition.inner {
-        resolve_bodies(alloc, scopes, inner, number + 1, into)?;
-        number += 1 + count_inner(inner);
+        number = resolve_bodies(alloc, scopes, inner, number + 1, into)?;
     }
     scopes.pop();
-    Ok(())
+    Ok(number)
 }

@@ -1,15 +1,14 @@
 -- What reading a whole text returns, and how much it takes.
 use Rattle.std.specs.Prelude.{◌≡◌, ℕ, ◌≤◌, Bool, true, false, List, length, Option, Result, Err}
 use Rattle.std.specs.Io.KnownBytes.{Consumes, IsAtEnd}
-use Rattle.lotos_text.specs.Limits.{max_text_length}
 use Rattle.lotos_device.specs.declared.text_input.ReadFault.{ReadFault}
 use Rattle.lotos_device.specs.declared.text_input.ReadFault.TheVariants.{Device}
 
--- the text is all that was left, and no longer than a text may be
-pub record ReadsAll (old new : Option (List ℕ)) (text : List ℕ) : Type 0 where
+-- the text is all that was left, and has at most `limit` bytes
+pub record ReadsAll (old new : Option (List ℕ)) (limit : ℕ) (text : List ℕ) : Type 0 where
   pub bytes : Consumes old new text
   pub end : IsAtEnd new
-  pub within : length text ≤ max_text_length
+  pub within : length text ≤ limit
 
 -- at most `n` bytes were taken
 abbrev pub TakesAtMost : Option (List ℕ) → Option (List ℕ) → ℕ → Type 0

@@ -1,10 +1,8 @@
-//! The loop that reads a whole text, within the limit of its length.
+//! The loop that reads a whole text, within a limit on its length.
 ghost use Rattle.std.specs.Prelude.{◌≡◌, ◌+◌, ◌≤◌, false, IfOk, IsErrOf, length};
-ghost use Rattle.lotos_text.specs.Limits.{max_text_length};
 ghost use Rattle.lotos_device.specs.TextInput.{ReadsAll, TakesAtMost, TakesExactly, is_device_fault};
 
 use crate::device::{DeviceFailed, Source};
-use lotos_text::TEXT_LIMIT;
 use std::alloc::{AllocError, Global};
 
 /// The most bytes that one read may move.
@@ -15,7 +13,7 @@ const CHUNK_SIZE: usize = 4096;
 pub enum ReadFault {
     /// A read of the source failed.
     Device,
-    /// The source has more bytes left than a text may have.
+    /// The source has more bytes left than the limit.
     TooLong,
     /// Out of memory.
     Memory,
@@ -32,34 +30,41 @@ impl From<AllocError> for ReadFault {
     }
 }
 
-/// Reads all that the reader has left. It takes at most one byte more than a text may have, whatever the reader gives;
-/// if it takes that byte, the text is too long.
-pub fn read_text<R: Source>(alloc: Global, reader: &mut R) -> Result<Vec<u8>, ReadFault>
+/// Reads all that the reader has left, if that is at most `limit` bytes. It takes at most one byte more, whatever the
+/// reader gives; if it takes that byte, the text is too long.
+///
+/// Any limit is allowed, also `usize::MAX`. No vector grows to 2^63 bytes: under a limit that large, memory runs out
+/// before a text is too long.
+pub fn read_text<R: Source>(
+    alloc: Global,
+    reader: &mut R,
+    limit: usize,
+) -> Result<Vec<u8>, ReadFault>
     requires { R.has_failed reader.old ≡ false }
-    ensures whole { IfOk result (λ text. ReadsAll (R.left reader.old) (R.left reader.new) text.items) }
-    ensures given { R.given reader.new ≤ R.given reader.old + (max_text_length + 1) }
+    ensures whole { IfOk result (λ text. ReadsAll (R.left reader.old) (R.left reader.new) limit text.items) }
+    ensures given { R.given reader.new ≤ R.given reader.old + (limit + 1) }
     ensures whole_given { IfOk result (λ text. R.given reader.new ≡ R.given reader.old + length text.items) }
     ensures one_more_given { IsErrOf result ReadFault.TooLong →
-        R.given reader.new ≡ R.given reader.old + (max_text_length + 1) }
+        R.given reader.new ≡ R.given reader.old + (limit + 1) }
     ensures failed { R.has_failed reader.new ≡ is_device_fault result }
     ensures too_long { IsErrOf result ReadFault.TooLong →
-        TakesExactly (R.left reader.old) (R.left reader.new) (max_text_length + 1) }
+        TakesExactly (R.left reader.old) (R.left reader.new) (limit + 1) }
     ensures memory { IsErrOf result ReadFault.Memory →
-        TakesAtMost (R.left reader.old) (R.left reader.new) (max_text_length + 1) }
+        TakesAtMost (R.left reader.old) (R.left reader.new) (limit + 1) }
     ensures device { IsErrOf result ReadFault.Device →
-        TakesAtMost (R.left reader.old) (R.left reader.new) max_text_length }
+        TakesAtMost (R.left reader.old) (R.left reader.new) limit }
 {
     let mut text = Vec::new(alloc);
     let mut piece = [0; CHUNK_SIZE];
     loop {
-        let room = CHUNK_SIZE.min(TEXT_LIMIT + 1 - text.len());
+        let room = (CHUNK_SIZE - 1).min(limit - text.len()) + 1;
         let count = match reader.read(&mut piece[..room]) {
             Ok(0) => return Ok(text),
             Ok(count) => count,
             Err(DeviceFailed) => return Err(ReadFault::Device),
         };
         text.extend_from_slice(&piece[..count])?;
-        if text.len() > TEXT_LIMIT {
+        if text.len() > limit {
             return Err(ReadFault::TooLong);
         }
     }

@@ -1,7 +1,7 @@
 -- Names that are in scope at a part of a behaviour.
 use Rattle.std.specs.Prelude.{◌≡◌, ◌⊎◌, ℕ, ◌<◌, List, [], ◌∷◌, ◌++◌, length, get_or, IfSome, Option, None, Some, option_map, Box}
 use Rattle.std.specs.declared.alloc.Global.{Global}
-use Rattle.std.proofs.Common.{zero, suc, inl, inr, refl, sym, subst, arith}
+use Rattle.std.proofs.Common.{inl, inr, sym, subst}
 use Rattle.lotos_text.specs.AstView.{BehaviourView, gates, prefix, par, call}
 use Rattle.lotos_text.specs.AstOf.{behaviour_view}
 use Rattle.lotos_text.specs.declared.ast.Behaviour as code
@@ -12,6 +12,8 @@ use Rattle.lotos_text.specs.declared.ast.Action.TheVariants.{Gate}
 use Rattle.lotos_check.specs.NameLists.{Name, In, texts}
 use Rattle.lotos_check.specs.Subexpressions.{IsSubexpression, whole, in_choice_left, in_choice_right, in_par_left, in_par_right, in_enable_left, in_enable_right, in_disable_left, in_disable_right, acts, synchronizes, passes}
 use Rattle.lotos_check.proofs.JoinedLists.{in_back, in_front}
+use Rattle.lotos_check.proofs.ListIndices.{contains_in}
+use Rattle.lotos_check.proofs.MappedLists.{in_map}
 use Rattle.lotos_explain.specs.SimilarNames.{IsFrom, IsAmongAt, UsesGateAt, IsInScopeAt, CallsAt}
 
 -- what holds of a name that is there, if there is one
@@ -19,23 +21,12 @@ pub some_weaker : {A : Type 0} {P Q : A → Type 0} (o : Option A) → ((a : A) 
 some_weaker None f h = h
 some_weaker (Some a) f h = f a h
 
--- an item of a list is in it
-pub item_in : {X : Type 0} (xs : List X) (i : ℕ) (x : X) → i < length xs → x ≡ get_or xs i x → In x xs
-item_in [] i x below is = absurd (omega (arith, below))
-item_in (y ∷ ys) zero x below is = inl (sym is)
-item_in (y ∷ ys) (suc i) x below is = inr (item_in ys i x (omega (arith, below)) is)
-
 -- the name of a gate of a list is one of their names
-text_in : (gs : List Placed) (g : Placed) → In g gs → In g.name (texts gs)
-text_in (h ∷ gs) g (inl e) = inl (subst (λ x. h.name ≡ x.name) e refl)
-text_in (h ∷ gs) g (inr i) = inr (text_in gs g i)
-text_in [] g i = absurd i
-
 pub text_of_item : (gs : List Placed) (i : ℕ) (g : Placed) → i < length gs → g ≡ get_or gs i g → In g.name (texts gs)
-text_of_item gs i g below is = text_in gs g (item_in gs i g below is)
+text_of_item gs i g below is = in_map (λ (p : Placed). p.name) g gs (contains_in gs g (i, below, sym is))
 
 pub among_item : (gs : List Placed) (i : ℕ) (g : Placed) (at : ℕ) → i < length gs → g ≡ get_or gs i g → g.at ≡ at → IsAmongAt gs at
-among_item gs i g at below is offset = record { gate = g; located = item_in gs i g below is; offset = offset }
+among_item gs i g at below is offset = record { gate = g; located = contains_in gs g (i, below, sym is); offset = offset }
 
 module _ {A : Type 0} (now : A → Name) where
   -- what holds of the name that is there

@@ -3,6 +3,7 @@ use Rattle.std.proofs.Common.{◌≡◌, ◌∙◌, ℕ, Bool, false, List, [], 
 use Rattle.std.proofs.lemmas.List.{length-map}
 use Rattle.std.specs.Io.KnownBytes.{Appends, Keeps}
 use Rattle.std.proofs.KnownBytes.{Appends-kept}
+use Rattle.lotos_text.specs.Limits.{max_text_length}
 use Rattle.lotos_check.specs.Flat.{FlatProcess, System}
 use Rattle.lotos_check.specs.CheckedView.{process_of}
 use Rattle.lotos_check.specs.declared.resolved.Process.{Process}
@@ -118,17 +119,17 @@ text_of_reader text (rejection.Refused (refusal.E49 n)) h = absurd h
 
 -- the text was read, and its check was reported
 pub text_reported : (left left' got got' : Option (List ℕ)) (text slice : List ℕ) (failed : Bool) (status : ℕ) → slice ≡ text →
-    ReadsAll left left' text → failed ≡ false → TextReported slice got got' status → CheckReported left left' got got' failed status
+    ReadsAll left left' max_text_length text → failed ≡ false → TextReported slice got got' status → CheckReported left left' got got' failed status
 text_reported left left' got got' text slice failed status same read unfailed (accepted system taken reported) = record {
   ended = reported.ended;
   answered = check_ended left left' got got' system reported.ended
-      (record { text = slice; read = subst (ReadsAll left left') (sym same) read; accepted = taken }) reported.outcome;
+      (record { text = slice; read = subst (ReadsAll left left' max_text_length) (sym same) read; accepted = taken }) reported.outcome;
   input = unfailed ∙ sym (no_fault_of_input got got' system reported.ended reported.outcome);
   status_is = reported.status_is;
 }
 text_reported left left' got got' text slice failed status same read unfailed (rejected cause is kept status_is) = record {
   ended = end_of cause;
-  answered = rejection_ended left left' got got' cause (unread left left' slice cause (subst (ReadsAll left left') (sym same) read) is) kept;
+  answered = rejection_ended left left' got got' cause (unread left left' slice cause (subst (ReadsAll left left' max_text_length) (sym same) read) is) kept;
   input = unfailed ∙ sym (text_of_reader slice cause is);
   status_is = status_is;
 }

@@ -1,5 +1,6 @@
 -- What rejections of texts mean.
 use Rattle.std.proofs.Common.{◌≡◌, ℕ, List, Option, Result, Ok, Err, IfErr, subst, arith}
+use Rattle.lotos_text.specs.Limits.{max_text_length}
 use Rattle.lotos_text.specs.declared.fault.TextFault.{TextFault}
 use Rattle.lotos_text.specs.declared.fault.TextFault.TheVariants as text_fault
 use Rattle.lotos_tool.specs.RefusalCauses.{IsTextRefusal}
@@ -11,7 +12,7 @@ use Rattle.lotos_tool.specs.declared.specification_input.Rejection.TheVariants a
 
 -- ---- from a text to the bytes that a reader had left
 
-pub unread : (left left' : Option (List ℕ)) (text : List ℕ) (u : Rejection) → ReadsAll left left' text → IsRejection text u → IsInputRejection left left' u
+pub unread : (left left' : Option (List ℕ)) (text : List ℕ) (u : Rejection) → ReadsAll left left' max_text_length text → IsRejection text u → IsInputRejection left left' u
 unread left left' text rejection.Memory r h = (text, (let w = r.within in omega arith), r.bytes)
 unread left left' text (rejection.Refused (refusal.Mark fault)) r h = absurd h
 unread left left' text (rejection.Refused (refusal.Check fault line column)) r h = record {
@@ -40,7 +41,7 @@ unread left left' text (rejection.Refused (refusal.Text fault place)) r h = go f
     go (text_fault.E07 at) h = record { text = text; read = r; cause = h.cause; placed = h.placed; never = h.never }
     go (text_fault.E99 e) h = absurd (let m = h.no_memory in cc)
 
-pub unread_answer : {T : Type 0} (left left' : Option (List ℕ)) (text slice : List ℕ) (r : Result T Rejection) → slice ≡ text → ReadsAll left left' text →
+pub unread_answer : {T : Type 0} (left left' : Option (List ℕ)) (text slice : List ℕ) (r : Result T Rejection) → slice ≡ text → ReadsAll left left' max_text_length text →
     IfErr r (IsRejection slice) → IfErr r (IsInputRejection left left')
 unread_answer left left' text slice (Ok x) e read h = tt
 unread_answer left left' text slice (Err u) e read h = unread left left' text u read (subst (λ t. IsRejection t u) e h)

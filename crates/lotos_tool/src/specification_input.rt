@@ -13,7 +13,7 @@ use crate::outcome::{Ended, Why};
 use crate::refusal::Refusal;
 use lotos_check::{AcceptFault, CheckFault, Checked, accept};
 use lotos_device::{ReadFault, Source, read_text};
-use lotos_text::{TextFault, line_column};
+use lotos_text::{TEXT_LIMIT, TextFault, line_column};
 use std::alloc::Global;
 
 /// Why no specification was accepted: the input is refused, or memory ran out.
@@ -42,12 +42,12 @@ pub fn read_specification<R: Source>(alloc: Global, reader: &mut R) -> Result<Ch
 /// text is refused with E47 if the reader fails, and with E03 if it is too long.
 pub fn read_input<R: Source>(alloc: Global, reader: &mut R) -> Result<Vec<u8>, Rejection>
     requires { R.has_failed reader.old ≡ false }
-    ensures whole { IfOk result (λ text. ReadsAll (R.left reader.old) (R.left reader.new) text.items) }
+    ensures whole { IfOk result (λ text. ReadsAll (R.left reader.old) (R.left reader.new) max_text_length text.items) }
     ensures refused { IfErr result (IsInputRejection (R.left reader.old) (R.left reader.new)) }
     ensures given { R.given reader.new ≤ R.given reader.old + (max_text_length + 1) }
     ensures failed { R.has_failed reader.new ≡ is_input_failure result }
 {
-    match read_text(alloc, reader) {
+    match read_text(alloc, reader, TEXT_LIMIT) {
         Ok(text) => Ok(text),
         Err(ReadFault::Device) => Err(Rejection::Refused(Refusal::E47)),
         Err(ReadFault::TooLong) => Err(Rejection::Refused(Refusal::Text {

@@ -1,11 +1,7 @@
 -- What is added step by step.
-use Rattle.std.proofs.Common.{◌≡◌, ◌↔◌, ◌⊎◌, ℕ, ◌+◌, ◌<◌, suc, List, [], ◌∷◌, sym, ap, subst, inl, inr, length, drop, get_or, add-one, drop-cons}
+use Rattle.std.proofs.Common.{◌≡◌, ◌↔◌, ◌⊎◌, List, [], ◌∷◌, sym, subst, inl, inr}
 use Rattle.lotos_check.specs.NameLists.{In}
 use Rattle.lotos_warn.specs.Additions.{Adds}
-
--- the items from an index on are the one at the index and those from the next index on
-pub from_place : {X : Type 0} (xs : List X) (i : ℕ) (d x : X) → i < length xs → x ≡ get_or xs i d → drop i xs ≡ x ∷ drop (i + 1) xs
-from_place xs i d x h e = rw (drop-cons xs i d h, add-one) (ap (λ y. y ∷ drop (suc i) xs) (sym e))
 
 module _ {X : Type 0} where
   -- nothing is added

@@ -1,5 +1,5 @@
 -- The calls of a flat system are those of the specification by name.
-use Rattle.std.proofs.Common.{◌≡◌, ◌↔◌, ◌⊎◌, ℕ, ◌+◌, zero, suc, List, [], ◌∷◌, ◌++◌, Some, slice_get, refl, ap, subst, inl, inr}
+use Rattle.std.proofs.Common.{◌≡◌, ◌↔◌, ◌⊎◌, ℕ, ◌+◌, List, [], ◌∷◌, ◌++◌, refl, subst, inl, inr}
 use Rattle.lotos_text.specs.AstView as t
 use Rattle.lotos_text.specs.AstView.{BehaviourView, DefinitionView, def, DefinitionListView, no_defs, more_defs, name_of, formals_of, body_of, inner_of}
 use Rattle.lotos_text.specs.declared.ast.Placed.{Placed}
@@ -8,31 +8,22 @@ use Rattle.lotos_check.specs.Scope.{Scope, Where, ScopedDefinition, Binds, IsDis
 use Rattle.lotos_check.specs.Subexpressions as parts
 use Rattle.lotos_check.specs.Subexpressions.{IsSubexpression, in_prefix, in_choice_left, in_choice_right, in_par_left, in_par_right, in_hide, in_enable_left, in_enable_right, in_disable_left, in_disable_right}
 use Rattle.lotos_check.specs.StaticFaults.{Occurs, IsDistinct}
-use Rattle.lotos_check.specs.Flat.{Flat, FlatProcess, System, Pairwise, no_pair, one_pair, IsProcess, Resolves, of_stop, of_exit, of_prefix, of_choice, of_par, of_par_all, of_hide, of_enable, of_disable, of_call}
+use Rattle.lotos_check.specs.Flat.{Flat, FlatProcess, System, Pairwise, IsProcess, Resolves, of_stop, of_exit, of_prefix, of_choice, of_par, of_par_all, of_hide, of_enable, of_disable, of_call}
 use Rattle.lotos_check.specs.Bodies.{ContainsCall, itself, under_prefix, left_choice, right_choice, left_par, right_par, under_hide, left_enable, right_enable, left_disable, right_disable, IsBodyOf, of_whole, of_process, GoesToNamed}
 use Rattle.lotos_check.specs.Acceptance.{IsAccepted}
+use Rattle.lotos_check.proofs.FlatSystemUnique.{paired_at}
 use Rattle.lotos_check.proofs.JoinedLists.{in_back, in_either, in_front}
+use Rattle.lotos_check.proofs.ListIndices.{get_in, in_get}
+use Rattle.lotos_check.proofs.Pairs.{pair_of_first}
 use Rattle.lotos_warn.specs.Additions.{ContainsCallOf, IsCalledByAny, IsCalledIn}
-
--- a member is at an index
-pub located : {X : Type 0} (x : X) (xs : List X) → In x xs → (k : ℕ) × (slice_get xs k ≡ Some x)
-located x [] i = absurd i
-located x (y ∷ ys) (inl e) = (zero, ap Some e)
-located x (y ∷ ys) (inr i) = let r = located x ys i in (suc r.0, r.1)
-
--- what is at an index is a member
-pub member : {X : Type 0} (x : X) (xs : List X) (k : ℕ) → slice_get xs k ≡ Some x → In x xs
-member x [] k e = cc
-member x (y ∷ ys) zero e = inl cc
-member x (y ∷ ys) (suc k) e = inr (member x ys k e)
 
 body_called : (system : System) (k : ℕ) (b : Flat) → IsBodyOf system b → ContainsCallOf b k → ContainsCallOf system.start k ⊎ IsCalledByAny system.processes k
 body_called system k b of_whole c = inl c
-body_called system k b (of_process p process e) c = inr (process, member process system.processes p e, c)
+body_called system k b (of_process p process e) c = inr (process, get_in system.processes p process e, c)
 
 any_called : (system : System) (k : ℕ) → IsCalledByAny system.processes k → IsCalledIn system k
 any_called system k (process, i, c) =
-    let p = located process system.processes i in
+    let p = in_get system.processes process i in
     record { body = process.body; located = of_process p.0 process p.1; calls = c }
 
 -- a process is called in the behaviour or by one of the processes
@@ -128,21 +119,12 @@ number_called scope one start b c there callee actuals k d (of_disable x y) (in_
 number_called scope one start b c there callee actuals k d of_stop i h = elim i [ ]
 number_called scope one start b c there callee actuals k d of_exit i h = elim i [ ]
 
-definition_at : (vs : List ScopedDefinition) (ps : List FlatProcess) → Pairwise IsProcess vs ps → (i : ℕ) (p : FlatProcess) → slice_get ps i ≡ Some p →
-    (v : ScopedDefinition) × In v vs × IsProcess v p
-definition_at [] [] no_pair i p e = cc
-definition_at (v ∷ vs) (q ∷ ps) (one_pair h hs) zero p e = let f : q ≡ p = cc in (v, inl refl, subst (IsProcess v) f h)
-definition_at (v ∷ vs) (q ∷ ps) (one_pair h hs) (suc i) p e = let r = definition_at vs ps hs i p e in (r.0, inr r.1, r.2)
-definition_at [] (q ∷ ps) h i p e = elim h [ ]
-definition_at (v ∷ vs) [] h i p e = elim h [ ]
-
 process_at : (vs : List ScopedDefinition) (ps : List FlatProcess) → Pairwise IsProcess vs ps → (v : ScopedDefinition) → In v vs →
     (p : FlatProcess) × In p ps × IsProcess v p
-process_at [] [] no_pair v i = absurd i
-process_at (u ∷ vs) (q ∷ ps) (one_pair h hs) v (inl e) = (q, inl refl, subst (λ x. IsProcess x q) e h)
-process_at (u ∷ vs) (q ∷ ps) (one_pair h hs) v (inr i) = let r = process_at vs ps hs v i in (r.0, inr r.1, r.2)
-process_at [] (q ∷ ps) h v i = elim h [ ]
-process_at (u ∷ vs) [] h v i = elim h [ ]
+process_at vs ps pairs v i =
+    let at = in_get vs v i in
+    let r = pair_of_first vs ps pairs at.0 v at.1 in
+    (r.0, get_in ps at.0 r.0 r.1, r.2)
 
 -- a call anywhere that is bound to the process
 pub record IsCalledByName (spec : DefinitionView) (k : ℕ) : Type 0 where
@@ -178,7 +160,7 @@ module _ (one : (scope : Scope) → IsDistinctScope scope → BindsOnce scope)
   process_by_name : (k : ℕ) (b : Flat) → IsBodyOf s b → ContainsCallOf b k → IsCalledByName spec k
   process_by_name k b of_whole c = by_name k top (inl refl) s.start a.flat.start c
   process_by_name k b (of_process p process e) c =
-      let at = definition_at (processes_of spec) s.processes a.flat.processes p process e in
+      let at = paired_at (processes_of spec) s.processes a.flat.processes p process e in
       by_name k at.0 (inr at.1) process.body at.2.body c
 
   by_number : (k : ℕ) (v : ScopedDefinition) → In v (all_definitions spec) → (there : List Name) (callee : Placed) (actuals : List Placed) (d : DefinitionView) →

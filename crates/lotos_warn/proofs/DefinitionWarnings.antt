@@ -3,10 +3,10 @@ use Rattle.std.proofs.Common.{◌≡◌, ◌↔◌, ◌⊎◌, ℕ, ◌+◌, ◌
 use Rattle.lotos_text.specs.AstView.{DefinitionView, name_of, formals_of, body_of}
 use Rattle.lotos_text.specs.declared.ast.Placed.{Placed}
 use Rattle.lotos_check.specs.NameLists.{Name, In}
+use Rattle.lotos_check.proofs.Pairs.{drop_at}
 use Rattle.lotos_warn.specs.declared.warning.Warning.{Warning}
 use Rattle.lotos_warn.specs.declared.warning.Warning.TheVariants.{UncalledProcess, UnusedGate, UnofferedGate}
 use Rattle.lotos_warn.specs.Warnings.{UsesFree}
-use Rattle.lotos_warn.proofs.Additions.{from_place}
 use Rattle.lotos_warn.specs.Additions.{IsUnusedAmong, IsUnusedIn, IsGateWarning, IsGateWarningOfAny, IsUncalledAt, IsUncalledAmong}
 
 -- an unused gate of a list is the first, or one of the others
@@ -77,7 +77,7 @@ uncalled_never called number d some (UnofferedGate gate side) h = h
 pub uncalled_next : {K : Type 0} (view : K → DefinitionView) (called : List ℕ) (ps : List K) (n : ℕ) (d y : K) → n < length ps → y ≡ get_or ps n d → (w : Warning) →
     IsUncalledAmong called n (map view (drop n ps)) w ↔ (IsUncalledAt called n (view y) w ⊎ IsUncalledAmong called (n + 1) (map view (drop (n + 1) ps)) w)
 uncalled_next view called ps n d y within at w =
-    let next = from_place ps n d y within at in
+    let next = drop_at ps n d y within at in
     let step : suc n ≡ n + 1 = omega arith in
     let rest = map view (drop (n + 1) ps) in
     subst (λ xs. IsUncalledAmong called n (map view xs) w ↔ (IsUncalledAt called n (view y) w ⊎ IsUncalledAmong called (n + 1) rest w)) (sym next)

@@ -1,5 +1,5 @@
 -- The gates that a behaviour has free, from those of its parts.
-use Rattle.std.proofs.Common.{◌≡◌, ◌↔◌, ◌⊎◌, List, [], ◌∷◌, ◌++◌, refl, subst, inl, inr}
+use Rattle.std.proofs.Common.{◌≡◌, ◌↔◌, ◌⊎◌, List, [], ◌++◌, refl, subst, inl, inr}
 use Rattle.lotos_text.specs.AstView.{BehaviourView, SyncView, gates, all, stop, exit, prefix, choice, par, hide, enable, disable, call}
 use Rattle.lotos_text.specs.declared.ast.Placed.{Placed}
 use Rattle.lotos_text.specs.declared.ast.Action.{Action}
@@ -8,6 +8,7 @@ use Rattle.lotos_check.specs.NameLists.{Name, In, texts}
 use Rattle.lotos_check.specs.Subexpressions as parts
 use Rattle.lotos_check.specs.Subexpressions.{IsSubexpression, in_prefix, in_choice_left, in_choice_right, in_par_left, in_par_right, in_hide, in_enable_left, in_enable_right, in_disable_left, in_disable_right, UsesGate}
 use Rattle.lotos_check.proofs.JoinedLists.{in_back, in_either, in_front}
+use Rattle.lotos_check.proofs.MappedLists.{in_map, in_map_from}
 use Rattle.lotos_warn.specs.Additions.{IsActionNamed, IsListed}
 use Rattle.lotos_warn.specs.Warnings as own
 use Rattle.lotos_warn.specs.Warnings.{OffersGate, HasFree, UsesFree, OffersFree}
@@ -23,18 +24,6 @@ HasIn listed (hide gs b) n = (In n (texts gs) → ⊥) × HasIn listed b n
 HasIn listed (enable l at r) n = HasIn listed l n ⊎ HasIn listed r n
 HasIn listed (disable l r) n = HasIn listed l n ⊎ HasIn listed r n
 HasIn listed (call p gs) n = In n (texts gs)
-
--- a name of the texts is that of a placed name
-pub placed_of : (n : Name) (list : List Placed) → In n (texts list) → (g : Placed) × In g list × (g.name ≡ n)
-placed_of n [] i = absurd i
-placed_of n (g ∷ list) (inl e) = (g, inl refl, e)
-placed_of n (g ∷ list) (inr i) = let r = placed_of n list i in (r.0, inr r.1, r.2)
-
--- the text of a placed name of the list is one of its texts
-pub text_of : (g : Placed) (list : List Placed) → In g list → In g.name (texts list)
-text_of g [] i = absurd i
-text_of g (p ∷ list) (inl e) = subst (λ q. In q.name (texts (p ∷ list))) e (inl refl)
-text_of g (p ∷ list) (inr i) = inr (text_of g list i)
 
 -- the behaviour has the gate where these gates are hidden around it
 record HasFrom (has : BehaviourView → Placed → Type 0) (start : List Name) (behaviour : BehaviourView) (name : Name) : Type 0 where
@@ -104,7 +93,7 @@ module _ (has : BehaviourView → Placed → Type 0) (listed : SyncView → Name
   from_form start (enable l at r) n v (inr h) = lifted start start r (enable l at r) n (λ there part i. in_enable_right i) (from_form start r n v h)
   from_form start (disable l r) n v (inl h) = lifted start start l (disable l r) n (λ there part i. in_disable_left i) (from_form start l n v h)
   from_form start (disable l r) n v (inr h) = lifted start start r (disable l r) n (λ there part i. in_disable_right i) (from_form start r n v h)
-  from_form start (call p gs) n v h = let g = placed_of n gs h in itself start (call p gs) n g.0 (passes g.0 p gs g.1) g.2 v
+  from_form start (call p gs) n v h = let g = in_map_from (λ (g : Placed). g.name) n gs h in itself start (call p gs) n g.0 (passes g.0 p gs g.1) g.2 v
 
   to_form : (b : BehaviourView) (n : Name) → HasFree has b n → HasIn listed b n
   to_form b n h = subst (HasIn listed b) h.named
@@ -127,11 +116,11 @@ module _ (has : BehaviourView → Placed → Type 0) (listed : SyncView → Name
 
 used_own : (b : BehaviourView) (g : Placed) → UsesGate b g → HasIn IsListed b g.name
 used_own b g parts.acts = inl refl
-used_own b g (parts.synchronizes {gs = gs} i) = inr (inl (text_of g gs i))
-used_own b g (parts.passes {gs = gs} i) = text_of g gs i
+used_own b g (parts.synchronizes {gs = gs} i) = inr (inl (in_map (λ (g : Placed). g.name) g gs i))
+used_own b g (parts.passes {gs = gs} i) = in_map (λ (g : Placed). g.name) g gs i
 
 used_lists : (l : BehaviourView) (s : SyncView) (r : BehaviourView) (n : Name) → IsListed s n → (g : Placed) × UsesGate (par l s r) g × (g.name ≡ n)
-used_lists l (gates gs) r n h = let g = placed_of n gs h in (g.0, parts.synchronizes g.1, g.2)
+used_lists l (gates gs) r n h = let g = in_map_from (λ (g : Placed). g.name) n gs h in (g.0, parts.synchronizes g.1, g.2)
 used_lists l all r n h = absurd h
 
 -- a gate is used exactly if it is by the form of the behaviour
@@ -144,7 +133,7 @@ IsNone s n = ⊥
 
 offered_own : (b : BehaviourView) (g : Placed) → OffersGate b g → HasIn IsNone b g.name
 offered_own b g own.acts = inl refl
-offered_own b g (own.passes {gs = gs} i) = text_of g gs i
+offered_own b g (own.passes {gs = gs} i) = in_map (λ (g : Placed). g.name) g gs i
 
 -- a gate is offered exactly if it is by the form of the behaviour
 pub offered_by_form : (b : BehaviourView) (n : Name) → OffersFree b n ↔ HasIn IsNone b n

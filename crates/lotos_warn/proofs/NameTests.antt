@@ -1,55 +1,33 @@
 -- Whether a name or a number is among the keys of a set.
-use Rattle.std.proofs.Common.{◌≡◌, ◌↔◌, ◌⊎◌, ℕ, List, [], ◌∷◌, ◌++◌, map, refl, sym, ◌∙◌, subst, ap, inl, inr, Bool, true, false}
+use Rattle.std.proofs.Common.{◌≡◌, ◌↔◌, ◌⊎◌, ℕ, List, [], ◌∷◌, ◌++◌, map, refl, sym, ◌∙◌, subst, inl, inr, Bool, true, false}
 use Rattle.std.specs.Prelude.{if◌then◌else◌}
 use Rattle.std.proofs.Math.Dec.{eqb}
 use Rattle.std.proofs.lemmas.Bool.{eq-eqb, eqb-true}
 use Rattle.std.specs.List.{list_any}
 use Rattle.std.specs.Str.{bytes_eq}
-use Rattle.std.proofs.lemmas.List.{map-append}
+use Rattle.std.proofs.lemmas.List.{map-append, map-id}
 use Rattle.std.proofs.lemmas.Slice.Eq.{bytes_eq-Decides}
 use Rattle.lotos_check.specs.NameLists.{Name, In}
-use Rattle.lotos_check.proofs.JoinedLists.{in_back, in_either, in_front}
+use Rattle.lotos_check.proofs.JoinedLists.{in_added, in_back, in_front}
+use Rattle.lotos_check.proofs.NameTests.{in_if_any, out_if_none}
 use Rattle.lotos_warn.specs.Additions.{Adds, AddsNames, IsVisible}
 
 -- a list with one more at its end has that, too
 pub adds_end : {X : Type 0} (xs : List X) (y : X) → Adds xs (xs ++ y ∷ []) (λ x. y ≡ x)
 adds_end xs y x = (
-  (λ i. elim (in_either x xs (y ∷ []) i) [ inl j ↦ inl j | inr (inl e) ↦ inr e | inr (inr j) ↦ absurd j ]),
+  (λ i. in_added x xs y i),
   (λ h. elim h [ inl j ↦ in_front x xs (y ∷ []) j | inr e ↦ in_back x xs (y ∷ []) (inl e) ]),
 )
 
 -- keys that are tested for what they stand for, by a test that decides whether that is the same
 module _ {K X : Type 0} (now : K → X) (same : X → X → Bool) (sound : (x y : X) → same x y ≡ true → x ≡ y)
     (complete : (x y : X) → x ≡ y → same x y ≡ true) where
-  -- a test that finds it says that it is among the keys
-  pub in_if_any : (n : X) (ks : List K) → list_any (λ k. same n (now k)) ks ≡ true → In n (map now ks)
-  in_if_any n [] e = cc
-  in_if_any n (k ∷ ks) e =
-      let others = in_if_any n ks in
-      let by = (λ (b : Bool) (h : same n (now k) ≡ b). elim b as (λ b. same n (now k) ≡ b → In n (map now (k ∷ ks))) [
-        | true ↦ λ h. inl (sym (sound n (now k) h))
-        | false ↦ λ h. inr (others (rw h at e))
-      ] h) in
-      by (same n (now k)) refl
-
-  -- a test that does not find it says that it is not
-  pub out_if_none : (n : X) (ks : List K) → list_any (λ k. same n (now k)) ks ≡ false → In n (map now ks) → ⊥
-  out_if_none n [] e i = i
-  out_if_none n (k ∷ ks) e (inl h) = let t = complete n (now k) (sym h) in let f = rw t at e in cc
-  out_if_none n (k ∷ ks) e (inr i) =
-      let others = out_if_none n ks in
-      let by = (λ (b : Bool) (h : same n (now k) ≡ b). elim b as (λ b. same n (now k) ≡ b → ⊥) [
-        | true ↦ λ h. let g = rw h at e in cc
-        | false ↦ λ h. others (rw h at e) i
-      ] h) in
-      by (same n (now k)) refl
-
   -- a key that is put after the others unless one stands for the same
   pub inserted : (old : List K) (key : K) (n : X) (there : Bool) → now key ≡ n → list_any (λ k. same n (now k)) old ≡ there →
       Adds (map now old) (map now (if there then old else old ++ key ∷ [])) (λ x. n ≡ x)
   inserted old key n true is_text found = λ x. (
     (λ i. inl i),
-    (λ h. elim h [ inl i ↦ i | inr e ↦ subst (λ m. In m (map now old)) e (in_if_any n old found) ]),
+    (λ h. elim h [ inl i ↦ i | inr e ↦ subst (λ m. In m (map now old)) e (in_if_any now same sound complete n old found) ]),
   )
   inserted old key n false is_text none =
       let all : Adds (map now old) (map now old ++ now key ∷ []) (λ x. now key ≡ x) = adds_end (map now old) (now key) in
@@ -65,33 +43,20 @@ inserted_name now old new key n is_text grows =
     subst (λ ks. AddsNames now old ks (λ m. n ≡ m)) (sym grows)
     (inserted now bytes_eq (λ x y. (bytes_eq-Decides x y).0) (λ x y. (bytes_eq-Decides x y).1) old key n _ is_text refl)
 
--- a name that a test finds is among the keys
-pub name_found : {K : Type 0} (now : K → Name) (n : Name) (ks : List K) → list_any (λ k. bytes_eq n (now k)) ks ≡ true → In n (map now ks)
-name_found now = in_if_any now bytes_eq (λ x y. (bytes_eq-Decides x y).0) (λ x y. (bytes_eq-Decides x y).1)
-
--- a name that a test does not find is not
-pub name_missing : {K : Type 0} (now : K → Name) (n : Name) (ks : List K) → list_any (λ k. bytes_eq n (now k)) ks ≡ false →
-    In n (map now ks) → ⊥
-name_missing now = out_if_none now bytes_eq (λ x y. (bytes_eq-Decides x y).0) (λ x y. (bytes_eq-Decides x y).1)
-
-map_same : {X : Type 0} (xs : List X) → map (λ x. x) xs ≡ xs
-map_same [] = refl
-map_same (x ∷ xs) = ap (λ ys. x ∷ ys) (map_same xs)
-
 -- a number is put after the others unless it is among them
 pub inserted_number : (old new : List ℕ) (n : ℕ) → new ≡ (if list_any (eqb n) old then old else old ++ n ∷ []) → Adds old new (λ k. n ≡ k)
 inserted_number old new n grows =
     let all = inserted (λ k. k) eqb eqb-true eq-eqb old n n (list_any (eqb n) old) refl refl in
-    let from_old = subst (λ xs. Adds xs (map (λ k. k) (if list_any (eqb n) old then old else old ++ n ∷ [])) (λ k. n ≡ k)) (map_same old) all in
-    subst (λ xs. Adds old xs (λ k. n ≡ k)) (map_same (if list_any (eqb n) old then old else old ++ n ∷ []) ∙ sym grows) from_old
+    let from_old = subst (λ xs. Adds xs (map (λ k. k) (if list_any (eqb n) old then old else old ++ n ∷ [])) (λ k. n ≡ k)) (map-id old) all in
+    subst (λ xs. Adds old xs (λ k. n ≡ k)) (map-id (if list_any (eqb n) old then old else old ++ n ∷ []) ∙ sym grows) from_old
 
 -- a number that a test does not find is not among the keys
 pub number_missing : (n : ℕ) (ks : List ℕ) → list_any (eqb n) ks ≡ false → In n ks → ⊥
-number_missing n ks none i = out_if_none (λ k. k) eqb eqb-true eq-eqb n ks none (subst (In n) (sym (map_same ks)) i)
+number_missing n ks none i = out_if_none (λ k. k) eqb eqb-true eq-eqb n ks none (subst (In n) (sym (map-id ks)) i)
 
 -- a number that a test finds is
 pub number_found : (n : ℕ) (ks : List ℕ) → list_any (eqb n) ks ≡ true → In n ks
-number_found n ks some = subst (In n) (map_same ks) (in_if_any (λ k. k) eqb eqb-true eq-eqb n ks some)
+number_found n ks some = subst (In n) (map-id ks) (in_if_any (λ k. k) eqb eqb-true eq-eqb n ks some)
 
 -- a name that is visible in a list is the first, which is then visible, or visible among the others
 pub visible_split : (hidden : List Name) (m : Name) (ms : List Name) (n : Name) →

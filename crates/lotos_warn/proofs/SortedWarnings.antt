@@ -1,11 +1,11 @@
 -- Warnings after sorting and removing repeats.
-use Rattle.std.proofs.Common.{◌≡◌, ◌↔◌, ℕ, ◌<◌, zero, suc, List, [], ◌∷◌, refl, sym, ◌∙◌, ap, subst, inl, inr, true, arith, length, get_or}
+use Rattle.std.proofs.Common.{◌≡◌, ◌↔◌, ℕ, ◌<◌, List, [], refl, sym, ◌∙◌, ap, subst, true, arith}
 use Rattle.std.specs.Ordering.{nat_cmp, eq_by_cmp, is_eq, ordering_then}
 use Rattle.std.specs.declared.cmp.Ordering.{Ordering}
 use Rattle.std.specs.declared.cmp.Ordering.TheVariants.{Less, Equal, Greater}
 use Rattle.std.specs.Cmp.{ranked, IsTotalOrder, IsEquivalence}
 use Rattle.std.specs.Cmp.Lexicographic.{slice_cmp}
-use Rattle.std.specs.List.{Contains, dedup}
+use Rattle.std.specs.List.{dedup}
 use Rattle.std.specs.List.Retain.{IsFiltered, DiffersFromLast}
 use Rattle.std.specs.List.Sorted.{IsPermutation, IsSorted, IsStrictlySortedBy}
 use Rattle.std.proofs.lemmas.List.Filters.{dedup_is}
@@ -13,23 +13,13 @@ use Rattle.std.proofs.lemmas.List.Kept.{Contains-dedup, Contains-from_dedup, IsS
 use Rattle.std.proofs.lemmas.List.Sorted.{Contains-permutation, IsPermutation-sym}
 use Rattle.lotos_text.specs.declared.ast.Placed.{Placed}
 use Rattle.lotos_check.specs.NameLists.{Name, In}
+use Rattle.lotos_check.proofs.ListIndices.{contains_in, in_contains}
+use Rattle.lotos_check.proofs.NameOrder.{same_from_equal}
 use Rattle.lotos_warn.specs.declared.warning.Side.{Side}
 use Rattle.lotos_warn.specs.declared.warning.Side.TheVariants.{Left, Right}
 use Rattle.lotos_warn.specs.declared.warning.Warning.{Warning}
 use Rattle.lotos_warn.specs.declared.warning.Warning.TheVariants.{UncalledProcess, UnusedGate, UnofferedGate}
 use Rattle.lotos_warn.specs.WarningOrder.{warning_cmp, offset_of, rank_of, side_rank, subject_of, context_of}
-
--- a member of the list is at an index
-placed_in : {X : Type 0} (x : X) (xs : List X) → In x xs → Contains xs x
-placed_in x [] i = absurd i
-placed_in x (y ∷ ys) (inl e) = (zero, omega arith, e)
-placed_in x (y ∷ ys) (inr i) = let c = placed_in x ys i in (suc c.0, (let within = c.1 in omega arith), c.2)
-
--- what is at an index is a member
-member_at : {X : Type 0} (x : X) (xs : List X) (k : ℕ) → k < length xs → get_or xs k x ≡ x → In x xs
-member_at x [] k within e = absurd (omega arith)
-member_at x (y ∷ ys) zero within e = inl e
-member_at x (y ∷ ys) (suc k) within e = inr (member_at x ys k (omega arith) e)
 
 -- the parts of an order one after the other are equal where the whole is
 first_equal : (r s : Ordering) → ordering_then r s ≡ Equal → r ≡ Equal
@@ -45,16 +35,6 @@ second_equal Greater s e = cc
 -- numbers that compare as equal are
 equal_numbers : (a b : ℕ) → nat_cmp a b ≡ Equal → a ≡ b
 equal_numbers a b e = ranked a b Equal (sym e)
-
--- texts that compare as equal are
-equal_texts : (x y : Name) → slice_cmp nat_cmp x y ≡ Equal → x ≡ y
-equal_texts [] [] e = refl
-equal_texts [] (b ∷ y) e = cc
-equal_texts (a ∷ x) [] e = cc
-equal_texts (a ∷ x) (b ∷ y) e =
-    let first = equal_numbers a b (first_equal (nat_cmp a b) (slice_cmp nat_cmp x y) e) in
-    let others = equal_texts x y (second_equal (nat_cmp a b) (slice_cmp nat_cmp x y) e) in
-    cc
 
 is_equal : (r : Ordering) → is_eq r ≡ true → r ≡ Equal
 is_equal Less e = cc
@@ -105,8 +85,8 @@ equal_warnings v w e =
     same_warning v w
     (equal_numbers _ _ (first_equal offsets (ordering_then ranks (ordering_then subjects contexts)) all))
     (equal_numbers _ _ (first_equal ranks (ordering_then subjects contexts) after))
-    (equal_texts _ _ (first_equal subjects contexts last))
-    (equal_texts _ _ (second_equal subjects contexts last))
+    (same_from_equal _ _ (first_equal subjects contexts last))
+    (same_from_equal _ _ (second_equal subjects contexts last))
 
 module _ (total : IsTotalOrder warning_cmp) (laws : IsEquivalence (eq_by_cmp warning_cmp)) (old sorted new : List Warning)
     (moved : IsPermutation old sorted) (filtered : IsFiltered (DiffersFromLast (eq_by_cmp warning_cmp)) [] sorted new) where
@@ -116,13 +96,10 @@ module _ (total : IsTotalOrder warning_cmp) (laws : IsEquivalence (eq_by_cmp war
   -- the same warnings are left
   pub same_left : (w : Warning) → In w new ↔ In w old
   same_left w = (
-    (λ i.
-        let c = Contains-permutation sorted old w (IsPermutation-sym old sorted moved)
-        (Contains-from_dedup (eq_by_cmp warning_cmp) sorted w (placed_in w (dedup (eq_by_cmp warning_cmp) sorted) (subst (In w) kept i))) in
-        member_at w old c.0 c.1 c.2),
-    (λ i.
-        let c = Contains-dedup laws equal_warnings sorted w (Contains-permutation old sorted w moved (placed_in w old i)) in
-        subst (In w) (sym kept) (member_at w (dedup (eq_by_cmp warning_cmp) sorted) c.0 c.1 c.2)),
+    (λ i. contains_in old w (Contains-permutation sorted old w (IsPermutation-sym old sorted moved)
+        (Contains-from_dedup (eq_by_cmp warning_cmp) sorted w (in_contains (dedup (eq_by_cmp warning_cmp) sorted) w (subst (In w) kept i))))),
+    (λ i. subst (In w) (sym kept) (contains_in (dedup (eq_by_cmp warning_cmp) sorted) w
+        (Contains-dedup laws equal_warnings sorted w (Contains-permutation old sorted w moved (in_contains old w i))))),
   )
 
   -- and they are in order

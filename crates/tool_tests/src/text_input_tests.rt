@@ -16,7 +16,9 @@ fn expect_whole(
     piece: usize,
 ) -> Result<(), Fail> {
     let mut reader = FromRead::new(SliceReader::new(text, piece));
-    let read = read_text(alloc, &mut reader).ok().ok_or("a fault")?;
+    let read = read_text(alloc, &mut reader, TEXT_LIMIT)
+        .ok()
+        .ok_or("a fault")?;
     assert_eq!(rt; read.as_slice(), text, "by {pieces}");
     assert!(rt; !reader.failed(), "by {pieces}");
     Ok(())
@@ -30,17 +32,18 @@ fn reads_a_text_whole_from_any_pieces(rt: HostRuntime) -> Result<(), Fail> {
     expect_whole(&rt, rt.alloc(), text, "all at once", 4096)
 }
 
-/// Reads a text, and expects this fault, and that the source remembers a failure.
+/// Reads a text within a limit, and expects this fault, and that the source remembers a failure.
 fn expect_fault<'a>(
     rt: &impl Abort,
     alloc: Global,
     name: &str,
     bytes: SliceReader<'a>,
+    limit: usize,
     fault: Option<ReadFault>,
 ) -> SliceReader<'a> {
     let fails = bytes.fails_at.is_some();
     let mut reader = FromRead::new(bytes);
-    let found = read_text(alloc, &mut reader).err();
+    let found = read_text(alloc, &mut reader, limit).err();
     assert_eq!(rt; found, fault, "{name}");
     assert_eq!(rt; reader.failed(), fails, "{name}");
     reader.into_inner()
@@ -50,7 +53,8 @@ fn expect_fault<'a>(
 fn expect_device_fault(rt: &impl Abort, alloc: Global, number: usize) {
     let mut bytes = SliceReader::new(b"stop", 1);
     bytes.fails_at = Some(number);
-    let bytes = expect_fault(rt, alloc, "a failed read", bytes, Some(ReadFault::Device));
+    let device = Some(ReadFault::Device);
+    let bytes = expect_fault(rt, alloc, "a failed read", bytes, TEXT_LIMIT, device);
     assert_eq!(rt; bytes.reads, number);
 }
 
@@ -61,31 +65,48 @@ fn a_failed_read_is_a_fault_of_the_device(rt: HostRuntime) {
     }
 }
 
-/// Reads a text of so many bytes, and expects that all of them are read.
+/// Reads a text of so many bytes within a limit, and expects that all of them are read.
 fn expect_length(
     rt: &impl Abort,
     alloc: Global,
     text: &str,
     length: usize,
+    limit: usize,
     fault: Option<ReadFault>,
 ) -> Result<(), Fail> {
     let bytes = vec![in alloc; b' '; length]?;
-    let read = expect_fault(rt, alloc, text, SliceReader::new(&bytes, 4096), fault);
+    let reader = SliceReader::new(&bytes, 4096);
+    let read = expect_fault(rt, alloc, text, reader, limit, fault);
     assert!(rt; read.rest.is_empty(), "at {text}");
     Ok(())
 }
 
+/// What is read, how many bytes the text has, the limit, and the fault.
+const LENGTHS: &[(&str, usize, usize, Option<ReadFault>)] = &[
+    ("the longest text", TEXT_LIMIT, TEXT_LIMIT, None),
+    (
+        "one byte more",
+        TEXT_LIMIT + 1,
+        TEXT_LIMIT,
+        Some(ReadFault::TooLong),
+    ),
+    ("no byte, the limit 0", 0, 0, None),
+    ("one byte, the limit 0", 1, 0, Some(ReadFault::TooLong)),
+    ("the largest limit", 5_000, usize::MAX, None),
+];
+
 #[test]
-fn a_text_may_have_so_many_bytes_and_no_more(rt: HostRuntime) -> Result<(), Fail> {
-    expect_length(&rt, rt.alloc(), "the longest text", TEXT_LIMIT, None)?;
-    let too_long = Some(ReadFault::TooLong);
-    expect_length(&rt, rt.alloc(), "one byte more", TEXT_LIMIT + 1, too_long)
+fn a_text_may_have_as_many_bytes_as_the_limit_and_no_more(rt: HostRuntime) -> Result<(), Fail> {
+    for (text, length, limit, fault) in LENGTHS {
+        expect_length(&rt, rt.alloc(), text, *length, *limit, *fault)?;
+    }
+    Ok(())
 }
 
 #[test]
 fn an_endless_text_is_given_up_after_one_byte_too_many(rt: HostRuntime) {
     let mut reader = FromRead::new(Blanks { reads: 0 });
-    let found = read_text(rt.alloc(), &mut reader).err();
+    let found = read_text(rt.alloc(), &mut reader, TEXT_LIMIT).err();
     assert_eq!(rt; found, Some(ReadFault::TooLong));
     assert_eq!(rt; reader.into_inner().reads, 1_048_577);
 }

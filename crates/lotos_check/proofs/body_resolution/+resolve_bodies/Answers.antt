@@ -45,9 +45,9 @@ returns-in_err-found-clause-name_fault t c =
     misnamed_here scope c.args.first d fault
     (subst (λ b. IsNameFault w (texts (formals_of d)) b fault) (body_shown of) body))
 
-pub returns-in_err-resolve_bodies-clause-name_fault : goal.returns-in_err-resolve_bodies-clause-name_fault
-returns-in_err-resolve_bodies-clause-name_fault t c =
-    carried_on c.from_residual-in_err-resolve_bodies.result _ _ c.from_residual-in_err-resolve_bodies.ensures.1 (λ scope shows.
+pub returns-in_err-number-clause-name_fault : goal.returns-in_err-number-clause-name_fault
+returns-in_err-number-clause-name_fault t c =
+    carried_on c.from_residual-in_err-number.result _ _ c.from_residual-in_err-number.ensures.1 (λ scope shows.
     let of = c.args.definition.now in
     let d = definition_view of in
     let w = within d c.args.first scope in
@@ -59,24 +59,12 @@ returns-in_err-resolve_bodies-clause-name_fault t c =
     let left = rest_at items index c.inner-item.result below c.inner-item.is in
     let one = definition_view c.inner-item.result in
     let rest = definitions_view (drop (index + 1) items) in
-    let fault = c.in_err-resolve_bodies.field-0.0 in
+    let fault = c.in_err-number.field-0.0 in
     let number = c.loop-inner.number in
-    let here = c.in_err-resolve_bodies.ensures.name_fault w (rw c.loop-inner.invariant.stack all) in
+    let here = c.in_err-number.ensures.name_fault w (rw c.loop-inner.invariant.stack all) in
     misnamed_inside scope c.args.first d fault (c.loop-inner.invariant.misnamed w all fault
     (rw (left, listed_more w number one rest)
     (misnamed_left (definition_in_scope w (number + 1) one) (definitions_in_scope w (number + 1 + count (inner_of one)) rest) fault here))))
-
-pub count_inner-requires : goal.count_inner-requires
-count_inner-requires t c =
-    let items = c.deref-inner-items.result.now in
-    let index = c.loop-inner.inner-index in
-    let below : index < length items = omega arith in
-    let left = rest_at items index c.inner-item.result below c.inner-item.is in
-    let one = definition_view c.inner-item.result in
-    let rest = definitions_view (drop (index + 1) items) in
-    let more = count_more one rest in
-    let number = rw left at c.loop-inner.invariant.number in
-    omega (arith, c.requires)
 
 pub loop-inner-init : goal.loop-inner-init
 loop-inner-init t c =
@@ -101,19 +89,18 @@ loop-inner-preserved t c =
     let more = count_more one rest in
     let before = c.loop-inner.number in
     let number = rw left at c.loop-inner.invariant.number in
-    let counted = c.count_inner.ensures in
-    let same : before + (1 + c.count_inner.result) ≡ before + 1 + count (inner_of one) = omega arith in
+    let after = c.in_ok-number.ensures.next in
     record {
       number = omega arith;
-      stack = c.in_ok-resolve_bodies.ensures.stack ∙ c.loop-inner.invariant.stack;
+      stack = c.in_ok-number.ensures.stack ∙ c.loop-inner.invariant.stack;
       adds = λ scope shows new h.
-          let later = subst (λ k. AddsBodies (definitions_in_scope scope k rest) c.resolve_bodies.new.into.items new) same h in
-          let here = c.in_ok-resolve_bodies.ensures.adds scope (rw c.loop-inner.invariant.stack shows) in
+          let later = subst (λ k. AddsBodies (definitions_in_scope scope k rest) c.resolve_bodies.new.into.items new) after h in
+          let here = c.in_ok-number.ensures.adds scope (rw c.loop-inner.invariant.stack shows) in
           c.loop-inner.invariant.adds scope shows new (rw (left, listed_more scope before one rest)
           (adds_append (definition_in_scope scope (before + 1) one) (definitions_in_scope scope (before + 1 + count (inner_of one)) rest)
           c.loop-inner.into.items c.resolve_bodies.new.into.items new here later));
       misnamed = λ scope shows fault h.
-          let later = subst (λ k. IsNameFaultIn (definitions_in_scope scope k rest) fault) same h in
+          let later = subst (λ k. IsNameFaultIn (definitions_in_scope scope k rest) fault) after h in
           c.loop-inner.invariant.misnamed scope shows fault (rw (left, listed_more scope before one rest)
           (misnamed_right (definition_in_scope scope (before + 1) one) (definitions_in_scope scope (before + 1 + count (inner_of one)) rest) fault
           later));

@@ -3,7 +3,7 @@ use Rattle.std.proofs.lemmas.List.{drop_all}
 use Rattle.lotos_text.specs.AstOf.{definition_view}
 use Rattle.lotos_check.specs.Acceptance.{IsDuplicateFault}
 use Rattle.lotos_check.proofs.SameFault.{passed_on}
-use Rattle.lotos_check.proofs.VisitedNames.{from_place}
+use Rattle.lotos_check.proofs.Pairs.{drop_at}
 use Rattle.lotos_check.proofs.DistinctDefinitions.{passed_none, passed_more, passed_again, passed_inside, passed_all, gate_again}
 use Rattle.lotos_check.proofs.duplicates.+check_distinct.Goals as goal
 
@@ -17,7 +17,7 @@ loop-inner-init t c = passed_none (λ k. k.now) c.new-names.result.keys c.deref-
 pub returns-then-not-branch-clause-fails : goal.returns-then-not-branch-clause-fails
 returns-then-not-branch-clause-fails t c =
     let within : c.loop-inner.inner-index < length c.deref-inner-items.result.now = omega arith in
-    let next = from_place c.deref-inner-items.result.now c.loop-inner.inner-index _ c.inner-item.result within c.inner-item.is in
+    let next = drop_at c.deref-inner-items.result.now c.loop-inner.inner-index _ c.inner-item.result within c.inner-item.is in
     passed_again (λ k. k.now)
     c.loop-inner.names.keys c.insert.new.self.keys c.text.result c.deref-inner-items.result.now _ _ c.inner-item.result c.text.result.now
     c.loop-inner.invariant next c.text.ensures.bytes _ c.in_ok-insert.ensures.added c.args.whole.now c.deref-inner-items.ensures.value _ c.in_ok-copy_placed.ensures c.if-not-branch.true
@@ -25,7 +25,7 @@ returns-then-not-branch-clause-fails t c =
 pub returns-in_err-check_distinct-clause-fails : goal.returns-in_err-check_distinct-clause-fails
 returns-in_err-check_distinct-clause-fails t c =
     let within : c.loop-inner.inner-index < length c.deref-inner-items.result.now = omega arith in
-    let next = from_place c.deref-inner-items.result.now c.loop-inner.inner-index _ c.inner-item.result within c.inner-item.is in
+    let next = drop_at c.deref-inner-items.result.now c.loop-inner.inner-index _ c.inner-item.result within c.inner-item.is in
     passed_on (IsDuplicateFault (definition_view c.args.whole.now))
     c.from_residual-in_err-check_distinct.result c.in_err-check_distinct.field-0.0 c.from_residual-in_err-check_distinct.ensures.1
     (passed_inside (λ k. k.now)
@@ -36,7 +36,7 @@ returns-in_err-check_distinct-clause-fails t c =
 pub loop-inner-preserved : goal.loop-inner-preserved
 loop-inner-preserved t c =
     let within : c.loop-inner.inner-index < length c.deref-inner-items.result.now = omega arith in
-    let next = from_place c.deref-inner-items.result.now c.loop-inner.inner-index _ c.inner-item.result within c.inner-item.is in
+    let next = drop_at c.deref-inner-items.result.now c.loop-inner.inner-index _ c.inner-item.result within c.inner-item.is in
     passed_more (λ k. k.now)
     c.loop-inner.names.keys c.insert.new.self.keys c.text.result c.deref-inner-items.result.now _ _ c.inner-item.result c.text.result.now
     c.loop-inner.invariant next c.text.ensures.bytes _ c.in_ok-insert.ensures.added c.if-not-branch.false refl c.in_ok-insert.ensures.keys c.in_ok-check_distinct.ensures.distinct

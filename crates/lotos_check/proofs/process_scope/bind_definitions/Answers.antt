@@ -2,7 +2,7 @@ use Rattle.std.proofs.Common.{◌<◌, ◌≤◌, arith, length, refl}
 use Rattle.std.proofs.lemmas.List.{drop_all}
 use Rattle.std.proofs.lemmas.Map.Text.{hash_map_updates_str}
 use Rattle.lotos_text.specs.AstOf.{definitions_view}
-use Rattle.lotos_check.proofs.VisitedNames.{from_place}
+use Rattle.lotos_check.proofs.Pairs.{drop_at}
 use Rattle.lotos_check.proofs.Bindings.{built_with, built_all}
 use Rattle.lotos_check.proofs.process_scope.bind_definitions.Goals as goal
 
@@ -12,7 +12,7 @@ loop-definition-preserved c =
     let within : c.loop-definition.definition-index < length c.args.definitions.now = omega arith in
     built_with (definitions_view c.args.definitions.now) c.args.first _ _ c.loop-definition.process _ c.text.result.now updates
     c.definition-item.result _ _ c.count_inner.result c.text.ensures.bytes refl refl
-    (from_place c.args.definitions.now c.loop-definition.definition-index _ c.definition-item.result within c.definition-item.is)
+    (drop_at c.args.definitions.now c.loop-definition.definition-index _ c.definition-item.result within c.definition-item.is)
     c.count_inner.ensures c.loop-definition.invariant
 
 pub returns : goal.returns

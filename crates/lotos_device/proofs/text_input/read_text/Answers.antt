@@ -1,4 +1,4 @@
-use Rattle.std.proofs.Common.{◌++◌, ◌≡◌, take, length, arith, rules, length-append}
+use Rattle.std.proofs.Common.{◌++◌, ◌≡◌, ◌+◌, take, length, arith, rules, length-append}
 use Rattle.std.proofs.lemmas.List.{length-take}
 use Rattle.std.proofs.KnownBytes.{Consumes-kept, Consumes-trans}
 use Rattle.lotos_device.proofs.text_input.read_text.Goals as goal
@@ -7,7 +7,7 @@ use Rattle.lotos_device.proofs.text_input.read_text.Goals as goal
 pub returns-in_err-extend_from_slice-clause-memory :
     goal.returns-in_err-extend_from_slice-clause-memory
 returns-in_err-extend_from_slice-clause-memory g c =
-    let room : length c.read.new.into ≡ c.min-room.result = search rules in
+    let room : length c.read.new.into ≡ c.min-room.result + 1 = search rules in
     λ _. (
       c.loop-text.text.items ++ take c.in-Ok.count c.read.new.into,
       simp (length-append, length-take) (omega (arith, c.min-room.ensures)),

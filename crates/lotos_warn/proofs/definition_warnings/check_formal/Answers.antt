@@ -1,9 +1,10 @@
 use Rattle.std.proofs.Common.{◌≡◌, [], ◌∷◌, ◌++◌, map, sym, ap, ◌∙◌, subst}
 use Rattle.lotos_check.specs.NameLists.{In}
+use Rattle.lotos_check.proofs.NameTests.{name_found, name_missing}
 use Rattle.lotos_warn.specs.declared.warning.Warning.TheVariants.{UnusedGate}
 use Rattle.lotos_warn.specs.Additions.{Adds, IsUnusedAmong}
 use Rattle.lotos_warn.proofs.Additions.{adds_as, adds_nothing}
-use Rattle.lotos_warn.proofs.NameTests.{name_found, name_missing, adds_end}
+use Rattle.lotos_warn.proofs.NameTests.{adds_end}
 use Rattle.lotos_warn.proofs.DefinitionWarnings.{unused_one, unused_never}
 use Rattle.lotos_warn.proofs.definition_warnings.check_formal.Goals as goal
 

@@ -1,7 +1,8 @@
 use Rattle.std.proofs.Common.{◌<◌, ◌≤◌, [], ◌∷◌, length, map, arith}
 use Rattle.std.proofs.lemmas.List.{drop_all}
+use Rattle.lotos_check.proofs.Pairs.{drop_at}
 use Rattle.lotos_warn.specs.Additions.{IsUnusedAmong}
-use Rattle.lotos_warn.proofs.Additions.{from_place, loop_next, loop_end}
+use Rattle.lotos_warn.proofs.Additions.{loop_next, loop_end}
 use Rattle.lotos_warn.proofs.DefinitionWarnings.{unused_split, unused_none}
 use Rattle.lotos_warn.proofs.definition_warnings.check_formals.Goals as goal
 
@@ -13,7 +14,7 @@ loop-gate-preserved c =
     loop_next (IsUnusedAmong used name) (λ g. IsUnusedAmong used name (g ∷ [])) (unused_split used name) (unused_none used name)
     c.args.found.now.items c.loop-gate.found.items c.check_formal.new.found.items
     (IsUnusedAmong used name c.args.formals.now) _ _ c.gate-item.result
-    (from_place c.args.formals.now c.loop-gate.gate-index _ c.gate-item.result within c.gate-item.is)
+    (drop_at c.args.formals.now c.loop-gate.gate-index _ c.gate-item.result within c.gate-item.is)
     c.loop-gate.invariant c.in_ok-check_formal.ensures
 
 pub returns : goal.returns

@@ -1,8 +1,9 @@
 use Rattle.std.proofs.Common.{◌<◌, ◌≤◌, length, map, arith}
 use Rattle.std.proofs.lemmas.List.{drop_all}
 use Rattle.lotos_text.specs.AstOf.{definition_view}
+use Rattle.lotos_check.proofs.Pairs.{drop_at}
 use Rattle.lotos_warn.specs.Additions.{IsGateWarning, IsGateWarningOfAny}
-use Rattle.lotos_warn.proofs.Additions.{from_place, loop_next, loop_end}
+use Rattle.lotos_warn.proofs.Additions.{loop_next, loop_end}
 use Rattle.lotos_warn.proofs.DefinitionWarnings.{gates_split}
 use Rattle.lotos_warn.proofs.definition_warnings.check_gates_of_all.Goals as goal
 
@@ -13,7 +14,7 @@ loop-definition-preserved c =
     (λ d ds w. gates_split (definition_view d.now) (map (λ d. definition_view d.now) ds) w) (λ w h. h.1)
     c.args.found.now.items c.loop-definition.found.items c.check_gates_of.new.found.items
     (IsGateWarningOfAny (map (λ d. definition_view d.now) c.args.definitions.now)) _ _ c.definition-item.result
-    (from_place c.args.definitions.now c.loop-definition.definition-index _ c.definition-item.result within c.definition-item.is)
+    (drop_at c.args.definitions.now c.loop-definition.definition-index _ c.definition-item.result within c.definition-item.is)
     c.loop-definition.invariant c.in_ok-check_gates_of.ensures
 
 pub returns : goal.returns

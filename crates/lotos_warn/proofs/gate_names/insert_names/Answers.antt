@@ -1,7 +1,8 @@
 use Rattle.std.proofs.Common.{◌<◌, ◌≤◌, ◌≡◌, length, map, arith}
 use Rattle.std.proofs.lemmas.List.{drop_all}
 use Rattle.lotos_check.specs.NameLists.{In, texts}
-use Rattle.lotos_warn.proofs.Additions.{from_place, loop_next, loop_end}
+use Rattle.lotos_check.proofs.Pairs.{drop_at}
+use Rattle.lotos_warn.proofs.Additions.{loop_next, loop_end}
 use Rattle.lotos_warn.proofs.gate_names.insert_names.Goals as goal
 
 pub loop-gate-preserved : goal.loop-gate-preserved
@@ -10,7 +11,7 @@ loop-gate-preserved c =
     loop_next (λ gs n. In n (texts gs)) (λ g n. g.name ≡ n) (λ g gs n. ((λ h. h), (λ h. h))) (λ n i. i)
     (map (λ k. k.now) c.args.into.now.keys) (map (λ k. k.now) c.loop-gate.into.keys) (map (λ k. k.now) c.insert_name.new.into.keys)
     (λ n. In n (texts c.args.gates.now)) _ _ c.gate-item.result
-    (from_place c.args.gates.now c.loop-gate.gate-index _ c.gate-item.result within c.gate-item.is)
+    (drop_at c.args.gates.now c.loop-gate.gate-index _ c.gate-item.result within c.gate-item.is)
     c.loop-gate.invariant c.in_ok-insert_name.ensures
 
 pub returns : goal.returns

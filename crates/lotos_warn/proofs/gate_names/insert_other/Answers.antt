@@ -1,7 +1,7 @@
 use Rattle.std.proofs.Common.{◌≡◌, map, sym, ◌∙◌, subst}
 use Rattle.lotos_check.specs.NameLists.{In}
+use Rattle.lotos_check.proofs.NameTests.{name_found, name_missing}
 use Rattle.lotos_warn.proofs.Additions.{adds_as, adds_nothing}
-use Rattle.lotos_warn.proofs.NameTests.{name_found, name_missing}
 use Rattle.lotos_warn.proofs.gate_names.insert_other.Goals as goal
 
 pub returns-in_ok-insert_text : goal.returns-in_ok-insert_text

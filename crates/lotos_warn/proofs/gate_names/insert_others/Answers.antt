@@ -1,8 +1,9 @@
 use Rattle.std.proofs.Common.{◌<◌, ◌≤◌, ◌≡◌, ℕ, List, [], length, map, get_or, arith, refl, Bor}
 use Rattle.std.proofs.lemmas.List.{drop_all}
 use Rattle.lotos_check.specs.NameLists.{In}
+use Rattle.lotos_check.proofs.Pairs.{drop_at}
 use Rattle.lotos_warn.specs.Additions.{IsVisible}
-use Rattle.lotos_warn.proofs.Additions.{from_place, loop_next, loop_end}
+use Rattle.lotos_warn.proofs.Additions.{loop_next, loop_end}
 use Rattle.lotos_warn.proofs.NameTests.{visible_split}
 use Rattle.lotos_warn.proofs.gate_names.insert_others.Goals as goal
 
@@ -15,7 +16,7 @@ loop-name-preserved c =
     (λ k ks n. visible_split hidden k.now (map (λ k. k.now) ks) n) (λ n h. h.1)
     (map (λ k. k.now) c.args.into.now.keys) (map (λ k. k.now) c.loop-name.into.keys) (map (λ k. k.now) c.insert_other.new.into.keys)
     (λ n. IsVisible hidden (map (λ k. k.now) c.args.from.now) n) _ _ item
-    (from_place c.args.from.now c.loop-name.name-index _ item within refl)
+    (drop_at c.args.from.now c.loop-name.name-index _ item within refl)
     c.loop-name.invariant c.in_ok-insert_other.ensures
 
 pub returns : goal.returns

@@ -1,8 +1,9 @@
 use Rattle.std.proofs.Common.{◌<◌, ◌≤◌, ◌⊎◌, length, map, arith}
 use Rattle.std.proofs.lemmas.List.{drop_all}
+use Rattle.lotos_check.proofs.Pairs.{drop_at}
 use Rattle.lotos_warn.specs.declared.warning.Side.TheVariants.{Left, Right}
 use Rattle.lotos_warn.specs.Additions.{IsMissingGate, IsMissingOn}
-use Rattle.lotos_warn.proofs.Additions.{adds_both, from_place, loop_next, loop_end}
+use Rattle.lotos_warn.proofs.Additions.{adds_both, loop_next, loop_end}
 use Rattle.lotos_warn.proofs.ListWarnings.{missing_split, missing_none}
 use Rattle.lotos_warn.proofs.offered_gates.check_gates.Goals as goal
 
@@ -15,7 +16,7 @@ loop-gate-preserved c =
     (missing_split by_left by_right) (missing_none by_left by_right)
     c.args.found.now.items c.loop-gate.found.items c.check_side-in-loop-gate.new.found.items
     (IsMissingGate by_left by_right c.args.gates.now) _ _ c.gate-item.result
-    (from_place c.args.gates.now c.loop-gate.gate-index _ c.gate-item.result within c.gate-item.is)
+    (drop_at c.args.gates.now c.loop-gate.gate-index _ c.gate-item.result within c.gate-item.is)
     c.loop-gate.invariant
     (adds_both c.loop-gate.found.items c.check_side.new.found.items c.check_side-in-loop-gate.new.found.items
     (IsMissingOn by_left Left c.gate-item.result) (IsMissingOn by_right Right c.gate-item.result)

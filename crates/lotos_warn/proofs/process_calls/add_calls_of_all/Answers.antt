@@ -1,8 +1,9 @@
 use Rattle.std.proofs.Common.{◌<◌, ◌≤◌, length, map, arith}
 use Rattle.std.proofs.lemmas.List.{drop_all}
 use Rattle.lotos_check.specs.FlatOf.{flat_of, process_of}
+use Rattle.lotos_check.proofs.Pairs.{drop_at}
 use Rattle.lotos_warn.specs.Additions.{ContainsCallOf, IsCalledByAny}
-use Rattle.lotos_warn.proofs.Additions.{from_place, loop_next, loop_end}
+use Rattle.lotos_warn.proofs.Additions.{loop_next, loop_end}
 use Rattle.lotos_warn.proofs.CallAdditions.{any_split}
 use Rattle.lotos_warn.proofs.process_calls.add_calls_of_all.Goals as goal
 
@@ -13,7 +14,7 @@ loop-process-preserved c =
     (λ p ps k. any_split (process_of p) (map process_of ps) k) (λ k h. h.1)
     c.args.called.now.keys c.loop-process.called.keys c.add_calls.new.called.keys
     (IsCalledByAny (map process_of c.args.processes.now)) _ _ c.process-item.result
-    (from_place c.args.processes.now c.loop-process.process-index _ c.process-item.result within c.process-item.is)
+    (drop_at c.args.processes.now c.loop-process.process-index _ c.process-item.result within c.process-item.is)
     c.loop-process.invariant c.in_ok-add_calls.ensures
 
 pub returns : goal.returns
