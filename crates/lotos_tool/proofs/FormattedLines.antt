@@ -3,30 +3,12 @@ use Rattle.std.proofs.Common.{◌≡◌, ℕ, ◌<◌, ◌≤◌, zero, suc, ari
 use Rattle.std.specs.List.{flat_map}
 use Rattle.std.proofs.Math.ListN.{drop_of_length-le}
 use Rattle.lotos_check.specs.NameLists.{Name}
-use Rattle.lotos_terms.specs.TableView.{TableView, IsLabel, IsPrintedAs}
+use Rattle.lotos_terms.specs.TableView.{IsPrintedAs}
 use Rattle.lotos_terms.specs.declared.label.Label.{Label as TermLabel}
-use Rattle.lotos_terms.specs.declared.label.Label.TheVariants as l
+use Rattle.lotos_terms.proofs.PrintedLabels.{one_text}
 use Rattle.lotos_search.specs.Order.{Label}
 use Rattle.lotos_search.specs.Question.{ArePrinted, none_printed, more_printed}
 use Rattle.lotos_tool.specs.OutputLines.{sequence_text}
-
--- the index of an item is below the length
-get_below : {A : Type 0} (xs : List A) (n : ℕ) (x : A) → slice_get xs n ≡ Some x → n < length xs
-get_below [] n x h = cc
-get_below (y ∷ ys) zero x h = omega arith
-get_below (y ∷ ys) (suc n) x h = let b = get_below ys n x h in omega arith
-
--- a label has one text
-pub shows_one : (names : List Name) (k : TermLabel) (t u : List ℕ) → IsPrintedAs names k t → IsPrintedAs names k u → t ≡ u
-shows_one names l.Exit t u h g = h ∙ sym g
-shows_one names l.Internal t u h g = h ∙ sym g
-shows_one names (l.Gate n) t u h g = let e : Some t ≡ Some u = sym h ∙ g in cc
-
--- a label with a printed text is a label of the table
-pub label_known : (held : TableView) (k : TermLabel) (t : List ℕ) → IsPrintedAs held.names k t → IsLabel held k
-label_known held l.Exit t h = tt
-label_known held l.Internal t h = tt
-label_known held (l.Gate n) t h = get_below held.names n t h
 
 -- the texts of a list of labels: that of the first label, and those of the others
 pub record AreCut (names : List Name) (k : TermLabel) (ks : List TermLabel) (s : List Label) : Type 0 where
@@ -58,7 +40,7 @@ pub left_at_first : (names : List Name) (labels rest : List TermLabel) (first : 
     IsPrintedAs names first shown → text ≡ shown → (s : List Label) → ArePrinted names labels s → IsLeft names rest text s
 left_at_first names labels rest first shown text e h written s all =
     let cut = cut_first names first rest s (subst (λ ls. ArePrinted names ls s) e all) in
-    let same = written ∙ shows_one names first shown cut.first h cut.printed in
+    let same = written ∙ one_text names first shown cut.first h cut.printed in
     (cut.others, cut.all, ap (λ x. x ++ flat_map (λ m. 32 ∷ m) cut.others) same ∙ sym (ap sequence_text cut.joined))
 
 -- one more label is written
@@ -66,7 +48,7 @@ pub left_behind : (names : List Name) (rest later : List TermLabel) (label : Ter
     rest ≡ label ∷ later → IsPrintedAs names label shown → text' ≡ (text ++ 32 ∷ []) ++ shown → IsLeft names rest text s → IsLeft names later text' s
 left_behind names rest later label text shown text' s e h written (left, all, whole) =
     let cut = cut_first names label later left (subst (λ ls. ArePrinted names ls left) e all) in
-    let same = shows_one names label shown cut.first h cut.printed in
+    let same = one_text names label shown cut.first h cut.printed in
     let whole' : text ++ flat_map (λ m. 32 ∷ m) (cut.first ∷ cut.others) ≡ sequence_text s = subst (λ x. text ++ flat_map (λ m. 32 ∷ m) x ≡ sequence_text s) cut.joined whole in
     let grown : text' ≡ text ++ (32 ∷ cut.first) = written ∙ append_assoc text (32 ∷ []) shown ∙ ap (λ x. text ++ (32 ∷ x)) same in
     let others = flat_map (λ m. 32 ∷ m) cut.others in

@@ -27,25 +27,11 @@ use Rattle.lotos_tool.specs.declared.outcome.Ended.TheVariants.{Complete, Refuse
 use Rattle.lotos_tool.specs.declared.outcome.Why.TheVariants as why
 use Rattle.lotos_command.specs.declared.command.SearchRequest.{SearchRequest}
 
--- the question of a search that began with a sound table of a system is about that system
-search_of_a_table : (system : System) (held : TableView) (p : Pattern) (depth : ℕ) (mark : Option (List Label)) (terms : ℕ) (search : SearchState) →
-    IsTableOf system held → IsSoundView held → IsBegun held p depth mark terms search → IsQuestionOf system search.question
-search_of_a_table system held p depth mark terms search table sound begun =
-    let same : Some table.term ≡ Some search.question.start = sym table.located ∙ begun.start in
-    let term : table.term ≡ search.question.start = cc in
-    record {
-      named = subst AreGateNames (sym begun.names) sound.names;
-      gates = subst (λ ns. (n : Name) → In n ns ↔ In n (system_gates system)) (sym begun.names) table.names;
-      processes = subst (λ ns. Pairwise (IsNumberedProcess ns) system.processes search.question.processes) (sym begun.names)
-          (subst (Pairwise (IsNumberedProcess held.names) system.processes) (sym begun.processes) table.processes);
-      start = subst (λ ns. IsNumberedTerm ns system.start search.question.start) (sym begun.names) (subst (IsNumberedTerm held.names system.start) term table.start);
-    }
-
--- a search that began with a table of the system, and with the request's depth and terms, is one for the request
+-- a search of the system that began with the request's depth and terms is one for the request
 pub asked_of : (request : SearchRequest) (system : System) (held : TableView) (p : Pattern) (mark : Option (List Label)) (search : SearchState) →
-    IsTableOf system held → IsSoundView held → IsBegun held p request.depth mark request.terms search → IsSearchFor request system p mark search
-asked_of request system held p mark search table sound begun = record {
-  question = search_of_a_table system held p request.depth mark request.terms search table sound begun;
+    IsQuestionOf system search.question → IsBegun held p request.depth mark request.terms search → IsSearchFor request system p mark search
+asked_of request system held p mark search question begun = record {
+  question = question;
   pattern = begun.pattern_is;
   depth = begun.depth_is;
   terms = begun.terms_is;

@@ -16,7 +16,7 @@ use crate::output_lines::{format_line, format_sequence};
 use crate::progress_report::OutputProgress;
 use lotos_command::SearchRequest;
 use lotos_device::{DeviceFailed, Sink, write_bytes};
-use lotos_search::laws::items_decrease_remaining;
+use lotos_search::laws::{items_decrease_remaining, strict_order};
 use lotos_search::{Found, Halt, Search};
 use lotos_terms::Label;
 use std::alloc::{AllocError, Global};
@@ -39,6 +39,7 @@ pub fn write_listing<W: Sink, P: OutputProgress>(
     ensures failed { W.has_failed writer.new ≡ is_output_fault result }
 {
     items_decrease_remaining();
+    strict_order();
     let mut last = None;
     let mut lines: u64 = 0;
     loop {

@@ -21,6 +21,7 @@ use lotos_check::Checked;
 use lotos_command::SearchRequest;
 use lotos_device::{Sink, Source};
 use lotos_pattern::{Pattern, PatternFault};
+use lotos_search::laws::begun_search_has_question;
 use lotos_search::{Mark, MarkFault, NoProgress, Search};
 use lotos_terms::Table;
 use std::alloc::{AllocError, Global};
@@ -164,6 +165,7 @@ fn begin_search(
     requires { 1 ≤ request.now.terms }
     ensures { IfOk result (IsSearchFor request.now (system_of found) pattern mark) }
 {
+    begun_search_has_question();
     let table = Table::new(alloc, found)?;
     table.recall_sound();
     Search::begin(alloc, table, pattern, request.depth, mark, request.terms)

@@ -8,7 +8,6 @@ use Rattle.lotos_terms.specs.TableView.{AreSuccessors, Grows, IsInTable, IsLabel
 use Rattle.lotos_terms.specs.Steps.{Step}
 use Rattle.lotos_terms.specs.Terms.{stop}
 use Rattle.lotos_terms.specs.declared.label.Label.{Label}
-use Rattle.lotos_terms.specs.declared.label.Label.TheVariants as l
 use Rattle.uses.specs.TermRuns.{IsDeadlock, IsStep, RunTo}
 
 first_in : {A : Type 0} (xs : List A) (x : A) → Some x ≡ slice_get xs 0 → Contains xs x × In x xs
@@ -39,43 +38,28 @@ none_is_dead old new grows n lt xs answers e =
 pub leads_below : (held : TableView) (n : ℕ) (s : Label × ℕ) → IsStep held n s → s.1 < length held.terms
 leads_below held n s step = slice_get_within held.terms s.1 step.to step.leads
 
-label_grows : (old new : TableView) → Grows old new → (k : Label) → IsLabel old k → IsLabel new k
-label_grows old new grows l.Exit h = tt
-label_grows old new grows l.Internal h = tt
-label_grows old new grows (l.Gate g) h = subst (λ names. g < length names) (sym grows.names) h
+-- in a table that has grown, and has the labels that there were
+module _ (old new : TableView) (grows : Grows old new) (labels : (k : Label) → IsLabel old k → IsLabel new k) where
+  step_grows : (n : ℕ) (s : Label × ℕ) → IsStep old n s → IsStep new n s
+  step_grows n s step = record {
+    label = labels s.0 step.label;
+    from = step.from;
+    to = step.to;
+    located = grows.terms n step.from step.located;
+    leads = grows.terms s.1 step.to step.leads;
+    derived = subst (λ p. Step p step.from s.0 step.to) (sym grows.processes) step.derived;
+  }
 
-step_grows : (old new : TableView) → Grows old new → (n : ℕ) (s : Label × ℕ) → IsStep old n s → IsStep new n s
-step_grows old new grows n s step = record {
-  label = label_grows old new grows s.0 step.label;
-  from = step.from;
-  to = step.to;
-  located = grows.terms n step.from step.located;
-  leads = grows.terms s.1 step.to step.leads;
-  derived = subst (λ p. Step p step.from s.0 step.to) (sym grows.processes) step.derived;
-}
+  run_same : (n : ℕ) (steps : List (Label × ℕ)) (m : ℕ) → RunTo old n steps m → RunTo new n steps m
+  run_same n [] m e = e
+  run_same n (s ∷ steps) m r = (step_grows n s r.0, run_same s.1 steps m r.1)
 
-run_same : (old new : TableView) → Grows old new → (n : ℕ) (steps : List (Label × ℕ)) (m : ℕ) → RunTo old n steps m → RunTo new n steps m
-run_same old new grows n [] m e = e
-run_same old new grows n (s ∷ steps) m r = (step_grows old new grows n s r.0, run_same old new grows s.1 steps m r.1)
-
--- a run from the start is also one in a table that has grown
-pub run_grows : (old new : TableView) → Grows old new → (steps : List (Label × ℕ)) (m : ℕ) → RunTo old old.start steps m → RunTo new new.start steps m
-run_grows old new grows steps m r = subst (λ n. RunTo new n steps m) (sym grows.start) (run_same old new grows old.start steps m r)
+  -- a run from the start is a run from the start
+  pub run_grows : (steps : List (Label × ℕ)) (m : ℕ) → RunTo old old.start steps m → RunTo new new.start steps m
+  run_grows steps m r = subst (λ n. RunTo new n steps m) (sym grows.start) (run_same old.start steps m r)
 
 -- a run with one more step at its end is a run
 pub run_push : (held : TableView) (n : ℕ) (steps : List (Label × ℕ)) (m : ℕ) (s : Label × ℕ) → RunTo held n steps m → IsStep held m s →
     RunTo held n (steps ++ s ∷ []) s.1
 run_push held n [] m s e step = (subst (λ k. IsStep held k s) (sym e) step, refl)
 run_push held n (x ∷ steps) m s r step = (r.0, run_push held x.1 steps m s r.1 step)
-
-pub grows_same : (held : TableView) → Grows held held
-grows_same held = record { names = refl; processes = refl; start = refl; terms = λ k t h. h; more = omega arith }
-
-pub grows_then : (a b c : TableView) → Grows a b → Grows b c → Grows a c
-grows_then a b c g h = record {
-  names = h.names ∙ g.names;
-  processes = h.processes ∙ g.processes;
-  start = h.start ∙ g.start;
-  terms = λ k t e. h.terms k t (g.terms k t e);
-  more = omega (arith, g.more, h.more);
-}

@@ -3,6 +3,7 @@ ghost use Rattle.std.specs.Prelude.{◌<◌, IfOk, length};
 ghost use Rattle.lotos_terms.specs.TableView.{Grows, IsSoundView};
 ghost use Rattle.uses.specs.TermRuns.{IsRunOf, IsStepIfAny};
 
+use lotos_terms::laws::growth_is_transitive;
 use lotos_terms::{Label, Table, Term};
 use std::alloc::{AllocError, Global};
 
@@ -22,6 +23,7 @@ pub fn first_run(
     ensures sound { IsSoundView table.new }
     ensures run { IfOk result (λ v. IsRunOf table.new table.new.start v.items depth) }
 {
+    growth_is_transitive();
     let mut run = Vec::new(alloc);
     let mut here = table.start();
     for _ in 0..depth {

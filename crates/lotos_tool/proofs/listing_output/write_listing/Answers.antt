@@ -17,7 +17,7 @@ loop-found-init g c = record {
 pub returns-in-Ok-None-clause-ends : goal.returns-in-Ok-None-clause-ends
 returns-in-Ok-None-clause-ends g c =
     let inv = c.loop-found.invariant in
-    ends_finished _ _ _ _ _ _ _ _ inv.items inv.progress _ _ c.flush_complete.result inv.question
+    ends_finished _ _ _ _ c.strict_order.ensures.total _ _ _ _ inv.items inv.progress _ _ c.flush_complete.result inv.question
     (told_end c.loop-found.search c.next_with_progress.new.self _ inv.stage c.in-Ok-None.field-0-is c.in-Ok-None.ensures.next_returns) inv.below c.flush_complete.ensures.finished
 
 pub cause_of_halt-why-requires-clause-halt : goal.cause_of_halt-why-requires-clause-halt
@@ -29,7 +29,7 @@ pub returns-in-Err-clause-ends : goal.returns-in-Err-clause-ends
 returns-in-Err-clause-ends g c =
     let inv = c.loop-found.invariant in
     let halt = told_halt c.loop-found.search c.next_with_progress.new.self c.in-Err.halt c.next_with_progress.ensures.same inv.stage c.in-Err.ensures.next_returns in
-    ends_halted _ _ _ _ _ _ _ _ inv.items inv.progress _ _ _ c.cause_of_halt-why.result (c.next_with_progress.ensures.same ∙ inv.question) inv.below
+    ends_halted _ _ _ _ c.strict_order.ensures.total _ _ _ _ inv.items inv.progress _ _ _ c.cause_of_halt-why.result (c.next_with_progress.ensures.same ∙ inv.question) inv.below
     (c.cause_of_halt-why.ensures.cause c.loop-found.search.cursor halt) c.cause_of_halt-why.ensures.kept
 
 pub returns-in-Err-clause-failed : goal.returns-in-Err-clause-failed
@@ -49,24 +49,24 @@ returns-in-Err-write_item-clause-ends g c =
     let inv = c.loop-found.invariant in
     let returned = returned_item c.loop-found.search c.next_with_progress.new.self _ _ inv.stage c.in-Ok-Some.field-0-is c.in-Ok-Some.ensures.next_returns in
     let failed = c.in-Err-write_item.ensures in
-    ends_unwritten _ _ _ _ _ _ _ _ inv.items inv.progress _ _ _ _ _ c.in-Err-write_item.why inv.question (c.next_with_progress.ensures.same ∙ inv.question) returned.0 inv.below
+    ends_unwritten _ _ _ _ c.strict_order.ensures.total _ _ _ _ inv.items inv.progress _ _ _ _ _ c.in-Err-write_item.why inv.question (c.next_with_progress.ensures.same ∙ inv.question) returned.0 inv.below
     failed.causes (λ e. failed.memory (ap Err e)) (λ e. failed.part (ap Err e))
 
 pub returns-then-is_at_limit-clause-ends : goal.returns-then-is_at_limit-clause-ends
 returns-then-is_at_limit-clause-ends g c =
     let inv = c.loop-found.invariant in
     let returned = returned_item c.loop-found.search c.next_with_progress.new.self _ _ inv.stage c.in-Ok-Some.field-0-is c.in-Ok-Some.ensures.next_returns in
-    let more = progress_more _ _ _ _ _ _ _ _ inv.items inv.progress _ _ _ _ _ _ c.in-Ok.text inv.question (c.next_with_progress.ensures.same ∙ inv.question) returned.0
+    let more = progress_more _ _ _ _ c.strict_order.ensures.total _ _ _ _ inv.items inv.progress _ _ _ _ _ _ c.in-Ok.text inv.question (c.next_with_progress.ensures.same ∙ inv.question) returned.0
     c.in-Ok.ensures.whole c.in-Ok.ensures.text c.saturating_add-lines.ensures in
     let at : is_at_limit c.saturating_add-lines.result c.args.request.now.limit ≡ true = search rules in
-    ends_limited _ _ _ _ _ _ _ _ _ more _ _ c.flush_stopped-why.result c.is_at_limit.ensures.small at
+    ends_limited _ _ _ _ c.strict_order.ensures.total _ _ _ _ _ more _ _ c.flush_stopped-why.result c.is_at_limit.ensures.small at
     (within_more inv.items (item_of _ _ _ _ returned.0) c.args.request.now.limit inv.below) c.flush_stopped-why.ensures.cause c.flush_stopped-why.ensures.kept
 
 pub loop-found-preserved : goal.loop-found-preserved
 loop-found-preserved g c =
     let inv = c.loop-found.invariant in
     let returned = returned_item c.loop-found.search c.next_with_progress.new.self _ _ inv.stage c.in-Ok-Some.field-0-is c.in-Ok-Some.ensures.next_returns in
-    let more = progress_more _ _ _ _ _ _ _ _ inv.items inv.progress _ _ _ _ _ _ c.in-Ok.text inv.question (c.next_with_progress.ensures.same ∙ inv.question) returned.0
+    let more = progress_more _ _ _ _ c.strict_order.ensures.total _ _ _ _ inv.items inv.progress _ _ _ _ _ _ c.in-Ok.text inv.question (c.next_with_progress.ensures.same ∙ inv.question) returned.0
     c.in-Ok.ensures.whole c.in-Ok.ensures.text c.saturating_add-lines.ensures in
     let at : is_at_limit c.saturating_add-lines.result c.args.request.now.limit ≡ false = search rules in
     record {

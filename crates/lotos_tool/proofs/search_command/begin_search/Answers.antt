@@ -5,6 +5,7 @@ use Rattle.lotos_tool.proofs.search_command.begin_search.Goals as goal
 
 pub returns : goal.returns
 returns c =
-    IfOk-weaker c.begin.result _ _
-    (λ search begun. asked_of c.args.request.now (system_of c.args.found) c.in_ok-table.table c.args.pattern c.args.mark search c.in_ok-table.ensures
-    c.recall_sound.ensures.sound begun) c.begin.ensures.begun
+    let system = system_of c.args.found in
+    IfOk-weaker c.begin.result _ _ (λ search begun.
+    let question = c.begun_search_has_question.ensures system c.in_ok-table.table _ _ _ _ search c.in_ok-table.ensures c.recall_sound.ensures.sound begun in
+    asked_of c.args.request.now system c.in_ok-table.table c.args.pattern c.args.mark search question begun) c.begin.ensures.begun

@@ -1,12 +1,12 @@
 use Rattle.std.proofs.Common.{◌≡◌, ◌<◌, ◌≤◌, ◌+◌, ◌∙◌, ap, arith, length, subst, sym}
 use Rattle.std.proofs.lemmas.List.{length_push}
 use Rattle.uses.specs.TermRuns.{IsStepIfAny}
-use Rattle.uses.proofs.Runs.{grows_same, grows_then, leads_below, run_grows, run_push}
+use Rattle.uses.proofs.Runs.{leads_below, run_grows, run_push}
 use Rattle.uses.proofs.term_run.first_run.Goals as goal
 
 pub loop-init : goal.loop-init
 loop-init c = record {
-  grows = grows_same _;
+  grows = c.growth_is_transitive.ensures.reflexive _;
   sound = c.start-here.ensures.sound;
   below = c.start-here.ensures.below;
   run = rw c.new-run.ensures.items (sym c.start-here.ensures.start);
@@ -17,10 +17,10 @@ pub first_step-requires : goal.first_step-requires
 first_step-requires c = c.loop.invariant.below
 
 pub returns-in_err-next-clause-grows : goal.returns-in_err-next-clause-grows
-returns-in_err-next-clause-grows c = grows_then _ _ _ c.loop.invariant.grows c.in_err-next.ensures.grows
+returns-in_err-next-clause-grows c = c.growth_is_transitive.ensures.transitive _ _ _ c.loop.invariant.grows c.in_err-next.ensures.grows
 
 pub returns-in-None-clause-grows : goal.returns-in-None-clause-grows
-returns-in-None-clause-grows c = grows_then _ _ _ c.loop.invariant.grows c.in_ok-next.ensures.grows
+returns-in-None-clause-grows c = c.growth_is_transitive.ensures.transitive _ _ _ c.loop.invariant.grows c.in_ok-next.ensures.grows
 
 pub returns-in-None-clause-run : goal.returns-in-None-clause-run
 returns-in-None-clause-run c =
@@ -29,13 +29,13 @@ returns-in-None-clause-run c =
     let less = c.loop-test.true in
     record {
       end = c.loop.here;
-      run = run_grows c.loop.table new c.in_ok-next.ensures.grows c.loop.run.items c.loop.here c.loop.invariant.run;
+      run = run_grows c.loop.table new c.in_ok-next.ensures.grows (c.growth_is_transitive.ensures.labels _ _ c.in_ok-next.ensures.grows) c.loop.run.items c.loop.here c.loop.invariant.run;
       within = omega (arith, steps, less);
       deadlock = λ _. subst (IsStepIfAny new c.loop.here) c.in-None.is c.in_ok-next.ensures.step;
     }
 
 pub returns-in_err-push-in-Some-clause-grows : goal.returns-in_err-push-in-Some-clause-grows
-returns-in_err-push-in-Some-clause-grows c = grows_then _ _ _ c.loop.invariant.grows c.in_ok-next.ensures.grows
+returns-in_err-push-in-Some-clause-grows c = c.growth_is_transitive.ensures.transitive _ _ _ c.loop.invariant.grows c.in_ok-next.ensures.grows
 
 pub loop-preserved : goal.loop-preserved
 loop-preserved c =
@@ -44,9 +44,9 @@ loop-preserved c =
     let grows = c.in_ok-next.ensures.grows in
     let items = c.in_ok-push-in-Some.ensures.items in
     let step = subst (IsStepIfAny new c.loop.here) c.in-Some.is c.in_ok-next.ensures.step in
-    let before = run_grows now new grows c.loop.run.items c.loop.here c.loop.invariant.run in
+    let before = run_grows now new grows (c.growth_is_transitive.ensures.labels _ _ grows) c.loop.run.items c.loop.here c.loop.invariant.run in
     record {
-      grows = grows_then _ _ _ c.loop.invariant.grows grows;
+      grows = c.growth_is_transitive.ensures.transitive _ _ _ c.loop.invariant.grows grows;
       sound = c.in_ok-next.ensures.sound;
       below = leads_below new c.loop.here _ step;
       run = rw items (run_push new new.start c.loop.run.items c.loop.here _ before step);
