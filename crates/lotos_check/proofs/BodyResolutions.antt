@@ -6,10 +6,10 @@ use Rattle.lotos_text.specs.AstView.{DefinitionView, def, DefinitionListView, mo
 use Rattle.lotos_text.specs.AstOf.{definition_view, definitions_view}
 use Rattle.lotos_text.specs.declared.ast.Definition.{Definition, out-Definition}
 use Rattle.lotos_text.specs.declared.ast.Placed.{Placed}
-use Rattle.lotos_check.specs.NameLists.{Name, In, texts}
+use Rattle.lotos_check.specs.NameLists.{Name, texts}
 use Rattle.lotos_check.specs.Scope.{Scope, ScopedDefinition, count, within, definitions_in_scope, definition_in_scope}
 use Rattle.lotos_check.specs.ProcessScopes.{HasNames, IsScopeStack, BindsAll}
-use Rattle.lotos_check.specs.Flat.{Pairwise, no_pair, one_pair}
+use Rattle.lotos_check.specs.Flat.{no_pair, one_pair}
 use Rattle.lotos_check.specs.Resolution.{IsResolved, IsNameFault, AddsBodies, IsNameFaultIn}
 use Rattle.lotos_check.specs.declared.resolved_body.ResolvedBody.{ResolvedBody}
 use Rattle.lotos_check.specs.declared.process_scope.Binding.{Binding}

@@ -2,11 +2,8 @@ use Rattle.std.proofs.Common.{map, ◌≡◌, ◌∷◌, [], ◌<◌, length, sy
 use Rattle.std.proofs.lemmas.List.{length-map}
 use Rattle.std.specs.Vec.Iter.{into_iter_items}
 use Rattle.lotos_text.specs.AstOf.{definition_view}
-use Rattle.lotos_text.specs.declared.ast.Definition.{out-Definition}
-use Rattle.lotos_check.specs.NameLists.{texts}
-use Rattle.lotos_check.specs.declared.resolved.Process.{Process}
 use Rattle.lotos_check.proofs.Pairs.{drop_seen}
-use Rattle.lotos_check.proofs.Flattening.{flattens_none, flattens_first_step, flattens_more_step, flattens_all, made_of}
+use Rattle.lotos_check.proofs.Flattening.{flattens_none, flattens_first_step, flattens_more_step, flattens_all}
 use Rattle.lotos_check.proofs.static_check.flatten.Goals as goal
 use Rattle.lotos_check.proofs.static_check.flatten.Goals.{then-index-eq0, else-index-eq0+in_ok-make_process+in_ok-push}
 
