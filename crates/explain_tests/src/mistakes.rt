@@ -1,7 +1,6 @@
 //! Mistakes of people who are new to the language, and the lines that explain them.
-use lotos_check::check;
+use lotos_check::{AcceptFault, accept};
 use lotos_explain::{explain_check_fault, explain_text_fault};
-use lotos_text::parse;
 use std::alloc::Global;
 
 /// What is tested, a text, and the lines.
@@ -271,12 +270,11 @@ const MISTAKES: &[(&str, &[u8], &[u8])] = &[
 /// The lines that explain why a text is refused; none if it is accepted.
 fn explained(alloc: Global, text: &[u8]) -> Vec<u8> {
     let mut lines = Vec::new(alloc);
-    match parse(alloc, text) {
-        Err(fault) => explain_text_fault(alloc, text, &fault, &mut lines),
-        Ok(tree) => {
-            if let Err(fault) = check(alloc, tree) {
-                explain_check_fault(alloc, text, &fault, &mut lines);
-            }
+    if let Err(refused) = accept(alloc, text) {
+        match &refused {
+            AcceptFault::Text(fault) => explain_text_fault(alloc, text, fault, &mut lines),
+            AcceptFault::Check(fault) => explain_check_fault(alloc, text, fault, &mut lines),
+            AcceptFault::Memory => {}
         }
     }
     lines

@@ -9,7 +9,7 @@ use Rattle.lotos_text.specs.declared.ast.Placed.{Placed}
 use Rattle.lotos_check.specs.NameLists.{Name, texts}
 use Rattle.lotos_check.specs.Scope.{Scope, ScopedDefinition, count, within, definitions_in_scope, definition_in_scope}
 use Rattle.lotos_check.specs.ProcessScopes.{HasNames, IsScopeStack, BindsAll}
-use Rattle.lotos_check.specs.Flat.{Pairwise, no_pair, one_pair}
+use Rattle.lotos_check.specs.Flat.{no_pair, one_pair}
 use Rattle.lotos_check.specs.Resolution.{IsResolved, IsNameFault, AddsBodies, IsNameFaultIn}
 use Rattle.lotos_check.specs.declared.resolved_body.ResolvedBody.{ResolvedBody}
 use Rattle.lotos_check.specs.declared.process_scope.Binding.{Binding}

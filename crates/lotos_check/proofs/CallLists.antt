@@ -1,11 +1,10 @@
 -- The lists of calls, one for each process.
-use Rattle.std.proofs.Common.{◌≡◌, ◌↔◌, ◌⊎◌, ◌+◌, ◌<◌, ◌++◌, ℕ, zero, suc, List, [], ◌∷◌, Option, Some, None, map, replicate, take, length, get_or, refl, ap, inl, inr, arith}
+use Rattle.std.proofs.Common.{◌≡◌, ◌↔◌, ◌⊎◌, ◌+◌, ◌<◌, ◌++◌, ℕ, zero, suc, List, [], ◌∷◌, Option, Some, None, map, replicate, take, length, get_or, refl, inl, inr, arith}
 use Rattle.std.specs.Prelude.{slice_get}
 use Rattle.std.proofs.Math.Seq.{take-suc}
 use Rattle.std.proofs.lemmas.List.{map-append, length-replicate}
-use Rattle.std.proofs.lemmas.Option.{slice_get_read, slice_get-map}
 use Rattle.lotos_check.specs.NameLists.{In}
-use Rattle.lotos_check.specs.Flat.{FlatProcess, Pairwise, no_pair, one_pair}
+use Rattle.lotos_check.specs.Flat.{FlatProcess, Pairwise}
 use Rattle.lotos_check.specs.Guard.{Calls, CallsUnguarded}
 use Rattle.lotos_check.specs.RankingSteps.{AreCalls, CallsInRange, ListsCall, AreConsistentRanks, count_unranked}
 use Rattle.lotos_check.proofs.Pairs.{pair_end, pair_of_first, pair_of_second, pairs_length}

@@ -1,11 +1,11 @@
 -- What a pass rejects breaks a static rule, and what breaks a static rule is not accepted.
-use Rattle.std.proofs.Common.{◌≡◌, ℕ, List, [], ◌∷◌, map, refl, sym, ap, ◌∙◌, subst, inl, inr, Option, Some, None, zero, suc}
+use Rattle.std.proofs.Common.{◌≡◌, ℕ, List, ◌∷◌, map, refl, sym, ap, ◌∙◌, subst, inl, Option, Some, None, suc}
 use Rattle.std.specs.Prelude.{MatchOption, slice_get}
 use Rattle.lotos_text.specs.AstView.{DefinitionView, name_of, formals_of, body_of}
 use Rattle.lotos_text.specs.declared.ast.Placed.{Placed}
 use Rattle.lotos_check.specs.NameLists.{In, texts}
 use Rattle.lotos_check.specs.Scope.{ScopedDefinition, all_definitions, processes_of, definitions_in}
-use Rattle.lotos_check.specs.Flat.{Pairwise, no_pair, one_pair, System, IsFlat}
+use Rattle.lotos_check.specs.Flat.{Pairwise, System, IsFlat}
 use Rattle.lotos_check.specs.Guard.{IsE27, IsLargestUnguardedSet, IsUnguardedSet}
 use Rattle.lotos_check.specs.Acceptance.{IsAccepted, IsDuplicateFault, IsStaticFault, IsNotAccepted}
 use Rattle.lotos_check.specs.Resolution.{IsResolvedBody, IsNameFaultIn, LeftsExit, NeverExits}

@@ -1,5 +1,5 @@
 -- A specification whose names are distinct has one flat system.
-use Rattle.std.proofs.Common.{◌≡◌, ℕ, ◌<◌, ◌⊎◌, List, [], ◌∷◌, refl, sym, ◌∙◌, subst, inl, inr, arith, Some, length, zero, suc}
+use Rattle.std.proofs.Common.{◌≡◌, ℕ, ◌<◌, List, [], ◌∷◌, refl, sym, ◌∙◌, inl, inr, arith, Some, length}
 use Rattle.std.specs.Prelude.{slice_get}
 use Rattle.lotos_text.specs.AstView.{BehaviourView, DefinitionView, body_of}
 use Rattle.lotos_text.specs.declared.ast.Placed.{Placed}

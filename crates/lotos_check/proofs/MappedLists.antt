@@ -1,5 +1,5 @@
 -- The members of lists that are made item by item from others.
-use Rattle.std.proofs.Common.{◌≡◌, List, [], ◌∷◌, ◌++◌, refl, map, inl, inr, ap}
+use Rattle.std.proofs.Common.{◌≡◌, List, [], ◌∷◌, refl, map, inl, inr, ap}
 use Rattle.std.specs.Prelude.{flat_map, zip}
 use Rattle.lotos_check.specs.NameLists.{In}
 use Rattle.lotos_check.proofs.JoinedLists.{in_back, in_either, in_front}

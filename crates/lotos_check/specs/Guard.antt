@@ -1,5 +1,5 @@
 -- Guarded recursion.
-use Rattle.std.specs.Prelude.{◌≡◌, ℕ, ◌<◌, List, [], ◌∷◌, Option, Some, slice_get}
+use Rattle.std.specs.Prelude.{◌≡◌, ℕ, ◌<◌, List, ◌∷◌, Option, Some, slice_get}
 use Rattle.lotos_text.specs.AstView.{DefinitionView, name_of}
 use Rattle.lotos_text.specs.declared.ast.Placed.{Placed}
 use Rattle.lotos_check.specs.NameLists.{Name, In, IsAscendingBy}

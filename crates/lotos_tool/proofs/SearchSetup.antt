@@ -1,14 +1,11 @@
 -- The question and the outcome of a search, from the request and the text.
-use Rattle.std.proofs.Common.{◌≡◌, ◌↔◌, ℕ, List, [], Option, false, None, Some, arith, inl, inr, refl, sym, subst, Result, Ok, Err, ◌∙◌}
+use Rattle.std.proofs.Common.{◌≡◌, ℕ, List, [], Option, false, None, Some, arith, inl, inr, refl, sym, subst, Result, Ok, Err}
 use Rattle.std.specs.Prelude.{IfOk, MatchOption}
 use Rattle.std.proofs.KnownBytes.{Consumes-nil, Keeps-refl}
 use Rattle.std.specs.declared.string.String.{String}
 use Rattle.std.specs.declared.alloc.Global.{Global}
-use Rattle.lotos_check.specs.Flat.{Pairwise, System}
-use Rattle.lotos_check.specs.NameLists.{In, Name}
-use Rattle.lotos_terms.specs.TableView.{AreGateNames, TableView, IsSoundView, IsTableOf}
-use Rattle.lotos_terms.specs.SystemGates.{system_gates}
-use Rattle.lotos_terms.specs.Numbered.{IsNumberedTerm, IsNumberedProcess}
+use Rattle.lotos_check.specs.Flat.{System}
+use Rattle.lotos_terms.specs.TableView.{TableView}
 use Rattle.lotos_pattern.specs.Patterns.{Pattern}
 use Rattle.lotos_pattern.specs.Spelling.{PatternOf}
 use Rattle.lotos_search.specs.Order.{Label}
