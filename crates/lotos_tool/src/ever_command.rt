@@ -2,6 +2,8 @@
 ghost use Rattle.std.specs.Prelude.{◌≡◌, ◌+◌, ◌≤◌, IfErr, IfOk, false};
 ghost use Rattle.lotos_text.specs.Limits.{max_text_length};
 ghost use Rattle.lotos_check.specs.CheckedView.{system_of};
+ghost use Rattle.lotos_check.specs.Flat.{System};
+ghost use Rattle.lotos_terms.specs.TableView.{IsTableOf};
 ghost use Rattle.lotos_tool.specs.EverSetup.{HasLine, HasNoLine, IsEndWithoutMatch, IsWordsOutcome, IsPrintedItem, IsOutcomeFor, IsWritten};
 ghost use Rattle.lotos_tool.specs.EverOutcomeContracts.{EverOutcome, is_ever_input_fault, is_ever_output_fault};
 ghost use Rattle.lotos_tool.specs.OutputLines.{Item, line_of};
@@ -149,11 +151,27 @@ fn find_match_line<P: Progress>(
     ensures line { IfOk result (HasLine request.now (system_of found) pattern.now) }
     ensures none { IfErr result (HasNoLine request.now (system_of found) pattern.now) }
 {
-    table_has_match_question();
     let mut table = Table::new(alloc, found)?;
+    find_line_in(alloc, request, &mut table, pattern, progress)
+}
+
+/// The line of the first of the shortest matches in a new table, or `None` if there is no match of any length.
+fn find_line_in<P: Progress>(
+    alloc: Global,
+    request: &EverRequest,
+    table: &mut Table,
+    pattern: &Pattern,
+    progress: &mut P,
+) -> Result<Option<Vec<u8>>, Halt>
+    ensures line { (system : System) → IsTableOf system table.old →
+        IfOk result (HasLine request.now system pattern.now) }
+    ensures none { (system : System) → IsTableOf system table.old →
+        IfErr result (HasNoLine request.now system pattern.now) }
+{
+    table_has_match_question();
     table.recall_sound();
-    match find_shortest_match_with_progress(alloc, &mut table, pattern, request.states, progress)? {
-        Some(found) => Ok(Some(format_match(alloc, &table, &found, request.explain)?)),
+    match find_shortest_match_with_progress(alloc, table, pattern, request.states, progress)? {
+        Some(found) => Ok(Some(format_match(alloc, table, &found, request.explain)?)),
         None => Ok(None),
     }
 }
