@@ -28,56 +28,64 @@ pub fn functionality_word(functionality: Functionality) -> &'static str {
 }
 
 fn write_behaviour(line: &mut Line, tree: &Behaviour) -> Result<(), Stop> {
+    write_front(line, tree)?;
     match tree {
-        Behaviour::Stop => put(line, "stop")?,
-        Behaviour::Exit => put(line, "exit")?,
-        Behaviour::Prefix { action, body } => {
-            put(line, "(")?;
-            write_action(line, action)?;
-            put(line, "; ")?;
+        Behaviour::Stop | Behaviour::Exit | Behaviour::Call { .. } => Ok(()),
+        Behaviour::Prefix { body, .. } | Behaviour::Hide { body, .. } => {
             write_behaviour(line, body)?;
-            put(line, ")")?;
+            put(line, ")")
         }
-        Behaviour::Choice { left, right } => {
-            put(line, "(")?;
+        Behaviour::Choice { left, right }
+        | Behaviour::Par { left, right, .. }
+        | Behaviour::Enable { left, right, .. }
+        | Behaviour::Disable { left, right } => {
             write_behaviour(line, left)?;
-            put(line, " [] ")?;
+            write_sign(line, tree)?;
             write_behaviour(line, right)?;
-            put(line, ")")?;
+            put(line, ")")
         }
-        Behaviour::Par { left, sync, right } => {
-            put(line, "(")?;
-            write_behaviour(line, left)?;
-            write_sync(line, sync)?;
-            write_behaviour(line, right)?;
-            put(line, ")")?;
-        }
-        Behaviour::Hide { gates, body } => {
-            put(line, "(hide")?;
-            write_names(line, gates.as_slice())?;
-            put(line, " in ")?;
-            write_behaviour(line, body)?;
-            put(line, ")")?;
-        }
-        Behaviour::Enable { left, at, right } => {
-            put(line, "(")?;
-            write_behaviour(line, left)?;
-            put(line, " >>@")?;
-            put_number(line, *at)?;
-            put(line, " ")?;
-            write_behaviour(line, right)?;
-            put(line, ")")?;
-        }
-        Behaviour::Disable { left, right } => {
-            put(line, "(")?;
-            write_behaviour(line, left)?;
-            put(line, " [> ")?;
-            write_behaviour(line, right)?;
-            put(line, ")")?;
-        }
-        Behaviour::Call { name, gates } => write_call(line, name, gates.as_slice())?,
     }
-    Ok(())
+}
+
+/// Writes what stands in front of the operands of a behaviour, or all of one that has none.
+fn write_front(line: &mut Line, tree: &Behaviour) -> Result<(), Stop> {
+    match tree {
+        Behaviour::Stop => put(line, "stop"),
+        Behaviour::Exit => put(line, "exit"),
+        Behaviour::Prefix { action, .. } => write_prefix(line, action),
+        Behaviour::Hide { gates, .. } => write_hidden(line, gates.as_slice()),
+        Behaviour::Call { name, gates } => write_call(line, name, gates.as_slice()),
+        _ => put(line, "("),
+    }
+}
+
+fn write_prefix(line: &mut Line, action: &Action) -> Result<(), Stop> {
+    put(line, "(")?;
+    write_action(line, action)?;
+    put(line, "; ")
+}
+
+fn write_hidden(line: &mut Line, gates: &[Placed]) -> Result<(), Stop> {
+    put(line, "(hide")?;
+    write_names(line, gates)?;
+    put(line, " in ")
+}
+
+/// Writes what stands between the operands of a behaviour.
+fn write_sign(line: &mut Line, tree: &Behaviour) -> Result<(), Stop> {
+    match tree {
+        Behaviour::Choice { .. } => put(line, " [] "),
+        Behaviour::Par { sync, .. } => write_sync(line, sync),
+        Behaviour::Enable { at, .. } => write_enabling(line, *at),
+        Behaviour::Disable { .. } => put(line, " [> "),
+        _ => Ok(()),
+    }
+}
+
+fn write_enabling(line: &mut Line, at: usize) -> Result<(), Stop> {
+    put(line, " >>@")?;
+    put_number(line, at)?;
+    put(line, " ")
 }
 
 fn write_action(line: &mut Line, action: &Action) -> Result<(), Stop> {

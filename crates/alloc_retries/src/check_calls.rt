@@ -6,7 +6,7 @@ use crate::lines::Line;
 use crate::retry_heap::{Heap, Stop};
 use crate::system_lines::{write_fault, write_system};
 use crate::table_calls::Explored;
-use lotos_check::{AcceptFault, Checked};
+use lotos_check::{AcceptFault, CheckFault, Checked};
 use lotos_text::{Definition, Name};
 use std::alloc::AllocError;
 
@@ -65,15 +65,26 @@ fn write_answer(rt: &impl Print, heap: &mut Heap, text: &str) -> Result<bool, St
             write_accepted(rt, &system)?;
             Ok(true)
         }
-        Err(AcceptFault::Text(_)) => Ok(false),
-        Err(AcceptFault::Check(fault)) => {
-            let mut line = Line::new();
-            write_fault(&mut line, &fault)?;
-            println!(rt; "system:{line}")?;
+        Err(fault) => {
+            write_refused(rt, &fault)?;
             Ok(false)
         }
-        Err(AcceptFault::Memory) => Err(Stop::Memory),
     }
+}
+
+/// Writes the static rule that a text breaks, if it spells a specification.
+fn write_refused(rt: &impl Print, fault: &AcceptFault) -> Result<(), Stop> {
+    match fault {
+        AcceptFault::Text(_) => Ok(()),
+        AcceptFault::Check(fault) => write_broken(rt, fault),
+        AcceptFault::Memory => Err(Stop::Memory),
+    }
+}
+
+fn write_broken(rt: &impl Print, fault: &CheckFault) -> Result<(), Stop> {
+    let mut line = Line::new();
+    write_fault(&mut line, fault)?;
+    Ok(println!(rt; "system:{line}")?)
 }
 
 fn write_accepted(rt: &impl Print, system: &Checked) -> Result<(), Stop> {
@@ -96,12 +107,18 @@ fn copied(heap: &mut Heap, name: &Name) -> Result<Name, AllocError> {
 fn follow(rt: &impl Print, heap: &mut Heap, text: &str) -> Result<(), Stop> {
     let table = table_of(heap, text)?;
     let mut explored = Explored::new(heap, table)?;
+    follow_steps(rt, heap, &mut explored)?;
+    follow_forms(rt, heap, &mut explored)
+}
+
+/// Writes the steps of the first terms, and then the same once more.
+fn follow_steps(rt: &impl Print, heap: &mut Heap, explored: &mut Explored) -> Result<(), Stop> {
     for what in ["steps", "again"] {
         let mut line = Line::new();
         explored.write_first(heap, &mut line)?;
         println!(rt; "{what}:{line}")?;
     }
-    follow_forms(rt, heap, &mut explored)
+    Ok(())
 }
 
 /// Writes the normal forms of the first terms.

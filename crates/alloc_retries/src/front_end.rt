@@ -4,6 +4,7 @@ use crate::retry_heap::{Heap, Stop};
 use lotos_check::{AcceptFault, Checked, accept};
 use lotos_terms::Table;
 use lotos_text::{Specification, TextFault, parse};
+use std::alloc::{AllocError, Global};
 
 pub fn parsed(heap: &mut Heap, text: &str) -> Result<Specification, TextFault> {
     match parse(heap.alloc, text.as_bytes()) {
@@ -27,7 +28,7 @@ pub fn accepted(heap: &mut Heap, text: &str) -> Result<Checked, AcceptFault> {
 }
 
 /// The table of a text.
-pub fn table_of(heap: &mut Heap, text: &str) -> Result<Table, Stop> {
+pub fn table_of(heap: &mut Heap, text: &str) -> Result<Box<Table>, Stop> {
     match table_once(heap, text) {
         Err(Stop::Memory) => {
             heap.count_failure();
@@ -37,7 +38,11 @@ pub fn table_of(heap: &mut Heap, text: &str) -> Result<Table, Stop> {
     }
 }
 
-fn table_once(heap: &mut Heap, text: &str) -> Result<Table, Stop> {
+fn table_once(heap: &mut Heap, text: &str) -> Result<Box<Table>, Stop> {
     let system = accepted(heap, text)?;
-    Ok(Table::new(heap.alloc, system)?)
+    Ok(boxed_table(heap.alloc, system)?)
+}
+
+fn boxed_table(alloc: Global, system: Checked) -> Result<Box<Table>, AllocError> {
+    Ok(Box::new(alloc, Table::new(alloc, system)?)?)
 }

@@ -81,10 +81,21 @@ pub fn rows(rt: &impl Print, heap: &mut Heap) -> Result<(), Stop> {
 fn write_answer(heap: &mut Heap, question: &Question, line: &mut Line) -> Result<(), Stop> {
     let pattern = pattern_of(heap, question.words, question.strong)?;
     let mut table = table_of(heap, question.text)?;
-    match find_match(heap, &mut table, &pattern, question.states) {
-        Ok(Some(found)) => write_match(line, &table, &found),
+    write_found(heap, &mut table, &pattern, question.states, line)
+}
+
+/// The same, in a table and by a pattern.
+fn write_found(
+    heap: &mut Heap,
+    table: &mut Table,
+    pattern: &Pattern,
+    states: usize,
+    line: &mut Line,
+) -> Result<(), Stop> {
+    match find_match(heap, table, pattern, states) {
+        Ok(Some(found)) => write_match(line, table, &found),
         Ok(None) => put(line, "none"),
-        Err(Halt::TooManyStates) => write_bound(line, question.states),
+        Err(Halt::TooManyStates) => write_bound(line, states),
         Err(Halt::Memory) => Err(Stop::Memory),
     }
 }

@@ -6,9 +6,9 @@ use crate::lines::{Line, put, put_blank};
 use crate::mark_calls::mark_of;
 use crate::pattern_calls::pattern_of;
 use crate::retry_heap::{Heap, Stop};
-use lotos_search::{Halt, Search};
+use lotos_search::{Found, Halt, Search};
 use lotos_terms::Label;
-use std::alloc::AllocError;
+use std::alloc::{AllocError, Global};
 
 /// More calls than any listing here takes.
 const MOST_CALLS: usize = 50;
@@ -136,7 +136,7 @@ fn write_items(search: &mut Search, line: &mut Line, last: &mut Line) -> Result<
     Err(Stop::Row)
 }
 
-fn begin(heap: &mut Heap, question: &Question, after: &str) -> Result<Search, Stop> {
+fn begin(heap: &mut Heap, question: &Question, after: &str) -> Result<Box<Search>, Stop> {
     match begun(heap, question, after)? {
         Ok(search) => Ok(search),
         Err(_) => {
@@ -150,7 +150,7 @@ fn begun(
     heap: &mut Heap,
     question: &Question,
     after: &str,
-) -> Result<Result<Search, AllocError>, Stop> {
+) -> Result<Result<Box<Search>, AllocError>, Stop> {
     if question.terms == 0 {
         return Err(Stop::Row);
     }
@@ -161,14 +161,19 @@ fn begun(
         Some(mark_of(heap, after, question.strong)?)
     };
     let table = table_of(heap, question.text)?;
-    Ok(Search::begin(
+    let search = Search::begin(
         heap.alloc,
-        table,
+        Box::into_inner(table),
         pattern,
         question.depth,
         mark,
         question.terms,
-    ))
+    );
+    Ok(boxed(heap.alloc, search))
+}
+
+fn boxed(alloc: Global, search: Result<Search, AllocError>) -> Result<Box<Search>, AllocError> {
+    Ok(Box::new(alloc, search?)?)
 }
 
 /// Fails unless a search that ran out of memory returns `Halt::Failed`, again and again.
@@ -191,27 +196,46 @@ enum NextResult {
 /// Writes what a call returns, and stores the sequence of an item as the last one.
 fn advance(search: &mut Search, line: &mut Line, last: &mut Line) -> Result<NextResult, Stop> {
     match search.next() {
-        Ok(Some(found)) => {
-            last.clear();
-            spell(last, search, found.sequence.as_slice())?;
-            put(line, last.as_str())?;
-            put(line, " : ")?;
-            spell(line, search, found.word.as_slice())?;
-            put(line, "; ")?;
-            Ok(NextResult::Item)
-        }
-        Ok(None) => {
-            put(line, "end")?;
-            Ok(NextResult::End)
-        }
-        Err(Halt::OverTerms(labels)) => {
-            put(line, "over ")?;
-            spell(line, search, labels.as_slice())?;
-            Ok(NextResult::End)
-        }
+        Ok(Some(found)) => write_item(search, &found, line, last),
+        Ok(None) => write_end(line),
+        Err(Halt::OverTerms(labels)) => write_over(search, labels.as_slice(), line),
         Err(Halt::Memory) => Ok(NextResult::Refusal),
         Err(Halt::Failed) => Err(Stop::Row),
     }
+}
+
+/// Writes an item, and stores its sequence as the last one.
+fn write_item(
+    search: &Search,
+    found: &Found,
+    line: &mut Line,
+    last: &mut Line,
+) -> Result<NextResult, Stop>
+    requires sequence { HaveTexts search.now.question.names found.now.sequence.items }
+    requires word { HaveTexts search.now.question.names found.now.word.items }
+{
+    last.clear();
+    spell(last, search, found.sequence.as_slice())?;
+    put(line, last.as_str())?;
+    put(line, " : ")?;
+    spell(line, search, found.word.as_slice())?;
+    put(line, "; ")?;
+    Ok(NextResult::Item)
+}
+
+/// Writes that there are no more items.
+fn write_end(line: &mut Line) -> Result<NextResult, Stop> {
+    put(line, "end")?;
+    Ok(NextResult::End)
+}
+
+/// Writes the prefix whose terms are more than the bound.
+fn write_over(search: &Search, prefix: &[Label], line: &mut Line) -> Result<NextResult, Stop>
+    requires { HaveTexts search.now.question.names prefix.now }
+{
+    put(line, "over ")?;
+    spell(line, search, prefix)?;
+    Ok(NextResult::End)
 }
 
 /// Writes a sequence of labels of the search, separated by one blank each.

@@ -3,7 +3,7 @@
 use crate::ast_lines::functionality_word;
 use crate::lines::{Line, put, put_number};
 use crate::retry_heap::Stop;
-use lotos_check::{CheckFault, Checked, Code};
+use lotos_check::{CheckFault, Checked, Code, Process};
 use lotos_text::Name;
 use std::fmt::Write;
 
@@ -13,17 +13,20 @@ pub fn write_system(line: &mut Line, system: &Checked) -> Result<(), Stop> {
     put(line, " := ")?;
     write_code(line, system.start())?;
     for process in system.processes() {
-        let name = process.name.text();
-        put(line, "; ")?;
-        put(line, name)?;
-        write_names(line, process.formals.as_slice())?;
-        let functionality = functionality_word(process.functionality);
-        put(line, " ")?;
-        put(line, functionality)?;
-        put(line, " := ")?;
-        write_code(line, &process.body)?;
+        write_process(line, process)?;
     }
     Ok(())
+}
+
+/// Writes a process with its gates, functionality and body.
+fn write_process(line: &mut Line, process: &Process) -> Result<(), Stop> {
+    put(line, "; ")?;
+    put(line, process.name.text())?;
+    write_names(line, process.formals.as_slice())?;
+    put(line, " ")?;
+    put(line, functionality_word(process.functionality))?;
+    put(line, " := ")?;
+    write_code(line, &process.body)
 }
 
 /// Writes a fault, its offset, and the processes that it carries.
@@ -39,65 +42,74 @@ pub fn write_fault(line: &mut Line, fault: &CheckFault) -> Result<(), Stop> {
 }
 
 fn write_code(line: &mut Line, code: &Code) -> Result<(), Stop> {
+    write_front(line, code)?;
     match code {
-        Code::Stop => put(line, "stop")?,
-        Code::Exit => put(line, "exit")?,
-        Code::Prefix { action, body } => {
-            let action = action.as_ref().map_or("i", |gate| gate.text());
-            put(line, "(")?;
-            put(line, action)?;
-            put(line, "; ")?;
+        Code::Stop | Code::Exit | Code::Call { .. } => Ok(()),
+        Code::Prefix { body, .. } | Code::Hide { body, .. } => {
             write_code(line, body)?;
-            put(line, ")")?;
+            put(line, ")")
         }
-        Code::Choice { left, right } => {
-            put(line, "(")?;
+        Code::Choice { left, right }
+        | Code::Par { left, right, .. }
+        | Code::Enable { left, right }
+        | Code::Disable { left, right } => {
             write_code(line, left)?;
-            put(line, " [] ")?;
+            write_sign(line, code)?;
             write_code(line, right)?;
-            put(line, ")")?;
-        }
-        Code::Par { left, sync, right } => {
-            put(line, "(")?;
-            write_code(line, left)?;
-            match sync {
-                Some(gates) => {
-                    put(line, " |[")?;
-                    write_names(line, gates.as_slice())?;
-                    put(line, " ]| ")?;
-                }
-                None => put(line, " || ")?,
-            }
-            write_code(line, right)?;
-            put(line, ")")?;
-        }
-        Code::Hide { gates, body } => {
-            put(line, "(hide")?;
-            write_names(line, gates.as_slice())?;
-            put(line, " in ")?;
-            write_code(line, body)?;
-            put(line, ")")?;
-        }
-        Code::Enable { left, right } => {
-            put(line, "(")?;
-            write_code(line, left)?;
-            put(line, " >> ")?;
-            write_code(line, right)?;
-            put(line, ")")?;
-        }
-        Code::Disable { left, right } => {
-            put(line, "(")?;
-            write_code(line, left)?;
-            put(line, " [> ")?;
-            write_code(line, right)?;
-            put(line, ")")?;
-        }
-        Code::Call { process, gates } => {
-            put_number(line, *process)?;
-            write_names(line, gates.as_slice())?;
+            put(line, ")")
         }
     }
-    Ok(())
+}
+
+/// Writes what stands in front of the operands of a behaviour, or all of one that has none.
+fn write_front(line: &mut Line, code: &Code) -> Result<(), Stop> {
+    match code {
+        Code::Stop => put(line, "stop"),
+        Code::Exit => put(line, "exit"),
+        Code::Prefix { action, .. } => write_action(line, action),
+        Code::Hide { gates, .. } => write_hidden(line, gates.as_slice()),
+        Code::Call { process, gates } => write_call(line, *process, gates.as_slice()),
+        _ => put(line, "("),
+    }
+}
+
+fn write_action(line: &mut Line, action: &Option<Name>) -> Result<(), Stop> {
+    put(line, "(")?;
+    put(line, action.as_ref().map_or("i", |gate| gate.text()))?;
+    put(line, "; ")
+}
+
+fn write_hidden(line: &mut Line, gates: &[Name]) -> Result<(), Stop> {
+    put(line, "(hide")?;
+    write_names(line, gates)?;
+    put(line, " in ")
+}
+
+fn write_call(line: &mut Line, process: usize, gates: &[Name]) -> Result<(), Stop> {
+    put_number(line, process)?;
+    write_names(line, gates)
+}
+
+/// Writes what stands between the operands of a behaviour.
+fn write_sign(line: &mut Line, code: &Code) -> Result<(), Stop> {
+    match code {
+        Code::Choice { .. } => put(line, " [] "),
+        Code::Par { sync, .. } => write_sync(line, sync),
+        Code::Enable { .. } => put(line, " >> "),
+        Code::Disable { .. } => put(line, " [> "),
+        _ => Ok(()),
+    }
+}
+
+fn write_sync(line: &mut Line, sync: &Option<Vec<Name>>) -> Result<(), Stop> {
+    match sync {
+        Some(gates) => {
+            put(line, " |[")?;
+            write_names(line, gates.as_slice())?;
+            put(line, " ]| ")
+        }
+        None => put(line, " || "),
+    }
 }
 
 /// Writes names, each after a blank.

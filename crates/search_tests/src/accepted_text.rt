@@ -18,6 +18,10 @@ fn checked(alloc: Global, text: &str) -> Result<Checked, Fail> {
 }
 
 /// The table of a text.
-pub fn table_of_text(alloc: Global, text: &str) -> Result<Table, Fail> {
-    Ok(Table::new(alloc, checked(alloc, text)?)?)
+pub fn table_of_text(alloc: Global, text: &str) -> Result<Box<Table>, Fail> {
+    Ok(boxed_table(alloc, checked(alloc, text)?)?)
+}
+
+fn boxed_table(alloc: Global, checked: Checked) -> Result<Box<Table>, AllocError> {
+    Ok(Box::new(alloc, Table::new(alloc, checked)?)?)
 }

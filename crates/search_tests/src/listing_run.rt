@@ -51,7 +51,7 @@ pub struct Listing {
 }
 
 /// The table of a specification, given by its functionality and its behaviour.
-pub fn table_of(alloc: Global, behaviour: &str) -> Result<Table, Fail> {
+pub fn table_of(alloc: Global, behaviour: &str) -> Result<Box<Table>, Fail> {
     let text = joined(
         alloc,
         &["specification S [a,a1,b,c] : ", behaviour, " endspec"],
@@ -91,13 +91,20 @@ fn begin_pattern(
     requires { 1 ≤ question.terms }
 {
     let table = table_of(alloc, question.behaviour)?;
-    Ok(boxed(
-        alloc,
-        Search::begin(alloc, table, pattern, question.depth, mark, question.terms)?,
-    )?)
+    Ok(begin_in(alloc, question, table, pattern, mark)?)
 }
 
-fn boxed(alloc: Global, search: Search) -> Result<Box<Search>, AllocError> {
+fn begin_in(
+    alloc: Global,
+    question: Question,
+    table: Box<Table>,
+    pattern: Pattern,
+    mark: Option<Mark>,
+) -> Result<Box<Search>, AllocError>
+    requires { 1 ≤ question.terms }
+{
+    let table = Box::into_inner(table);
+    let search = Search::begin(alloc, table, pattern, question.depth, mark, question.terms)?;
     Ok(Box::new(alloc, search)?)
 }
 

@@ -6,6 +6,7 @@ use lotos_ever::{Found, Halt, find_shortest_match, find_shortest_match_with_prog
 use lotos_pattern::Pattern;
 use lotos_terms::{Label, Table};
 use std::alloc::Global;
+use std::process::Abort;
 use std::test::Fail;
 
 /// The label of the gate `a`: gates are numbered in the order of their names.
@@ -350,7 +351,8 @@ const ROWS: &[Row] = &[
     },
 ];
 
-fn table_of(alloc: Global, behaviour: &str) -> Result<Table, Fail> {
+/// The table of a specification, given by its functionality and its behaviour.
+pub fn boxed_table(alloc: Global, behaviour: &str) -> Result<Box<Table>, Fail> {
     let text = joined(alloc, &["specification S [a,b] : ", behaviour, " endspec"])?;
     table_of_text(alloc, text.as_str())
 }
@@ -407,11 +409,6 @@ fn has_answer_in(alloc: Global, table: &mut Table, row: Row) -> Result<bool, Fai
     )
 }
 
-/// The table of a specification, given by its functionality and its behaviour.
-pub fn boxed_table(alloc: Global, behaviour: &str) -> Result<Box<Table>, Fail> {
-    Ok(Box::new(alloc, table_of(alloc, behaviour)?)?)
-}
-
 fn has_answer(alloc: Global, row: Row) -> Result<bool, Fail> {
     let mut table = boxed_table(alloc, row.behaviour)?;
     has_answer_in(alloc, &mut table, row)
@@ -420,14 +417,16 @@ fn has_answer(alloc: Global, row: Row) -> Result<bool, Fail> {
 #[test]
 fn answers_rows(rt: HostRuntime) -> Result<(), Fail> {
     for row in ROWS {
-        assert!(rt;
-            has_answer(rt.alloc(), *row)?,
-            "{:?} of {}, internal steps observed: {}, {} states",
-            row.words,
-            row.behaviour,
-            row.strong,
-            row.states
-        );
+        let holds = has_answer(rt.alloc(), *row)?;
+        assert_answer(&rt, *row, holds);
     }
     Ok(())
+}
+
+fn assert_answer(rt: &impl Abort, row: Row, holds: bool) {
+    assert!(rt;
+        holds,
+        "{:?} of {}, internal steps observed: {}, {} states",
+        row.words, row.behaviour, row.strong, row.states
+    );
 }

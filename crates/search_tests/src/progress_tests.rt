@@ -193,11 +193,16 @@ fn observed_searches_return_the_same_and_visit_these_prefixes(rt: HostRuntime) -
 #[test]
 fn a_silent_observer_changes_nothing(rt: HostRuntime) -> Result<(), Fail> {
     for (question, _) in LISTINGS {
-        let mut plain = begin(rt.alloc(), *question)?;
-        let mut observed = begin(rt.alloc(), *question)?;
-        assert!(rt; return_same(&mut plain, &mut observed, &mut NoProgress));
+        assert!(rt; is_silent(rt.alloc(), *question)?);
     }
     Ok(())
+}
+
+/// Whether a search of the question returns the same with a silent observer.
+fn is_silent(alloc: Global, question: Question) -> Result<bool, Fail> {
+    let mut plain = begin(alloc, question)?;
+    let mut observed = begin(alloc, question)?;
+    Ok(return_same(&mut plain, &mut observed, &mut NoProgress))
 }
 
 /// A question for a match of any length, and the states that its search stores, worked out by hand.
@@ -277,7 +282,11 @@ fn stored_visits(alloc: Global, row: &Stored) -> Result<Visits, Fail> {
 fn observed_searches_for_a_match_store_these_states(rt: HostRuntime) -> Result<(), Fail> {
     for row in STORED {
         let found = stored_visits(rt.alloc(), row)?;
-        assert_eq!(rt; found, row.visits, "{:?} of {}", row.words, row.behaviour);
+        assert_stored(&rt, row, found);
     }
     Ok(())
+}
+
+fn assert_stored(rt: &impl Abort, row: &Stored, found: Visits) {
+    assert_eq!(rt; found, row.visits, "{:?} of {}", row.words, row.behaviour);
 }

@@ -6,6 +6,7 @@ use lotos_pattern::Pattern;
 use lotos_search::{Found, Halt};
 use lotos_terms::{Label, Table};
 use std::alloc::Global;
+use std::process::Abort;
 use std::test::Fail;
 use uses::{ItemFault, item_after, second_item};
 
@@ -49,7 +50,7 @@ fn is_item<E>(answer: &Result<Option<Found>, E>, wanted: Option<&[Label]>) -> bo
 /// The item that `item_after` returns, without its search.
 fn found_after(
     alloc: Global,
-    table: Table,
+    table: Box<Table>,
     pattern: Pattern,
     line: &str,
 ) -> Result<Option<Found>, ItemFault> {
@@ -71,14 +72,14 @@ fn is_after(alloc: Global, line: &str, wanted: Option<&[Label]>) -> Result<bool,
 #[test]
 fn finds_the_item_after_a_line(rt: HostRuntime) -> Result<(), Fail> {
     for (line, wanted) in LINES {
-        assert!(rt;
-            is_after(rt.alloc(), line, *wanted)?,
-            "after {}: {:?}",
-            line,
-            wanted
-        );
+        let holds = is_after(rt.alloc(), line, *wanted)?;
+        assert_after(&rt, line, *wanted, holds);
     }
     Ok(())
+}
+
+fn assert_after(rt: &impl Abort, line: &str, wanted: Option<&[Label]>, holds: bool) {
+    assert!(rt; holds, "after {}: {:?}", line, wanted);
 }
 
 fn is_refused(alloc: Global, line: &str) -> Result<bool, Fail> {
@@ -95,7 +96,7 @@ fn rejects_a_line_that_no_listing_has(rt: HostRuntime) -> Result<(), Fail> {
 /// The item that `second_item` returns, without its search.
 fn found_second(
     alloc: Global,
-    table: Table,
+    table: Box<Table>,
     pattern: Pattern,
     terms: usize,
 ) -> Result<Option<Found>, Halt>
@@ -140,14 +141,14 @@ const SECOND: &[(&[&str], Option<&[Label]>)] = &[
 #[test]
 fn finds_the_second_item(rt: HostRuntime) -> Result<(), Fail> {
     for (words, wanted) in SECOND {
-        assert!(rt;
-            is_second(rt.alloc(), words, *wanted)?,
-            "{:?}: {:?}",
-            words,
-            wanted
-        );
+        let holds = is_second(rt.alloc(), words, *wanted)?;
+        assert_second(&rt, words, *wanted, holds);
     }
     Ok(())
+}
+
+fn assert_second(rt: &impl Abort, words: &[&str], wanted: Option<&[Label]>, holds: bool) {
+    assert!(rt; holds, "{:?}: {:?}", words, wanted);
 }
 
 /// Whether the prefix `A` is over one term.

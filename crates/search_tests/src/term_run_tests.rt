@@ -2,6 +2,7 @@
 use super::accepted_text::{joined, table_of_text};
 use lotos_terms::{Label, Table, Term};
 use std::alloc::{AllocError, Global};
+use std::process::Abort;
 use std::test::Fail;
 use uses::first_run;
 
@@ -39,11 +40,7 @@ const RUNS: &[(&str, usize, &[Label])] = &[
 
 fn table_of(alloc: Global, behaviour: &str) -> Result<Box<Table>, Fail> {
     let text = joined(alloc, &["specification S [a,b] : ", behaviour, " endspec"])?;
-    boxed_table(alloc, text.as_str())
-}
-
-fn boxed_table(alloc: Global, text: &str) -> Result<Box<Table>, Fail> {
-    Ok(Box::new(alloc, table_of_text(alloc, text)?)?)
+    table_of_text(alloc, text.as_str())
 }
 
 /// The labels of a run.
@@ -79,13 +76,16 @@ fn follows(alloc: Global, behaviour: &str, depth: usize, wanted: &[Label]) -> Re
 #[test]
 fn follows_runs(rt: HostRuntime) -> Result<(), Fail> {
     for (behaviour, depth, wanted) in RUNS {
-        assert!(rt;
-            follows(rt.alloc(), behaviour, *depth, wanted)?,
-            "{} at depth {}, the labels {:?}",
-            behaviour,
-            depth,
-            wanted
-        );
+        let holds = follows(rt.alloc(), behaviour, *depth, wanted)?;
+        assert_follows(&rt, behaviour, *depth, wanted, holds);
     }
     Ok(())
+}
+
+fn assert_follows(rt: &impl Abort, behaviour: &str, depth: usize, wanted: &[Label], holds: bool) {
+    assert!(rt;
+        holds,
+        "{} at depth {}, the labels {:?}",
+        behaviour, depth, wanted
+    );
 }

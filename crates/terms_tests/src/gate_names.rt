@@ -19,45 +19,46 @@ pub fn names_of(alloc: Global, checked: &Checked) -> Result<Vec<String>, AllocEr
 
 fn add_names(alloc: Global, into: &mut Vec<String>, names: &[Name]) -> Result<(), AllocError> {
     for name in names {
-        into.push(String::from_str(alloc, name.text())?)?;
+        add_name(alloc, into, name)?;
     }
+    Ok(())
+}
+
+fn add_name(alloc: Global, into: &mut Vec<String>, name: &Name) -> Result<(), AllocError> {
+    into.push(String::from_str(alloc, name.text())?)?;
     Ok(())
 }
 
 /// Appends the names of the gates that occur in a behaviour.
 fn add_gates(alloc: Global, into: &mut Vec<String>, code: &Code) -> Result<(), AllocError> {
+    add_own_gates(alloc, into, code)?;
     match code {
-        Code::Stop | Code::Exit => {}
-        Code::Prefix { action, body } => {
-            if let Some(gate) = action {
-                into.push(String::from_str(alloc, gate.text())?)?;
-            }
-            add_gates(alloc, into, body)?;
-        }
-        Code::Choice { left, right } => {
+        Code::Stop | Code::Exit | Code::Call { .. } => Ok(()),
+        Code::Prefix { body, .. } | Code::Hide { body, .. } => add_gates(alloc, into, body),
+        Code::Choice { left, right }
+        | Code::Par { left, right, .. }
+        | Code::Enable { left, right }
+        | Code::Disable { left, right } => {
             add_gates(alloc, into, left)?;
-            add_gates(alloc, into, right)?;
+            add_gates(alloc, into, right)
         }
-        Code::Par { left, sync, right } => {
-            add_gates(alloc, into, left)?;
-            if let Some(gates) = sync {
-                add_names(alloc, into, gates.as_slice())?;
-            }
-            add_gates(alloc, into, right)?;
-        }
-        Code::Hide { gates, body } => {
-            add_names(alloc, into, gates.as_slice())?;
-            add_gates(alloc, into, body)?;
-        }
-        Code::Enable { left, right } => {
-            add_gates(alloc, into, left)?;
-            add_gates(alloc, into, right)?;
-        }
-        Code::Disable { left, right } => {
-            add_gates(alloc, into, left)?;
-            add_gates(alloc, into, right)?;
-        }
-        Code::Call { gates, .. } => add_names(alloc, into, gates.as_slice())?,
     }
-    Ok(())
+}
+
+/// Appends the names of the gates of a behaviour that do not stand in its operands.
+fn add_own_gates(alloc: Global, into: &mut Vec<String>, code: &Code) -> Result<(), AllocError> {
+    match code {
+        Code::Prefix {
+            action: Some(gate),
+            ..
+        } => add_name(alloc, into, gate),
+        Code::Par {
+            sync: Some(gates),
+            ..
+        } => add_names(alloc, into, gates.as_slice()),
+        Code::Hide { gates, .. } | Code::Call { gates, .. } => {
+            add_names(alloc, into, gates.as_slice())
+        }
+        _ => Ok(()),
+    }
 }

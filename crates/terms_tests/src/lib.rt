@@ -8,8 +8,6 @@
 #[cfg(test)]
 mod accepted_text;
 #[cfg(test)]
-mod explored_table;
-#[cfg(test)]
 mod form_step_tests;
 #[cfg(test)]
 mod gate_names;

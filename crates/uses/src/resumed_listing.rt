@@ -1,5 +1,6 @@
 //! Single items of a listing, by `lotos_search`.
 ghost use Rattle.std.specs.Prelude.{◌≤◌, IfErr, IfOk};
+ghost use Rattle.lotos_search.specs.SearchSteps.{IsBegun};
 ghost use Rattle.uses.specs.ResumedListings.{IsItemAfter, IsFirstItem, IsSecondItem, IsHaltOf, IsItemFault, IsSecondHalt};
 
 use lotos_pattern::Pattern;
@@ -35,15 +36,15 @@ impl From<Halt> for ItemFault {
 /// The line is not one of a listing; a prefix reaches more than `terms` terms; or an allocation fails.
 pub fn item_after(
     alloc: Global,
-    table: Table,
+    table: Box<Table>,
     pattern: Pattern,
     depth: u8,
     line: &str,
     terms: usize,
-) -> Result<(Search, Option<Found>), ItemFault>
+) -> Result<(Box<Search>, Option<Found>), ItemFault>
     requires { 1 ≤ terms }
-    ensures found { IfOk result (IsItemAfter table pattern depth terms line.now) }
-    ensures stopped { IfErr result (IsItemFault table pattern depth terms line.now) }
+    ensures found { IfOk result (λ r. IsItemAfter table.value pattern depth terms line.now (r.0.value, r.1)) }
+    ensures stopped { IfErr result (IsItemFault table.value pattern depth terms line.now) }
 {
     let mark = match Mark::read(alloc, line, pattern.strong()) {
         Ok(mark) => mark,
@@ -60,14 +61,14 @@ pub fn item_after(
 /// A prefix reaches more than `terms` terms, or an allocation fails.
 pub fn second_item(
     alloc: Global,
-    table: Table,
+    table: Box<Table>,
     pattern: Pattern,
     depth: u8,
     terms: usize,
-) -> Result<(Search, Option<Found>), Halt>
+) -> Result<(Box<Search>, Option<Found>), Halt>
     requires { 1 ≤ terms }
-    ensures found { IfOk result (IsSecondItem table pattern depth terms) }
-    ensures stopped { IfErr result (IsSecondHalt table pattern depth terms) }
+    ensures found { IfOk result (λ r. IsSecondItem table.value pattern depth terms (r.0.value, r.1)) }
+    ensures stopped { IfErr result (IsSecondHalt table.value pattern depth terms) }
 {
     let (mut search, first) = first_item(alloc, table, pattern, depth, None, terms)?;
     match first {
@@ -82,17 +83,34 @@ pub fn second_item(
 /// The first item after the mark, if one is given, with the search that returned it.
 fn first_item(
     alloc: Global,
-    table: Table,
+    table: Box<Table>,
     pattern: Pattern,
     depth: u8,
     mark: Option<Mark>,
     terms: usize,
-) -> Result<(Search, Option<Found>), Halt>
+) -> Result<(Box<Search>, Option<Found>), Halt>
     requires { 1 ≤ terms }
-    ensures found { IfOk result (IsFirstItem table pattern depth terms mark) }
-    ensures stopped { IfErr result (IsHaltOf table pattern depth terms mark) }
+    ensures found { IfOk result (λ r. IsFirstItem table.value pattern depth terms mark (r.0.value, r.1)) }
+    ensures stopped { IfErr result (IsHaltOf table.value pattern depth terms mark) }
 {
-    let mut search = Search::begin(alloc, table, pattern, depth, mark, terms)?;
+    let mut search = begin(alloc, table, pattern, depth, mark, terms)?;
     let found = search.next()?;
     Ok((search, found))
+}
+
+/// A search that has not been asked for an item. It is in a box, as the table is, because each is large.
+fn begin(
+    alloc: Global,
+    table: Box<Table>,
+    pattern: Pattern,
+    depth: u8,
+    mark: Option<Mark>,
+    terms: usize,
+) -> Result<Box<Search>, AllocError>
+    requires { 1 ≤ terms }
+    ensures begun { IfOk result (λ s. IsBegun table.value pattern depth mark terms s.value) }
+{
+    let table = Box::into_inner(table);
+    let search = Search::begin(alloc, table, pattern, depth, mark, terms)?;
+    Ok(Box::new(alloc, search)?)
 }
