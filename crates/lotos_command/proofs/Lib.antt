@@ -7,3 +7,4 @@ pub mod FaultlessLevels
 pub mod EntryReading
 pub mod RequestFits
 pub mod CommandFacts
+pub mod CommandParts

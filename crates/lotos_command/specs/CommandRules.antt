@@ -1,82 +1,71 @@
 -- The command line of the program, in clap's definitions.
-use Rattle.std.specs.Prelude.{true, codes, pos, Some, [], ◌∷◌}
-use Rattle.clap.specs.Words.{App, Rule, new_app, new_rule, with_rule, with_subcommand}
+use Rattle.std.specs.Prelude.{◌≡◌, List, [], ◌∷◌, Some, true, false, codes, pos, ⊤}
+use Rattle.clap.specs.Words.{App, Rule, Text, app_of, new_app, new_rule, with_rule, with_subcommand}
 use Rattle.clap.specs.Lexer.{usize_max}
 use Rattle.clap.specs.Simple.{on_top}
+use Rattle.clap.specs.declared.builder.command.Command.{Command}
+use Rattle.clap.specs.declared.builder.command.Command.TheViews.{out-Command as fields_of}
 use Rattle.clap.specs.declared.builder.action.ArgAction.TheVariants.{Append, Set, SetTrue}
 use Rattle.clap.specs.declared.builder.value_parser.ValueParser.TheVariants.{Signed, Unsigned}
 
--- `--depth N`, which must be given once, with a number from 0 to 255
-abbrev pub depth_rule : Rule
-depth_rule = record (new_rule (codes "depth")) {
-  long = Some (codes "depth");
-  required = true;
+-- `--NAME VALUE`, with any text
+abbrev pub option_rule : Text → Rule
+option_rule name = record (new_rule name) {
+  long = Some name;
   action = Some Set;
   value_names = 1;
+}
+
+-- `--depth N`, which must be given once, with a number from 0 to 255
+abbrev pub depth_rule : Rule
+depth_rule = record (option_rule (codes "depth")) {
+  required = true;
   parser = Some (Signed (pos 0) (pos 255));
 }
 
 -- `--limit N`, with a number from 1 to 1,000,000,000
 abbrev pub limit_rule : Rule
-limit_rule = record (new_rule (codes "limit")) {
-  long = Some (codes "limit");
-  action = Some Set;
-  value_names = 1;
+limit_rule = record (option_rule (codes "limit")) {
   parser = Some (Signed (pos 1) (pos 1000000000));
 }
 
 -- `--terms N`, with a number from 1 to 1,000,000; 100,000 if it is not given
 abbrev pub terms_rule : Rule
-terms_rule = record (new_rule (codes "terms")) {
-  long = Some (codes "terms");
-  action = Some Set;
-  value_names = 1;
+terms_rule = record (option_rule (codes "terms")) {
   parser = Some (Unsigned 1 1000000);
   defaults = codes "100000" ∷ [];
 }
 
 -- `--after LINE`, with any text
 abbrev pub after_rule : Rule
-after_rule = record (new_rule (codes "after")) {
-  long = Some (codes "after");
-  action = Some Set;
-  value_names = 1;
+after_rule = option_rule (codes "after")
+
+-- `--NAME`, which takes no value
+abbrev pub flag_rule : Text → Rule
+flag_rule name = record (new_rule name) {
+  long = Some name;
+  action = Some SetTrue;
 }
 
 -- `--explain`
 abbrev pub explain_rule : Rule
-explain_rule = record (new_rule (codes "explain")) {
-  long = Some (codes "explain");
-  action = Some SetTrue;
-}
+explain_rule = flag_rule (codes "explain")
 
 -- `--strong`
 abbrev pub strong_rule : Rule
-strong_rule = record (new_rule (codes "strong")) {
-  long = Some (codes "strong");
-  action = Some SetTrue;
-}
+strong_rule = flag_rule (codes "strong")
 
 -- `--known`
 abbrev pub known_rule : Rule
-known_rule = record (new_rule (codes "known")) {
-  long = Some (codes "known");
-  action = Some SetTrue;
-}
+known_rule = flag_rule (codes "known")
 
 -- `--progress`
 abbrev pub progress_rule : Rule
-progress_rule = record (new_rule (codes "progress")) {
-  long = Some (codes "progress");
-  action = Some SetTrue;
-}
+progress_rule = flag_rule (codes "progress")
 
 -- `--warn`
 abbrev pub warn_rule : Rule
-warn_rule = record (new_rule (codes "warn")) {
-  long = Some (codes "warn");
-  action = Some SetTrue;
-}
+warn_rule = flag_rule (codes "warn")
 
 -- `WORD ..`, any number of words that are no option, in order
 abbrev pub words_rule : Rule
@@ -86,36 +75,62 @@ words_rule = record (new_rule (codes "words")) {
   value_names = 1;
 }
 
+-- the command with these arguments added, in this order
+abbrev pub with_rules : App → List Rule → App
+with_rules app [] = app
+with_rules app (rule ∷ rules) = with_rules (with_rule app rule) rules
+
+-- the arguments of `search`, in the order of its help
+abbrev pub search_rules : List Rule
+search_rules =
+    depth_rule ∷ limit_rule ∷ terms_rule ∷ after_rule ∷ explain_rule ∷ strong_rule ∷ known_rule ∷ progress_rule ∷ words_rule ∷ []
+
 -- `search --depth N [--limit N] [--terms N] [--after LINE] [--explain] [--strong] [--known] [--progress] [WORD ..]`
 abbrev pub search_app : App
-search_app =
-    with_rule (with_rule (with_rule (with_rule (with_rule (with_rule (with_rule (with_rule (with_rule (new_app (codes "search"))
-    depth_rule) limit_rule) terms_rule) after_rule) explain_rule) strong_rule) known_rule) progress_rule) words_rule
+search_app = with_rules (new_app (codes "search")) search_rules
 
 -- `--states N`, with a number from 1 to 100,000,000; 1,000,000 if it is not given
 abbrev pub states_rule : Rule
-states_rule = record (new_rule (codes "states")) {
-  long = Some (codes "states");
-  action = Some Set;
-  value_names = 1;
+states_rule = record (option_rule (codes "states")) {
   parser = Some (Unsigned 1 100000000);
   defaults = codes "1000000" ∷ [];
 }
 
+-- the arguments of `ever`, in the order of its help
+abbrev pub ever_rules : List Rule
+ever_rules = states_rule ∷ explain_rule ∷ strong_rule ∷ progress_rule ∷ words_rule ∷ []
+
 -- `ever [--states N] [--explain] [--strong] [--progress] [WORD ..]`
 abbrev pub ever_app : App
-ever_app =
-    with_rule (with_rule (with_rule (with_rule (with_rule (new_app (codes "ever"))
-    states_rule) explain_rule) strong_rule) progress_rule) words_rule
+ever_app = with_rules (new_app (codes "ever")) ever_rules
+
+-- the arguments of `check`, in the order of its help
+abbrev pub check_rules : List Rule
+check_rules = explain_rule ∷ warn_rule ∷ []
 
 -- `check [--explain] [--warn]`
 abbrev pub check_app : App
-check_app = with_rule (with_rule (new_app (codes "check")) explain_rule) warn_rule
+check_app = with_rules (new_app (codes "check")) check_rules
+
+-- the command with these subcommands added, in this order
+abbrev pub with_subcommands : App → List App → App
+with_subcommands app [] = app
+with_subcommands app (subcommand ∷ subcommands) = with_subcommands (with_subcommand app subcommand.top) subcommands
+
+-- the subcommands, in the order of the help
+abbrev pub subcommand_apps : List App
+subcommand_apps = search_app ∷ check_app ∷ ever_app ∷ []
 
 -- `lotosseq`, which has a version and needs one of its subcommands
 abbrev pub lotosseq : App
 lotosseq =
-    with_subcommand
-    (with_subcommand
-    (with_subcommand (on_top (λ s. record s { has_version = true; subcommand_required = true }) (new_app (codes "lotosseq"))) search_app.top)
-    check_app.top) ever_app.top
+    with_subcommands (on_top (λ s. record s { has_version = true; subcommand_required = true }) (new_app (codes "lotosseq")))
+    subcommand_apps
+
+-- the commands are these, in this order, and no argument of theirs is global
+abbrev pub AreCommandsOf : List App → List Command → Type 0
+AreCommandsOf [] [] = ⊤
+AreCommandsOf [] (command ∷ commands) = ⊥
+AreCommandsOf (app ∷ apps) [] = ⊥
+AreCommandsOf (app ∷ apps) (command ∷ commands) =
+    (app_of command ≡ app) × ((fields_of command).has_globals ≡ false) × AreCommandsOf apps commands

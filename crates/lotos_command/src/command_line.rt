@@ -1,8 +1,8 @@
 //! The command line of `lotosseq` as clap has it: subcommands, options and their help.
-ghost use Rattle.std.specs.Prelude.{◌≡◌, IfOk, false, codes};
-ghost use Rattle.clap.specs.Words.{app_of, new_app, rule_of};
+ghost use Rattle.std.specs.Prelude.{◌≡◌, IfOk, false, map};
+ghost use Rattle.clap.specs.Words.{app_of, rule_of};
 ghost use Rattle.clap.specs.declared.builder.command.Command.TheViews.{out-Command as fields_of};
-ghost use Rattle.lotos_command.specs.CommandRules.{after_rule, check_app, depth_rule, ever_app, explain_rule, known_rule, limit_rule, lotosseq, progress_rule, search_app, states_rule, strong_rule, terms_rule, warn_rule, words_rule};
+ghost use Rattle.lotos_command.specs.CommandRules.{AreCommandsOf, check_app, check_rules, depth_rule, ever_app, ever_rules, flag_rule, limit_rule, lotosseq, option_rule, search_app, search_rules, states_rule, subcommand_apps, terms_rule, words_rule};
 
 use crate::help::{
     ABOUT, AFTER_HELP, AFTER_LONG_HELP, CHECK_ABOUT, CHECK_EXPLAIN_HELP, CHECK_EXPLAIN_LONG_HELP,
@@ -20,209 +20,170 @@ use std::alloc::{AllocError, Global};
 pub(crate) fn lotosseq_command<'a>(alloc: Global) -> Result<Command<'a>, AllocError>
     ensures { IfOk result (λ c. app_of c ≡ lotosseq) }
 {
+    let subcommands = subcommands(alloc)?;
     Command::new(alloc, "lotosseq")
         .about(ABOUT)
         .long_about(LONG_ABOUT)
         .after_help(STATUSES)
         .version(VERSION)
         .subcommand_required(true)
-        .subcommand(search_command(alloc)?)?
-        .subcommand(check_command(alloc)?)?
-        .subcommand(ever_command(alloc)?)
+        .subcommands(subcommands)
+}
+
+/// The subcommands, in the order of the help.
+fn subcommands<'a>(alloc: Global) -> Result<Vec<Command<'a>>, AllocError>
+    ensures { IfOk result (λ all. AreCommandsOf subcommand_apps all.items) }
+{
+    let mut all = Vec::new(alloc);
+    all.push(search_command(alloc)?)?;
+    all.push(check_command(alloc)?)?;
+    all.push(ever_command(alloc)?)?;
+    Ok(all)
 }
 
 fn search_command<'a>(alloc: Global) -> Result<Command<'a>, AllocError>
     ensures app { IfOk result (λ c. app_of c ≡ search_app) }
     ensures local { IfOk result (λ c. (fields_of c).has_globals ≡ false) }
 {
-    bare_search_command(alloc)
-        .arg(depth_arg(alloc))?
-        .arg(limit_arg(alloc))?
-        .arg(terms_arg(alloc))?
-        .arg(after_arg(alloc))?
-        .arg(explain_arg(alloc, EXPLAIN_HELP, EXPLAIN_LONG_HELP))?
-        .arg(strong_arg(alloc, STRONG_LONG_HELP))?
-        .arg(known_arg(alloc))?
-        .arg(progress_arg(alloc))?
-        .arg(words_arg(alloc, WORDS_LONG_HELP))
-}
-
-fn bare_search_command<'a>(alloc: Global) -> Command<'a>
-    ensures app { app_of result ≡ new_app (codes "search") }
-    ensures local { (fields_of result).has_globals ≡ false }
-{
+    let args = search_args(alloc)?;
     Command::new(alloc, "search")
         .about(SEARCH_ABOUT)
         .long_about(SEARCH_LONG_ABOUT)
         .after_help(SEARCH_STATUSES)
+        .args(args)
+}
+
+/// The arguments of `search`, in the order of its help.
+fn search_args<'a>(alloc: Global) -> Result<Vec<Arg<'a>>, AllocError>
+    ensures { IfOk result (λ args. map rule_of args.items ≡ search_rules) }
+{
+    Ok(vec![in alloc;
+        depth_arg(alloc),
+        limit_arg(alloc),
+        terms_arg(alloc),
+        option(alloc, "after", "LINE", AFTER_HELP, AFTER_LONG_HELP),
+        flag(alloc, "explain", EXPLAIN_HELP, EXPLAIN_LONG_HELP),
+        flag(alloc, "strong", STRONG_HELP, STRONG_LONG_HELP),
+        flag(alloc, "known", KNOWN_HELP, KNOWN_LONG_HELP),
+        flag(alloc, "progress", PROGRESS_HELP, PROGRESS_LONG_HELP),
+        words_arg(alloc, WORDS_LONG_HELP),
+    ]?)
 }
 
 fn check_command<'a>(alloc: Global) -> Result<Command<'a>, AllocError>
     ensures app { IfOk result (λ c. app_of c ≡ check_app) }
     ensures local { IfOk result (λ c. (fields_of c).has_globals ≡ false) }
 {
-    bare_check_command(alloc)
-        .arg(explain_arg(alloc, CHECK_EXPLAIN_HELP, CHECK_EXPLAIN_LONG_HELP))?
-        .arg(warn_arg(alloc))
-}
-
-fn bare_check_command<'a>(alloc: Global) -> Command<'a>
-    ensures app { app_of result ≡ new_app (codes "check") }
-    ensures local { (fields_of result).has_globals ≡ false }
-{
+    let args = check_args(alloc)?;
     Command::new(alloc, "check")
         .about(CHECK_ABOUT)
         .long_about(CHECK_LONG_ABOUT)
         .after_help(CHECK_STATUSES)
+        .args(args)
+}
+
+/// The arguments of `check`, in the order of its help.
+fn check_args<'a>(alloc: Global) -> Result<Vec<Arg<'a>>, AllocError>
+    ensures { IfOk result (λ args. map rule_of args.items ≡ check_rules) }
+{
+    Ok(vec![in alloc;
+        flag(
+            alloc,
+            "explain",
+            CHECK_EXPLAIN_HELP,
+            CHECK_EXPLAIN_LONG_HELP
+        ),
+        flag(alloc, "warn", WARN_HELP, WARN_LONG_HELP),
+    ]?)
 }
 
 fn ever_command<'a>(alloc: Global) -> Result<Command<'a>, AllocError>
     ensures app { IfOk result (λ c. app_of c ≡ ever_app) }
     ensures local { IfOk result (λ c. (fields_of c).has_globals ≡ false) }
 {
-    bare_ever_command(alloc)
-        .arg(states_arg(alloc))?
-        .arg(explain_arg(alloc, EVER_EXPLAIN_HELP, EVER_EXPLAIN_LONG_HELP))?
-        .arg(strong_arg(alloc, EVER_STRONG_LONG_HELP))?
-        .arg(progress_arg(alloc))?
-        .arg(words_arg(alloc, EVER_WORDS_LONG_HELP))
-}
-
-fn bare_ever_command<'a>(alloc: Global) -> Command<'a>
-    ensures app { app_of result ≡ new_app (codes "ever") }
-    ensures local { (fields_of result).has_globals ≡ false }
-{
+    let args = ever_args(alloc)?;
     Command::new(alloc, "ever")
         .about(EVER_ABOUT)
         .long_about(EVER_LONG_ABOUT)
         .after_help(EVER_STATUSES)
+        .args(args)
+}
+
+/// The arguments of `ever`, in the order of its help.
+fn ever_args<'a>(alloc: Global) -> Result<Vec<Arg<'a>>, AllocError>
+    ensures { IfOk result (λ args. map rule_of args.items ≡ ever_rules) }
+{
+    Ok(vec![in alloc;
+        states_arg(alloc),
+        flag(alloc, "explain", EVER_EXPLAIN_HELP, EVER_EXPLAIN_LONG_HELP),
+        flag(alloc, "strong", STRONG_HELP, EVER_STRONG_LONG_HELP),
+        flag(alloc, "progress", PROGRESS_HELP, PROGRESS_LONG_HELP),
+        words_arg(alloc, EVER_WORDS_LONG_HELP),
+    ]?)
 }
 
 fn depth_arg<'a>(alloc: Global) -> Arg<'a>
-    ensures rule { rule_of result ≡ depth_rule }
-    ensures local { result.global ≡ false }
+    ensures { rule_of result ≡ depth_rule }
 {
-    Arg::new(alloc, "depth")
-        .long("depth")
+    option(alloc, "depth", "N", DEPTH_HELP, DEPTH_LONG_HELP)
         .required(true)
-        .action(ArgAction::Set)
-        .value_name("N")
         .value_parser(value_parser!(u8))
-        .help(DEPTH_HELP)
-        .long_help(DEPTH_LONG_HELP)
 }
 
 fn limit_arg<'a>(alloc: Global) -> Arg<'a>
-    ensures rule { rule_of result ≡ limit_rule }
-    ensures local { result.global ≡ false }
+    ensures { rule_of result ≡ limit_rule }
 {
-    Arg::new(alloc, "limit")
-        .long("limit")
-        .action(ArgAction::Set)
-        .value_name("N")
-        .value_parser(value_parser!(u32).range(1..=1000000000))
-        .help(LIMIT_HELP)
-        .long_help(LIMIT_LONG_HELP)
+    let limits = value_parser!(u32).range(1..=1000000000);
+    option(alloc, "limit", "N", LIMIT_HELP, LIMIT_LONG_HELP).value_parser(limits)
 }
 
 fn terms_arg<'a>(alloc: Global) -> Arg<'a>
-    ensures rule { rule_of result ≡ terms_rule }
-    ensures local { result.global ≡ false }
+    ensures { rule_of result ≡ terms_rule }
 {
-    Arg::new(alloc, "terms")
-        .long("terms")
-        .action(ArgAction::Set)
-        .value_name("N")
+    option(alloc, "terms", "N", TERMS_HELP, TERMS_LONG_HELP)
         .value_parser(value_parser!(usize).range(1..=1000000))
         .default_value("100000")
-        .help(TERMS_HELP)
-        .long_help(TERMS_LONG_HELP)
 }
 
 fn states_arg<'a>(alloc: Global) -> Arg<'a>
-    ensures rule { rule_of result ≡ states_rule }
-    ensures local { result.global ≡ false }
+    ensures { rule_of result ≡ states_rule }
 {
-    Arg::new(alloc, "states")
-        .long("states")
-        .action(ArgAction::Set)
-        .value_name("N")
+    option(alloc, "states", "N", STATES_HELP, STATES_LONG_HELP)
         .value_parser(value_parser!(usize).range(1..=100000000))
         .default_value("1000000")
-        .help(STATES_HELP)
-        .long_help(STATES_LONG_HELP)
 }
 
-fn after_arg<'a>(alloc: Global) -> Arg<'a>
-    ensures rule { rule_of result ≡ after_rule }
-    ensures local { result.global ≡ false }
+/// An argument that takes a value, which the help calls by the value name.
+fn option<'a>(
+    alloc: Global,
+    name: &'a str,
+    value_name: &'a str,
+    help: &'a str,
+    long_help: &'a str,
+) -> Arg<'a>
+    ensures { rule_of result ≡ option_rule name.now }
 {
-    Arg::new(alloc, "after")
-        .long("after")
+    Arg::new(alloc, name)
+        .long(name)
         .action(ArgAction::Set)
-        .value_name("LINE")
-        .help(AFTER_HELP)
-        .long_help(AFTER_LONG_HELP)
+        .value_name(value_name)
+        .help(help)
+        .long_help(long_help)
 }
 
-fn explain_arg<'a>(alloc: Global, help: &'a str, long_help: &'a str) -> Arg<'a>
-    ensures rule { rule_of result ≡ explain_rule }
-    ensures local { result.global ≡ false }
+/// An argument that takes no value.
+fn flag<'a>(alloc: Global, name: &'a str, help: &'a str, long_help: &'a str) -> Arg<'a>
+    ensures { rule_of result ≡ flag_rule name.now }
 {
-    Arg::new(alloc, "explain")
-        .long("explain")
+    Arg::new(alloc, name)
+        .long(name)
         .action(ArgAction::SetTrue)
         .help(help)
         .long_help(long_help)
 }
 
-fn strong_arg<'a>(alloc: Global, long_help: &'a str) -> Arg<'a>
-    ensures rule { rule_of result ≡ strong_rule }
-    ensures local { result.global ≡ false }
-{
-    Arg::new(alloc, "strong")
-        .long("strong")
-        .action(ArgAction::SetTrue)
-        .help(STRONG_HELP)
-        .long_help(long_help)
-}
-
-fn known_arg<'a>(alloc: Global) -> Arg<'a>
-    ensures rule { rule_of result ≡ known_rule }
-    ensures local { result.global ≡ false }
-{
-    Arg::new(alloc, "known")
-        .long("known")
-        .action(ArgAction::SetTrue)
-        .help(KNOWN_HELP)
-        .long_help(KNOWN_LONG_HELP)
-}
-
-fn progress_arg<'a>(alloc: Global) -> Arg<'a>
-    ensures rule { rule_of result ≡ progress_rule }
-    ensures local { result.global ≡ false }
-{
-    Arg::new(alloc, "progress")
-        .long("progress")
-        .action(ArgAction::SetTrue)
-        .help(PROGRESS_HELP)
-        .long_help(PROGRESS_LONG_HELP)
-}
-
-fn warn_arg<'a>(alloc: Global) -> Arg<'a>
-    ensures rule { rule_of result ≡ warn_rule }
-    ensures local { result.global ≡ false }
-{
-    Arg::new(alloc, "warn")
-        .long("warn")
-        .action(ArgAction::SetTrue)
-        .help(WARN_HELP)
-        .long_help(WARN_LONG_HELP)
-}
-
 fn words_arg<'a>(alloc: Global, long_help: &'a str) -> Arg<'a>
-    ensures rule { rule_of result ≡ words_rule }
-    ensures local { result.global ≡ false }
+    ensures { rule_of result ≡ words_rule }
 {
     Arg::new(alloc, "words")
         .action(ArgAction::Append)

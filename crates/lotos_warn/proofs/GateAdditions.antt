@@ -1,5 +1,5 @@
 -- What the forms of behaviours add to a set of gates.
-use Rattle.std.proofs.Common.{◌≡◌, ◌↔◌, ◌⊎◌, ℕ, List, [], inl, inr}
+use Rattle.std.proofs.Common.{◌≡◌, ◌↔◌, ◌⊎◌, ℕ, List, [], refl, inl, inr}
 use Rattle.lotos_text.specs.AstView.{BehaviourView, SyncView, stop, exit, prefix, choice, par, hide, enable, disable, call}
 use Rattle.lotos_text.specs.declared.ast.Placed.{Placed}
 use Rattle.lotos_text.specs.declared.ast.Action.{Action}
@@ -111,12 +111,12 @@ pub offers_call : (old new : List Name) (p : Placed) (gs : List Placed) → Adds
 offers_call = form_call OffersFree IsNone offered_by_form
 
 -- a parallel composition offers what its sides offer, which were found apart
-pub offers_par : (old new none_left by_left none_right by_right : List Name) (l : BehaviourView) (s : SyncView) (r : BehaviourView) →
-    none_left ≡ [] → Adds none_left by_left (OffersFree l) → none_right ≡ [] → Adds none_right by_right (OffersFree r) →
+pub offers_par : (old new by_left by_right : List Name) (l : BehaviourView) (s : SyncView) (r : BehaviourView) →
+    Adds [] by_left (OffersFree l) → Adds [] by_right (OffersFree r) →
     Adds old new (λ n. In n by_left ⊎ In n by_right) → Adds old new (OffersFree (par l s r))
-offers_par old new none_left by_left none_right by_right l s r e h f k m =
-    let left = adds_alone none_left by_left (OffersFree l) e h in
-    let right = adds_alone none_right by_right (OffersFree r) f k in
+offers_par old new by_left by_right l s r h k m =
+    let left = adds_alone [] by_left (OffersFree l) refl h in
+    let right = adds_alone [] by_right (OffersFree r) refl k in
     made OffersFree IsNone offered_by_form old new (par l s r)
     (adds_as old new (λ n. In n by_left ⊎ In n by_right) (HasIn IsNone (par l s r))
     (λ n. (

@@ -10,3 +10,5 @@ pub mod CalledNames
 pub mod WholeWarnings
 pub mod DefinitionWarnings
 pub mod SpelledTexts
+pub mod Operands
+pub mod DefinitionOrder

@@ -214,13 +214,13 @@ module _ (l r : BehaviourView) (by_left by_right : List Name) (left : (n : Name)
   )
 
 -- a parallel composition has the warnings of its sides and those about its list
-pub lists_par : (old mid more new : List Warning) (none_left by_left none_right by_right : List Name) (l : BehaviourView) (sync : SyncView) (r : BehaviourView) →
-    none_left ≡ [] → Adds none_left by_left (OffersFree l) → none_right ≡ [] → Adds none_right by_right (OffersFree r) →
+pub lists_par : (old mid more new : List Warning) (by_left by_right : List Name) (l : BehaviourView) (sync : SyncView) (r : BehaviourView) →
+    Adds [] by_left (OffersFree l) → Adds [] by_right (OffersFree r) →
     Adds old mid (IsListWarning l) → Adds mid more (IsListWarning r) → Adds more new (IsMissing by_left by_right sync) →
     Adds old new (IsListWarning (par l sync r))
-lists_par old mid more new none_left by_left none_right by_right l sync r e h f k first second third =
-    let left = adds_alone none_left by_left (OffersFree l) e h in
-    let right = adds_alone none_right by_right (OffersFree r) f k in
+lists_par old mid more new by_left by_right l sync r h k first second third =
+    let left = adds_alone [] by_left (OffersFree l) refl h in
+    let right = adds_alone [] by_right (OffersFree r) refl k in
     adds_as old new (λ w. IsListWarning l w ⊎ (IsListWarning r w ⊎ IsMissing by_left by_right sync w)) (IsListWarning (par l sync r))
     (par_lists l r by_left by_right left right sync)
     (adds_both old mid new (IsListWarning l) (λ w. IsListWarning r w ⊎ IsMissing by_left by_right sync w) first

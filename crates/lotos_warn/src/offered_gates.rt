@@ -1,5 +1,5 @@
 //! The gates that a behaviour offers, and the lists of parallel compositions with gates that a side never offers.
-ghost use Rattle.std.specs.Prelude.{OnOk, map};
+ghost use Rattle.std.specs.Prelude.{[], IfOk, OnOk, map};
 ghost use Rattle.lotos_text.specs.AstOf.{behaviour_view, sync_view};
 ghost use Rattle.lotos_check.specs.NameLists.{In};
 ghost use Rattle.lotos_warn.specs.Additions.{Adds, AddsNames, IsMissing, IsMissingGate, IsMissingOn};
@@ -13,6 +13,7 @@ use std::alloc::{AllocError, Global};
 
 /// Adds the gates that the behaviour offers: in a prefix or in a call, and not hidden there. Appends the warnings about
 /// the lists of its parallel compositions.
+#[cycle(lists)]
 pub(crate) fn check_lists<'a>(
     alloc: Global,
     behaviour: &'a Behaviour,
@@ -30,33 +31,41 @@ pub(crate) fn check_lists<'a>(
             insert_action(offered, action)?;
             check_lists(alloc, body, offered, found)
         }
-        Behaviour::Choice { left, right } => {
+        Behaviour::Choice { left, right }
+        | Behaviour::Enable { left, right, .. }
+        | Behaviour::Disable { left, right } => {
             check_lists(alloc, left, offered, found)?;
             check_lists(alloc, right, offered, found)
         }
         Behaviour::Par { left, sync, right } => {
-            let mut by_left = IndexSet::new(alloc);
-            check_lists(alloc, left, &mut by_left, found)?;
-            let mut by_right = IndexSet::new(alloc);
-            check_lists(alloc, right, &mut by_right, found)?;
+            let by_left = check_part(alloc, left, found)?;
+            let by_right = check_part(alloc, right, found)?;
             check_list(alloc, sync, &by_left, &by_right, found)?;
             insert_both(offered, by_left, by_right)
         }
         Behaviour::Hide { gates, body } => {
-            let mut inside = IndexSet::new(alloc);
-            check_lists(alloc, body, &mut inside, found)?;
+            let inside = check_part(alloc, body, found)?;
             insert_visible(alloc, offered, inside.as_slice(), gates.as_slice())
-        }
-        Behaviour::Enable { left, right, .. } => {
-            check_lists(alloc, left, offered, found)?;
-            check_lists(alloc, right, offered, found)
-        }
-        Behaviour::Disable { left, right } => {
-            check_lists(alloc, left, offered, found)?;
-            check_lists(alloc, right, offered, found)
         }
         Behaviour::Call { gates, .. } => insert_names(offered, gates.as_slice()),
     }
+}
+
+/// The gates that a part offers, apart from those of others. Appends the warnings about the lists inside it.
+#[cycle(lists)]
+fn check_part<'a>(
+    alloc: Global,
+    part: &'a Behaviour,
+    found: &mut Vec<Warning>,
+) -> Result<IndexSet<&'a str>, AllocError>
+    ensures offers { IfOk result (λ offered. AddsNames (λ k. k.now) [] offered.keys
+        (OffersFree (behaviour_view part.now))) }
+    ensures warns { OnOk result (Adds found.old.items found.new.items
+        (IsListWarning (behaviour_view part.now))) }
+{
+    let mut offered = IndexSet::new(alloc);
+    check_lists(alloc, part, &mut offered, found)?;
+    Ok(offered)
 }
 
 /// Appends the warnings about one list, given the gates that each side offers.

@@ -38,21 +38,11 @@ fn add_calls(code: &Code, called: &mut IndexSet<usize>) -> Result<(), AllocError
 {
     match code {
         Code::Stop | Code::Exit => Ok(()),
-        Code::Prefix { body, .. } => add_calls(body, called),
-        Code::Choice { left, right } => {
-            add_calls(left, called)?;
-            add_calls(right, called)
-        }
-        Code::Par { left, right, .. } => {
-            add_calls(left, called)?;
-            add_calls(right, called)
-        }
-        Code::Hide { body, .. } => add_calls(body, called),
-        Code::Enable { left, right } => {
-            add_calls(left, called)?;
-            add_calls(right, called)
-        }
-        Code::Disable { left, right } => {
+        Code::Prefix { body, .. } | Code::Hide { body, .. } => add_calls(body, called),
+        Code::Choice { left, right }
+        | Code::Par { left, right, .. }
+        | Code::Enable { left, right }
+        | Code::Disable { left, right } => {
             add_calls(left, called)?;
             add_calls(right, called)
         }

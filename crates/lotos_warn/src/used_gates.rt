@@ -25,7 +25,9 @@ pub(crate) fn add_used<'a>(
             insert_action(into, action)?;
             add_used(alloc, body, into)
         }
-        Behaviour::Choice { left, right } => {
+        Behaviour::Choice { left, right }
+        | Behaviour::Enable { left, right, .. }
+        | Behaviour::Disable { left, right } => {
             add_used(alloc, left, into)?;
             add_used(alloc, right, into)
         }
@@ -38,14 +40,6 @@ pub(crate) fn add_used<'a>(
             let mut inside = IndexSet::new(alloc);
             add_used(alloc, body, &mut inside)?;
             insert_visible(alloc, into, inside.as_slice(), gates.as_slice())
-        }
-        Behaviour::Enable { left, right, .. } => {
-            add_used(alloc, left, into)?;
-            add_used(alloc, right, into)
-        }
-        Behaviour::Disable { left, right } => {
-            add_used(alloc, left, into)?;
-            add_used(alloc, right, into)
         }
         Behaviour::Call { gates, .. } => insert_names(into, gates.as_slice()),
     }

@@ -1,6 +1,9 @@
 use Rattle.std.proofs.Common.{map, ap}
 use Rattle.std.proofs.lemmas.Result.{on_ok_weaker}
 use Rattle.lotos_text.specs.AstOf.{behaviour_view, sync_view}
+use Rattle.lotos_warn.specs.Additions.{Adds}
+use Rattle.lotos_warn.specs.Warnings.{UsesFree}
+use Rattle.lotos_warn.proofs.Operands.{by_operands}
 use Rattle.lotos_warn.proofs.GateAdditions.{uses_prefix, uses_choice, uses_par, uses_hide, uses_enable, uses_disable, uses_call}
 use Rattle.lotos_warn.proofs.used_gates.+add_used.Goals as goal
 
@@ -13,11 +16,17 @@ returns-in_ok-insert_action-in-Prefix t c =
 
 pub returns-in_ok-add_used-in-Choice : goal.returns-in_ok-add_used-in-Choice
 returns-in_ok-add_used-in-Choice t c =
-    rw c.in-Choice.is (on_ok_weaker c.add_used-in-Choice-2.result
-    (λ h. uses_choice (map (λ k. k.now) c.args.into.now.keys) (map (λ k. k.now) c.add_used-in-Choice.new.into.keys) (map (λ k. k.now) c.add_used-in-Choice-2.new.into.keys)
-    (behaviour_view c.in-Choice.left.value) (behaviour_view c.in-Choice.right.value)
-    (rw c.deref-in-Choice.ensures at c.in_ok-add_used-in-Choice.ensures) (rw c.deref-in-Choice-2.ensures at h))
-    c.add_used-in-Choice-2.ensures)
+    let old = map (λ k. k.now) c.args.into.now.keys in
+    let mid = map (λ k. k.now) c.add_used-in-Choice.new.into.keys in
+    let new = map (λ k. k.now) c.add_used-in-Choice-2.new.into.keys in
+    let l = behaviour_view c.in-Choice.left.value in
+    let r = behaviour_view c.in-Choice.right.value in
+    let first = rw c.deref-in-Choice.ensures at c.in_ok-add_used-in-Choice.ensures in
+    on_ok_weaker c.add_used-in-Choice-2.result
+    (λ h. let second = rw c.deref-in-Choice-2.ensures at h in
+    by_operands (λ b. Adds old new (UsesFree b)) c.args.behaviour.now c.in-Choice.left c.in-Choice.right
+    (uses_choice old mid new l r first second) (λ at. uses_enable old mid new l at r first second) (uses_disable old mid new l r first second) c.in-Choice.is)
+    c.add_used-in-Choice-2.ensures
 
 pub returns-in_ok-insert_list-in-Par : goal.returns-in_ok-insert_list-in-Par
 returns-in_ok-insert_list-in-Par t c =
@@ -37,22 +46,6 @@ returns-in_ok-add_used-in-Hide t c =
     (rw c.deref-in-Hide.ensures at c.in_ok-add_used-in-Hide.ensures)
     (rw c.as_slice-in-Hide.ensures.value at (rw c.as_slice.ensures.keys at h)))
     c.insert_visible.ensures)
-
-pub returns-in_ok-add_used-in-Enable : goal.returns-in_ok-add_used-in-Enable
-returns-in_ok-add_used-in-Enable t c =
-    rw c.in-Enable.is (on_ok_weaker c.add_used-in-Enable-2.result
-    (λ h. uses_enable (map (λ k. k.now) c.args.into.now.keys) (map (λ k. k.now) c.add_used-in-Enable.new.into.keys) (map (λ k. k.now) c.add_used-in-Enable-2.new.into.keys)
-    (behaviour_view c.in-Enable.left.value) _ (behaviour_view c.in-Enable.right.value)
-    (rw c.deref-in-Enable.ensures at c.in_ok-add_used-in-Enable.ensures) (rw c.deref-in-Enable-2.ensures at h))
-    c.add_used-in-Enable-2.ensures)
-
-pub returns-in_ok-add_used-in-Disable : goal.returns-in_ok-add_used-in-Disable
-returns-in_ok-add_used-in-Disable t c =
-    rw c.in-Disable.is (on_ok_weaker c.add_used-in-Disable-2.result
-    (λ h. uses_disable (map (λ k. k.now) c.args.into.now.keys) (map (λ k. k.now) c.add_used-in-Disable.new.into.keys) (map (λ k. k.now) c.add_used-in-Disable-2.new.into.keys)
-    (behaviour_view c.in-Disable.left.value) (behaviour_view c.in-Disable.right.value)
-    (rw c.deref-in-Disable.ensures at c.in_ok-add_used-in-Disable.ensures) (rw c.deref-in-Disable-2.ensures at h))
-    c.add_used-in-Disable-2.ensures)
 
 pub returns-in-Call : goal.returns-in-Call
 returns-in-Call t c =
