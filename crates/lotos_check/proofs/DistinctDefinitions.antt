@@ -92,17 +92,19 @@ pub gate_again : (whole : Definition) (gate : Placed) (formals : List Placed) �
 gate_again whole gate formals same second =
     repeats_gate (definition_view whole) gate (subst (IsDuplicate gate) (same ∙ ap formals_of (sym (parts_seen whole))) second)
 
+-- distinct formals are those of the view
+pub formals_distinct : (whole : Definition) (formals : List Placed) → formals ≡ (out-Definition whole).formals.items →
+    AreDistinct formals → AreDistinct (formals_of (definition_view whole))
+formals_distinct whole formals same = subst AreDistinct (same ∙ ap formals_of (sym (parts_seen whole)))
+
 -- where all were passed and the formals are distinct, the whole repeats nothing
-pub passed_all : {K : Type 0} (now : K → Name) (keys : List K) (all rest : List Definition) (whole : Definition)
-    (formals : List Placed) →
+pub passed_all : {K : Type 0} (now : K → Name) (keys : List K) (all rest : List Definition) (whole : Definition) →
     Passed now keys all rest → rest ≡ [] → all ≡ (out-Definition whole).inner.items →
-    formals ≡ (out-Definition whole).formals.items →
-    AreDistinct formals → IsDistinct (definition_view whole)
-passed_all now keys all rest whole formals passed none inner gates distinct =
+    AreDistinct (formals_of (definition_view whole)) → IsDistinct (definition_view whole)
+passed_all now keys all rest whole passed none inner distinct =
     let row = ap definitions_view inner ∙ ap inner_of (sym (parts_seen whole)) in
     let names = seen_all _ _ _ passed.names (ap (λ ds. declared_names (definitions_view ds)) none) in
-    distinct_whole (definition_view whole)
-    (subst AreDistinct (gates ∙ ap formals_of (sym (parts_seen whole))) distinct)
+    distinct_whole (definition_view whole) distinct
     (subst (λ ds. AreDistinct (declared_names ds)) row names)
     (λ d a. elim (passed.done d (subst (Among d) (sym row) a)) [
       | inl h ↦ h

@@ -1,10 +1,11 @@
 //! The resolution of all bodies, in the order of the text.
-ghost use Rattle.std.specs.Prelude.{◌≡◌, ◌+◌, ◌<◌, ◌^◌, IfErr, IfOk, OnOk};
-ghost use Rattle.lotos_text.specs.AstView.{inner_of};
+ghost use Rattle.std.specs.Prelude.{◌≡◌, ◌+◌, ◌<◌, ◌^◌, IfErr, IfOk, MatchResult, OnOk};
+ghost use Rattle.lotos_text.specs.AstView.{body_of, formals_of, inner_of};
 ghost use Rattle.lotos_text.specs.AstOf.{definition_view};
+ghost use Rattle.lotos_check.specs.NameLists.{texts};
 ghost use Rattle.lotos_check.specs.Scope.{Scope, count, definition_in_scope};
-ghost use Rattle.lotos_check.specs.ProcessScopes.{IsScopeStack};
-ghost use Rattle.lotos_check.specs.Resolution.{AddsBodies, IsNameFaultIn};
+ghost use Rattle.lotos_check.specs.ProcessScopes.{HasNames, IsScopeStack};
+ghost use Rattle.lotos_check.specs.Resolution.{AddsBodies, IsNameFault, IsNameFaultIn, IsResolved};
 
 use crate::fault::CheckFault;
 use crate::gate_scope::add_gates;
@@ -13,7 +14,7 @@ use crate::resolution::resolve;
 use crate::resolved_body::ResolvedBody;
 use indexmap::{IndexMap, IndexSet};
 use lotos_text::Definition;
-use std::alloc::Global;
+use std::alloc::{AllocError, Global};
 
 /// Appends the resolutions of a definition's body and of those of its inner definitions, which are numbered from
 /// `first` on, and returns the number that comes after theirs. `scopes` are the processes visible around the
@@ -37,14 +38,7 @@ pub(crate) fn resolve_bodies<'a>(
 {
     let own = bind_definitions(alloc, definition.inner.as_slice(), first)?;
     scopes.push(own)?;
-    let mut gates_in_scope = IndexSet::new(alloc);
-    add_gates(&mut gates_in_scope, definition.formals.as_slice())?;
-    let found = resolve(
-        alloc,
-        scopes.as_slice(),
-        &mut gates_in_scope,
-        &definition.body,
-    )?;
+    let found = resolve_body(alloc, scopes.as_slice(), definition)?;
     into.push(found)?;
     let mut number = first;
     for inner in &definition.inner {
@@ -52,4 +46,30 @@ pub(crate) fn resolve_bodies<'a>(
     }
     scopes.pop();
     Ok(number)
+}
+
+/// Resolves the body of a definition, given the processes that are visible in it.
+fn resolve_body<'a>(
+    alloc: Global,
+    scopes: &[IndexMap<&'a str, Binding<'a>>],
+    definition: &'a Definition,
+) -> Result<ResolvedBody, CheckFault>
+    ensures { (scope : Scope) → IsScopeStack (λ k. k.now) scopes.now scope → MatchResult result
+        (IsResolved scope (texts (formals_of (definition_view definition.now))) (body_of (definition_view definition.now)))
+        (IsNameFault scope (texts (formals_of (definition_view definition.now))) (body_of (definition_view definition.now))) }
+{
+    let mut gates_in_scope = formal_gates(alloc, definition)?;
+    resolve(alloc, scopes, &mut gates_in_scope, &definition.body)
+}
+
+/// The gates in scope where no gate is hidden: the formal gates of the definition.
+fn formal_gates<'a>(
+    alloc: Global,
+    definition: &'a Definition,
+) -> Result<IndexSet<&'a str>, AllocError>
+    ensures { IfOk result (λ gates. HasNames (λ k. k.now) gates.keys (texts (formals_of (definition_view definition.now)))) }
+{
+    let mut gates = IndexSet::new(alloc);
+    add_gates(&mut gates, definition.formals.as_slice())?;
+    Ok(gates)
 }

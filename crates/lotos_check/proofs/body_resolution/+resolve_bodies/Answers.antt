@@ -1,13 +1,12 @@
 use Rattle.std.specs.Prelude.{◌≡◌, ◌+◌, ◌<◌, ◌≤◌, length, drop}
 use Rattle.std.proofs.Common.{refl, ap, ◌∙◌, subst, arith}
 use Rattle.std.proofs.lemmas.List.{drop_all}
-use Rattle.lotos_text.specs.AstView.{inner_of, formals_of}
+use Rattle.lotos_text.specs.AstView.{inner_of}
 use Rattle.lotos_text.specs.AstOf.{definition_view, definitions_view}
 use Rattle.lotos_check.specs.Scope.{count, within, definitions_in_scope, definition_in_scope}
-use Rattle.lotos_check.specs.NameLists.{texts}
-use Rattle.lotos_check.specs.Resolution.{AddsBodies, IsNameFaultIn, IsResolved, IsNameFault}
-use Rattle.lotos_check.proofs.DefinitionParts.{body_shown, inner_shown}
-use Rattle.lotos_check.proofs.BodyResolutions.{adds_append, adds_none, adds_first, listed_more, count_more, misnamed_left, misnamed_right, misnamed_here, misnamed_inside, carried_on, no_memory, rest_at, shows_inside, knows_formals}
+use Rattle.lotos_check.specs.Resolution.{AddsBodies, IsNameFaultIn}
+use Rattle.lotos_check.proofs.DefinitionParts.{inner_shown}
+use Rattle.lotos_check.proofs.BodyResolutions.{adds_append, adds_none, adds_first, listed_more, count_more, misnamed_left, misnamed_right, misnamed_here, misnamed_inside, carried_on, no_memory, rest_at, shows_inside}
 use Rattle.lotos_check.proofs.body_resolution.+resolve_bodies.Goals as goal
 
 pub returns-in_err-own-clause-name_fault : goal.returns-in_err-own-clause-name_fault
@@ -18,11 +17,6 @@ returns-in_err-own-clause-name_fault t c =
 pub returns-in_err-push-clause-name_fault : goal.returns-in_err-push-clause-name_fault
 returns-in_err-push-clause-name_fault t c =
     carried_on c.from_residual-in_err-push.result _ _ c.from_residual-in_err-push.ensures.1
-    (λ scope shows. no_memory scope c.args.first (definition_view c.args.definition.now) _)
-
-pub returns-in_err-add_gates-clause-name_fault : goal.returns-in_err-add_gates-clause-name_fault
-returns-in_err-add_gates-clause-name_fault t c =
-    carried_on c.from_residual-in_err-add_gates.result _ _ c.from_residual-in_err-add_gates.ensures.1
     (λ scope shows. no_memory scope c.args.first (definition_view c.args.definition.now) _)
 
 pub returns-in_err-push-2-clause-name_fault : goal.returns-in_err-push-2-clause-name_fault
@@ -38,12 +32,8 @@ returns-in_err-found-clause-name_fault t c =
     let w = within d c.args.first scope in
     let all = shows_inside (λ k. k.now) of c.as_slice.result.now c.args.first c.in_ok-own.own c.args.scopes.now.items
     c.push.new.self.items c.as_slice.ensures.value c.in_ok-own.ensures c.in_ok-push.ensures.items scope shows in
-    let knows = knows_formals (λ k. k.now) of c.as_slice-2.result.now c.new-gates_in_scope.result.keys c.add_gates.new.scope.keys
-    c.as_slice-2.ensures.value c.new-gates_in_scope.ensures.empty c.in_ok-add_gates.ensures.added in
-    let fault = c.in_err-found.field-0.0 in
-    let body = c.in_err-found.ensures.resolved w (texts (formals_of d)) (rw c.as_slice-3.ensures.value all) knows in
-    misnamed_here scope c.args.first d fault
-    (subst (λ b. IsNameFault w (texts (formals_of d)) b fault) (body_shown of) body))
+    misnamed_here scope c.args.first d c.in_err-found.field-0.0
+    (c.in_err-found.ensures w (rw c.as_slice-2.ensures.value all)))
 
 pub returns-in_err-number-clause-name_fault : goal.returns-in_err-number-clause-name_fault
 returns-in_err-number-clause-name_fault t c =
@@ -113,11 +103,8 @@ returns-clause-adds t c = λ scope shows.
     let w = within d c.args.first scope in
     let all = shows_inside (λ k. k.now) of c.as_slice.result.now c.args.first c.in_ok-own.own c.args.scopes.now.items
     c.push.new.self.items c.as_slice.ensures.value c.in_ok-own.ensures c.in_ok-push.ensures.items scope shows in
-    let knows = knows_formals (λ k. k.now) of c.as_slice-2.result.now c.new-gates_in_scope.result.keys c.add_gates.new.scope.keys
-    c.as_slice-2.ensures.value c.new-gates_in_scope.ensures.empty c.in_ok-add_gates.ensures.added in
     let past : length c.deref-inner-items.result.now ≤ c.loop-inner.inner-index = omega arith in
     let none = drop_all c.loop-inner.inner-index c.deref-inner-items.result.now past in
     let inside = c.loop-inner.invariant.adds w all c.loop-inner.into.items (rw none (adds_none c.loop-inner.into.items)) in
-    let body = c.in_ok-found.ensures.resolved w (texts (formals_of d)) (rw c.as_slice-3.ensures.value all) knows in
     adds_first scope c.args.first d _ _ _ c.in_ok-found.found c.in_ok-push-2.ensures.items
-    (subst (λ b. IsResolved w (texts (formals_of d)) b c.in_ok-found.found) (body_shown of) body) inside
+    (c.in_ok-found.ensures w (rw c.as_slice-2.ensures.value all)) inside

@@ -3,7 +3,7 @@ use Rattle.std.proofs.lemmas.List.{drop_all}
 use Rattle.lotos_check.specs.NameLists.{IsDuplicate}
 use Rattle.lotos_check.proofs.Pairs.{drop_at}
 use Rattle.lotos_check.proofs.VisitedNames.{seen_more, seen_again, seen_all}
-use Rattle.lotos_check.proofs.duplicates.first_duplicate.Goals as goal
+use Rattle.lotos_check.proofs.duplicates.find_repeated.Goals as goal
 
 pub returns-then-not-branch : goal.returns-then-not-branch
 returns-then-not-branch c =
