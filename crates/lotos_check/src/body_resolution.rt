@@ -36,6 +36,7 @@ pub(crate) fn resolve_bodies<'a>(
         IsScopeStack (λ k. k.now) scopes.old.items scope →
         IsNameFaultIn (definition_in_scope scope first (definition_view definition.now)) fault) }
 {
+    let outer = scopes.len();
     let own = bind_definitions(alloc, definition.inner.as_slice(), first)?;
     scopes.push(own)?;
     let found = resolve_body(alloc, scopes.as_slice(), definition)?;
@@ -44,7 +45,7 @@ pub(crate) fn resolve_bodies<'a>(
     for inner in &definition.inner {
         number = resolve_bodies(alloc, scopes, inner, number + 1, into)?;
     }
-    scopes.pop();
+    scopes.truncate(outer);
     Ok(number)
 }
 

@@ -96,6 +96,12 @@ loop-inner-preserved t c =
           later));
     }
 
+pub returns-clause-next : goal.returns-clause-next
+returns-clause-next t c =
+    let past : length c.deref-inner-items.result.now ≤ c.loop-inner.inner-index = omega arith in
+    let number = rw (drop_all c.loop-inner.inner-index c.deref-inner-items.result.now past) at c.loop-inner.invariant.number in
+    omega arith
+
 pub returns-clause-adds : goal.returns-clause-adds
 returns-clause-adds t c = λ scope shows.
     let of = c.args.definition.now in
