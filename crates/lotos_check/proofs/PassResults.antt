@@ -26,7 +26,7 @@ use Rattle.lotos_check.proofs.Pairs.{pairs_length}
 -- the list has all definitions of the specification
 module _ {W : Type 0} (view : W → DefinitionView) (definitions : List W) (whole : DefinitionView) (listed : map view definitions ≡ definitions_in whole) where
   -- it is longer than the number of processes
-  pub inner_below : (limit : ℕ) → length definitions < limit → 0 + count (inner_of whole) < limit
+  pub inner_below : (limit : ℕ) → length definitions < limit → count (inner_of whole) < limit
   inner_below limit h =
       let all = definitions_count whole in
       let seen = length-map definitions view in

@@ -1,9 +1,9 @@
 //! The resolution of all bodies, in the order of the text.
-ghost use Rattle.std.specs.Prelude.{◌≡◌, ◌+◌, ◌<◌, ◌^◌, IfErr, IfOk, MatchResult, OnOk};
+ghost use Rattle.std.specs.Prelude.{◌≡◌, ◌+◌, ◌<◌, ◌^◌, [], IfErr, IfOk, MatchResult, OnOk};
 ghost use Rattle.lotos_text.specs.AstView.{body_of, formals_of, inner_of};
 ghost use Rattle.lotos_text.specs.AstOf.{definition_view};
 ghost use Rattle.lotos_check.specs.NameLists.{texts};
-ghost use Rattle.lotos_check.specs.Scope.{Scope, count, definition_in_scope};
+ghost use Rattle.lotos_check.specs.Scope.{Scope, all_definitions, count, definition_in_scope};
 ghost use Rattle.lotos_check.specs.ProcessScopes.{HasNames, IsScopeStack};
 ghost use Rattle.lotos_check.specs.Resolution.{AddsBodies, IsNameFault, IsNameFaultIn, IsResolved};
 
@@ -16,10 +16,26 @@ use indexmap::{IndexMap, IndexSet};
 use lotos_text::Definition;
 use std::alloc::{AllocError, Global};
 
+/// The resolutions of the body of a specification and of the bodies of its processes, in the order of the text. Fails
+/// at the first name that breaks a rule.
+pub(crate) fn resolve_specification(
+    alloc: Global,
+    whole: &Definition,
+) -> Result<Vec<ResolvedBody>, CheckFault>
+    requires { count (inner_of (definition_view whole.now)) < 2 ^ 63 }
+    ensures adds { IfOk result (λ found. AddsBodies (all_definitions (definition_view whole.now)) [] found.items) }
+    ensures name_fault { IfErr result (IsNameFaultIn (all_definitions (definition_view whole.now))) }
+{
+    let mut scopes = Vec::new(alloc);
+    let mut found = Vec::new(alloc);
+    resolve_bodies(alloc, &mut scopes, whole, 0, &mut found)?;
+    Ok(found)
+}
+
 /// Appends the resolutions of a definition's body and of those of its inner definitions, which are numbered from
 /// `first` on, and returns the number that comes after theirs. `scopes` are the processes visible around the
 /// definition; they are unchanged unless it fails.
-pub(crate) fn resolve_bodies<'a>(
+fn resolve_bodies<'a>(
     alloc: Global,
     scopes: &mut Vec<IndexMap<&'a str, Binding<'a>>>,
     definition: &'a Definition,

@@ -6,7 +6,7 @@ ghost use Rattle.lotos_check.specs.Acceptance.{AreRanks, IsAccepted, IsStaticFau
 ghost use Rattle.lotos_check.specs.FaultOffsets.{IsOffsetWithin};
 ghost use Rattle.lotos_check.specs.CheckedView.{process_of, ranks_of, system_of};
 
-use crate::body_resolution::resolve_bodies;
+use crate::body_resolution::resolve_specification;
 use crate::checked::Checked;
 use crate::definition_order::add_definitions;
 use crate::duplicates::check_distinct;
@@ -48,9 +48,7 @@ fn check_definition(alloc: Global, whole: &Definition) -> Result<Checked, CheckF
     check_distinct(alloc, whole)?;
     let mut definitions = Vec::new(alloc);
     add_definitions(whole, &mut definitions)?;
-    let mut scopes = Vec::new(alloc);
-    let mut found = Vec::new(alloc);
-    resolve_bodies(alloc, &mut scopes, whole, 0, &mut found)?;
+    let found = resolve_specification(alloc, whole)?;
     check_functionality(alloc, definitions.as_slice(), found.as_slice())?;
     let gates = copy_names(alloc, whole.formals.as_slice())?;
     let (start, processes) = flatten(alloc, definitions.as_slice(), found)?;

@@ -24,8 +24,8 @@ listed : (c : In_ok-add_definitions) → map (λ d. definition_view d.now) c.add
 listed c = rw c.new-definitions.ensures.items at c.in_ok-add_definitions.ensures
 
 -- something was found of each definition
-adds : (c : After-as_slice-2) → AddsBodies (all_definitions (definition_view c.args.whole.now)) [] c.resolve_bodies.new.into.items
-adds c = rw c.new-found.ensures.items at (c.in_ok-resolve_bodies.ensures.adds [] c.new-scopes.ensures.items)
+adds : (c : After-as_slice-2) → AddsBodies (all_definitions (definition_view c.args.whole.now)) [] c.in_ok-found.found.items
+adds c = c.in_ok-found.ensures.adds
 
 -- the code is the flat system
 flat : (c : After-as_slice-5) → IsFlat (definition_view c.args.whole.now) (record {
@@ -37,14 +37,14 @@ flat c =
     let at = goal.at.rank_processes-requires c in
     let flattened = rw (c.as_slice-4.ensures.value, listed at.In_ok-add_definitions) at c.in_ok-start.ensures in
     let named = c.in_ok-gates.ensures ∙ ap texts (c.as_slice-3.ensures.value ∙ formals_shown c.args.whole.now) in
-    flat_joined (definition_view c.args.whole.now) c.resolve_bodies.new.into.items c.in_ok-gates.gates.items c.in_ok-start.start.value c.in_ok-start.processes.items
+    flat_joined (definition_view c.args.whole.now) c.in_ok-found.found.items c.in_ok-gates.gates.items c.in_ok-start.start.value c.in_ok-start.processes.items
     (adds at.After-as_slice-2) flattened named
 
-pub resolve_bodies-requires : goal.resolve_bodies-requires
-resolve_bodies-requires c =
+pub resolve_specification-requires : goal.resolve_specification-requires
+resolve_specification-requires c =
     let all = c.add_definitions.new.into in
     let below : length all.items < 9223372036854775808 = omega (arith, all.ok.0, all.ok.1, all.small) in
-    inner_below (λ d. definition_view d.now) all.items (definition_view c.args.whole.now) (listed (goal.at.resolve_bodies-requires c).In_ok-add_definitions)
+    inner_below (λ d. definition_view d.now) all.items (definition_view c.args.whole.now) (listed (goal.at.resolve_specification-requires c).In_ok-add_definitions)
     9223372036854775808 below
 
 pub returns-in_err-check_distinct-clause-inside : goal.returns-in_err-check_distinct-clause-inside
@@ -54,13 +54,13 @@ returns-in_err-check_distinct-clause-inside c =
     passed_on (λ f. (n : ℕ) → IsInside n whole → IsOffsetWithin n f) c.from_residual.result fault c.from_residual.ensures.1
     (λ n. faulty_inside whole fault n (repeat_faulty whole fault c.in_err-check_distinct.ensures.fails))
 
-pub returns-in_err-resolve_bodies : goal.returns-in_err-resolve_bodies
-returns-in_err-resolve_bodies c =
+pub returns-in_err-found : goal.returns-in_err-found
+returns-in_err-found c =
     let whole = definition_view c.args.whole.now in
-    let fault = c.in_err-resolve_bodies.field-0.0 in
-    let faulty = misnamed_faulty whole fault (c.in_err-resolve_bodies.ensures.name_fault [] c.new-scopes.ensures.items) in
-    let result = c.from_residual-in_err-resolve_bodies.result in
-    let same = c.from_residual-in_err-resolve_bodies.ensures.1 in
+    let fault = c.in_err-found.field-0.0 in
+    let faulty = misnamed_faulty whole fault c.in_err-found.ensures.name_fault in
+    let result = c.from_residual-in_err-found.result in
+    let same = c.from_residual-in_err-found.ensures.1 in
     record {
       faulty = passed_on (IsStaticFault whole) result fault same faulty;
       not_accepted = passed_on (IsNotAccepted whole) result fault same (faulty_refused whole fault faulty);
@@ -73,14 +73,14 @@ pub check_functionality-requires : goal.check_functionality-requires
 check_functionality-requires c =
     let all = listed (goal.at.check_functionality-requires c).In_ok-add_definitions in
     rw (c.as_slice.ensures.value, c.as_slice-2.ensures.value)
-    (found_length (λ d. definition_view d.now) c.add_definitions.new.into.items (definition_view c.args.whole.now) all c.resolve_bodies.new.into.items (adds c))
+    (found_length (λ d. definition_view d.now) c.add_definitions.new.into.items (definition_view c.args.whole.now) all c.in_ok-found.found.items (adds c))
 
 pub returns-in_err-check_functionality : goal.returns-in_err-check_functionality
 returns-in_err-check_functionality c =
     let whole = definition_view c.args.whole.now in
     let at = goal.at.returns-in_err-check_functionality c in
     let fault = c.in_err-check_functionality.field-0.0 in
-    let found = c.resolve_bodies.new.into.items in
+    let found = c.in_ok-found.found.items in
     let untyped = rw (c.as_slice.ensures.value, listed at.In_ok-add_definitions, c.as_slice-2.ensures.value) at c.in_err-check_functionality.ensures.functionality_fault in
     let faulty = untyped_faulty whole found fault (walked whole found (adds at.After-as_slice-2)) untyped in
     let result = c.from_residual-in_err-check_functionality.result in
@@ -98,7 +98,7 @@ flatten-requires-clause-sized c =
     let at = goal.at.flatten-requires-clause-sized c in
     rw c.as_slice-4.ensures.value
     (found_length (λ d. definition_view d.now) c.add_definitions.new.into.items (definition_view c.args.whole.now) (listed at.In_ok-add_definitions)
-    c.resolve_bodies.new.into.items (adds at.After-as_slice-2))
+    c.in_ok-found.found.items (adds at.After-as_slice-2))
 
 pub rank_processes-requires : goal.rank_processes-requires
 rank_processes-requires c =
@@ -114,7 +114,7 @@ accepted : (c : In-Guarded) → IsAccepted (definition_view c.args.whole.now) (r
 accepted c =
     let whole = definition_view c.args.whole.now in
     let at = goal.at.In-Guarded c in
-    let found = c.resolve_bodies.new.into.items in
+    let found = c.in_ok-found.found.items in
     let system = flat at.After-as_slice-5 in
     let typed = rw (c.as_slice.ensures.value, listed at.In_ok-add_definitions, c.as_slice-2.ensures.value) at c.in_ok-check_functionality.ensures.typed in
     let ranks = rw (c.in-Guarded.is, c.as_slice-5.ensures.value) at c.in_ok-ranks.ensures in
