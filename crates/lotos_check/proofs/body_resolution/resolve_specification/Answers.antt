@@ -1,7 +1,7 @@
 use Rattle.std.proofs.Common.{[]}
 use Rattle.lotos_text.specs.AstOf.{definition_view}
 use Rattle.lotos_check.specs.Scope.{all_definitions}
-use Rattle.lotos_check.specs.Resolution.{AddsBodies, IsNameFaultIn}
+use Rattle.lotos_check.specs.Resolution.{IsNameFaultIn}
 use Rattle.lotos_check.proofs.SameFault.{passed_on}
 use Rattle.lotos_check.proofs.body_resolution.resolve_specification.Goals as goal
 
