@@ -23,7 +23,8 @@ pub(crate) fn resolve_specification(
     whole: &Definition,
 ) -> Result<Vec<ResolvedBody>, CheckFault>
     requires { count (inner_of (definition_view whole.now)) < 2 ^ 63 }
-    ensures adds { IfOk result (λ found. AddsBodies (all_definitions (definition_view whole.now)) [] found.items) }
+    ensures adds { IfOk result (λ found.
+        AddsBodies (all_definitions (definition_view whole.now)) [] found.items) }
     ensures name_fault { IfErr result (IsNameFaultIn (all_definitions (definition_view whole.now))) }
 {
     let mut scopes = Vec::new(alloc);
@@ -72,8 +73,10 @@ fn resolve_body<'a>(
     definition: &'a Definition,
 ) -> Result<ResolvedBody, CheckFault>
     ensures { (scope : Scope) → IsScopeStack (λ k. k.now) scopes.now scope → MatchResult result
-        (IsResolved scope (texts (formals_of (definition_view definition.now))) (body_of (definition_view definition.now)))
-        (IsNameFault scope (texts (formals_of (definition_view definition.now))) (body_of (definition_view definition.now))) }
+        (IsResolved scope (texts (formals_of (definition_view definition.now)))
+        (body_of (definition_view definition.now)))
+        (IsNameFault scope (texts (formals_of (definition_view definition.now)))
+        (body_of (definition_view definition.now))) }
 {
     let mut gates_in_scope = formal_gates(alloc, definition)?;
     resolve(alloc, scopes, &mut gates_in_scope, &definition.body)
@@ -84,7 +87,8 @@ fn formal_gates<'a>(
     alloc: Global,
     definition: &'a Definition,
 ) -> Result<IndexSet<&'a str>, AllocError>
-    ensures { IfOk result (λ gates. HasNames (λ k. k.now) gates.keys (texts (formals_of (definition_view definition.now)))) }
+    ensures { IfOk result (λ gates.
+        HasNames (λ k. k.now) gates.keys (texts (formals_of (definition_view definition.now)))) }
 {
     let mut gates = IndexSet::new(alloc);
     add_gates(&mut gates, definition.formals.as_slice())?;
