@@ -1,4 +1,4 @@
-//! Texts of specifications: their ASTs, their systems, and the steps and the normal forms of their terms.
+//! Texts of specifications: their ASTs, their systems, and the steps, the normal forms and the regrouping of their terms.
 
 use crate::ast_lines::write_definition;
 use crate::front_end::{accepted, parsed, table_of};
@@ -103,12 +103,14 @@ fn copied(heap: &mut Heap, name: &Name) -> Result<Name, AllocError> {
     }
 }
 
-/// Writes the steps of the first terms of a system, then the same once more, and then the normal forms.
+/// Writes the steps of the first terms of a system, then the same once more, then the normal forms, and then what the
+/// terms are regrouped to.
 fn follow(rt: &impl Print, heap: &mut Heap, text: &str) -> Result<(), Stop> {
     let table = table_of(heap, text)?;
     let mut explored = Explored::new(heap, table)?;
     follow_steps(rt, heap, &mut explored)?;
-    follow_forms(rt, heap, &mut explored)
+    follow_forms(rt, heap, &mut explored)?;
+    follow_regrouped(rt, heap, &mut explored)
 }
 
 /// Writes the steps of the first terms, and then the same once more.
@@ -126,4 +128,11 @@ fn follow_forms(rt: &impl Print, heap: &mut Heap, explored: &mut Explored) -> Re
     let mut line = Line::new();
     explored.write_forms(heap, &mut line)?;
     Ok(println!(rt; "forms:{line}")?)
+}
+
+/// Writes what the first terms are regrouped to.
+fn follow_regrouped(rt: &impl Print, heap: &mut Heap, explored: &mut Explored) -> Result<(), Stop> {
+    let mut line = Line::new();
+    explored.write_regrouped(heap, &mut line)?;
+    Ok(println!(rt; "regrouped:{line}")?)
 }

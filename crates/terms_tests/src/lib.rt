@@ -28,6 +28,8 @@ mod protocols;
 #[cfg(test)]
 mod recurrence_tests;
 #[cfg(test)]
+mod regrouping_tests;
+#[cfg(test)]
 mod step_tests;
 #[cfg(test)]
 mod term_equality;
