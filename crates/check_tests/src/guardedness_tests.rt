@@ -95,11 +95,12 @@ enum Ranking {
 /// The ranking of `count` processes with these calls.
 fn ranked(alloc: Global, count: usize, calls: &[(usize, Place, usize)]) -> Result<Ranking, Fail> {
     let text = specification(alloc, count, calls)?;
-    ranking_of(alloc, checked(alloc, text.as_str())?)
+    let found = checked(alloc, text.as_str())?;
+    ranking_of(alloc, &found)
 }
 
-fn ranking_of(alloc: Global, found: Result<Checked, CheckFault>) -> Result<Ranking, Fail> {
-    match &found {
+fn ranking_of(alloc: Global, found: &Result<Checked, CheckFault>) -> Result<Ranking, Fail> {
+    match found {
         Ok(system) => Ok(Ranking::Guarded(ranks_of(alloc, system)?)),
         Err(CheckFault::E27 { set, .. }) => Ok(Ranking::Unguarded(set.clone()?)),
         Err(_) => Err("another fault than E27")?,

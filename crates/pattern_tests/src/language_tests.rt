@@ -16,114 +16,88 @@ enum Part {
     UntilDeadlock,
 }
 
-/// Internal steps not observed, and observed.
-const BOTH: &[bool] = &[false, true];
+/// A small pattern: its words, and its elements. At most two elements need a label.
+type Row = (&'static [&'static str], &'static [Part]);
 
-/// Internal steps observed.
-const OBSERVED: &[bool] = &[true];
-
-/// Small patterns: their words, their elements, and whether internal steps are observed. At most two elements need a
-/// label.
-const SMALL: &[(&[&str], &[Part], &[bool])] = &[
-    (&[], &[], BOTH),
-    (&["A"], &[Part::One("A")], BOTH),
-    (&["<any>"], &[Part::Any], BOTH),
-    (&["<until>", "B"], &[Part::Until("B")], BOTH),
-    (&["<deadlock>"], &[Part::Deadlock], BOTH),
-    (&["<until>", "<deadlock>"], &[Part::UntilDeadlock], BOTH),
-    (&["A", "B"], &[Part::One("A"), Part::One("B")], BOTH),
-    (&["<any>", "exit"], &[Part::Any, Part::One("exit")], BOTH),
+/// Patterns that repeat nothing but what `<until>` passes over.
+const WITHOUT_REPETITIONS: &[Row] = &[
+    (&[], &[]),
+    (&["A"], &[Part::One("A")]),
+    (&["<any>"], &[Part::Any]),
+    (&["<until>", "B"], &[Part::Until("B")]),
+    (&["<deadlock>"], &[Part::Deadlock]),
+    (&["<until>", "<deadlock>"], &[Part::UntilDeadlock]),
+    (&["A", "B"], &[Part::One("A"), Part::One("B")]),
+    (&["<any>", "exit"], &[Part::Any, Part::One("exit")]),
     (
         &["<until>", "A", "<until>", "A"],
         &[Part::Until("A"), Part::Until("A")],
-        BOTH,
     ),
     (
         &["<until>", "exit", "<any>"],
         &[Part::Until("exit"), Part::Any],
-        BOTH,
     ),
-    (
-        &["<until>", "B", "A"],
-        &[Part::Until("B"), Part::One("A")],
-        BOTH,
-    ),
-    (
-        &["A", "<deadlock>"],
-        &[Part::One("A"), Part::Deadlock],
-        BOTH,
-    ),
+    (&["<until>", "B", "A"], &[Part::Until("B"), Part::One("A")]),
+    (&["A", "<deadlock>"], &[Part::One("A"), Part::Deadlock]),
     (
         &["<until>", "B", "<deadlock>"],
         &[Part::Until("B"), Part::Deadlock],
-        BOTH,
     ),
     (
         &["<any>", "<until>", "<deadlock>"],
         &[Part::Any, Part::UntilDeadlock],
-        BOTH,
     ),
     (
         &["B", "<until>", "A", "<until>", "<deadlock>"],
         &[Part::One("B"), Part::Until("A"), Part::UntilDeadlock],
-        BOTH,
     ),
-    (&["<while>", "A"], &[Part::While("A")], BOTH),
-    (&["<while>", "<any>"], &[Part::WhileAny], BOTH),
+];
+
+/// Patterns with repetitions.
+const REPETITIONS: &[Row] = &[
+    (&["<while>", "A"], &[Part::While("A")]),
+    (&["<while>", "<any>"], &[Part::WhileAny]),
     (
         &["<while>", "<any>", "B"],
         &[Part::WhileAny, Part::One("B")],
-        BOTH,
     ),
-    (
-        &["A", "<while>", "B"],
-        &[Part::One("A"), Part::While("B")],
-        BOTH,
-    ),
+    (&["A", "<while>", "B"], &[Part::One("A"), Part::While("B")]),
     (
         &["<while>", "A", "<while>", "A", "<any>"],
         &[Part::While("A"), Part::While("A"), Part::Any],
-        BOTH,
     ),
     (
         &["<while>", "<any>", "<deadlock>"],
         &[Part::WhileAny, Part::Deadlock],
-        BOTH,
     ),
     (
         &["<while>", "A", "<deadlock>"],
         &[Part::While("A"), Part::Deadlock],
-        BOTH,
     ),
-    (
-        &["<while>", "A", "A"],
-        &[Part::While("A"), Part::One("A")],
-        BOTH,
-    ),
+    (&["<while>", "A", "A"], &[Part::While("A"), Part::One("A")]),
     (
         &["<while>", "A", "B", "<while>", "A"],
         &[Part::While("A"), Part::One("B"), Part::While("A")],
-        BOTH,
     ),
     (
         &["<while>", "A", "<while>", "B", "<while>", "A"],
         &[Part::While("A"), Part::While("B"), Part::While("A")],
-        BOTH,
     ),
+];
+
+/// Patterns with repetitions before and after other elements.
+const LONGER_REPETITIONS: &[Row] = &[
     (
         &["<while>", "A", "<until>", "A", "<while>", "B"],
         &[Part::While("A"), Part::Until("A"), Part::While("B")],
-        BOTH,
     ),
     (
         &["<until>", "B", "<while>", "B", "B"],
         &[Part::Until("B"), Part::While("B"), Part::One("B")],
-        BOTH,
     ),
     (
         &["<any>", "<while>", "exit", "<any>"],
         &[Part::Any, Part::While("exit"), Part::Any],
-        BOTH,
     ),
     (
         &["<while>", "<any>", "<while>", "A", "B", "<deadlock>"],
@@ -133,22 +107,18 @@ const SMALL: &[(&[&str], &[Part], &[bool])] = &[
             Part::One("B"),
             Part::Deadlock,
         ],
-        BOTH,
     ),
     (
         &["<while>", "A", "<while>", "B", "<deadlock>"],
         &[Part::While("A"), Part::While("B"), Part::Deadlock],
-        BOTH,
     ),
     (
         &["<while>", "B", "<until>", "<deadlock>"],
         &[Part::While("B"), Part::UntilDeadlock],
-        BOTH,
     ),
     (
         &["<while>", "<any>", "<any>", "<while>", "<any>"],
         &[Part::WhileAny, Part::Any, Part::WhileAny],
-        BOTH,
     ),
     (
         &["A", "<while>", "A", "B", "<while>", "B", "<deadlock>"],
@@ -159,12 +129,10 @@ const SMALL: &[(&[&str], &[Part], &[bool])] = &[
             Part::While("B"),
             Part::Deadlock,
         ],
-        BOTH,
     ),
     (
         &["<while>", "exit", "exit"],
         &[Part::While("exit"), Part::One("exit")],
-        BOTH,
     ),
     (
         &["<while>", "A", "B", "<while>", "<any>", "A"],
@@ -174,35 +142,30 @@ const SMALL: &[(&[&str], &[Part], &[bool])] = &[
             Part::WhileAny,
             Part::One("A"),
         ],
-        BOTH,
     ),
-    (&["i"], &[Part::One("i")], OBSERVED),
-    (&["<until>", "i"], &[Part::Until("i")], OBSERVED),
-    (&["<while>", "i"], &[Part::While("i")], OBSERVED),
-    (
-        &["<while>", "i", "A"],
-        &[Part::While("i"), Part::One("A")],
-        OBSERVED,
-    ),
+];
+
+/// Patterns of internal steps, which are observed.
+const INTERNAL_STEPS: &[Row] = &[
+    (&["i"], &[Part::One("i")]),
+    (&["<until>", "i"], &[Part::Until("i")]),
+    (&["<while>", "i"], &[Part::While("i")]),
+    (&["<while>", "i", "A"], &[Part::While("i"), Part::One("A")]),
     (
         &["<any>", "<while>", "i", "i"],
         &[Part::Any, Part::While("i"), Part::One("i")],
-        OBSERVED,
     ),
     (
         &["A", "<while>", "i", "<deadlock>"],
         &[Part::One("A"), Part::While("i"), Part::Deadlock],
-        OBSERVED,
     ),
     (
         &["<until>", "i", "<while>", "A", "<until>", "<deadlock>"],
         &[Part::Until("i"), Part::While("A"), Part::UntilDeadlock],
-        OBSERVED,
     ),
     (
         &["<while>", "A", "i", "<while>", "A"],
         &[Part::While("A"), Part::One("i"), Part::While("A")],
-        OBSERVED,
     ),
 ];
 
@@ -345,26 +308,43 @@ fn assert_language(
     Ok(())
 }
 
+/// Asserts it for each pattern, where internal steps are observed if `strong` is set.
 fn assert_languages(
     rt: &impl Abort,
     alloc: Global,
-    all: &[Vec<&'static str>],
+    rows: &[Row],
+    strong: bool,
 ) -> Result<(), PatternFault> {
-    for (words, parts, flags) in SMALL {
-        for strong in *flags {
-            let language = Language {
-                parts,
-                strong: *strong,
-            };
-            assert_language(rt, alloc, words, language, all)?;
-        }
+    let all = sequences(alloc)?;
+    for (words, parts) in rows {
+        let language = Language { parts, strong };
+        assert_language(rt, alloc, words, language, all.as_slice())?;
     }
     Ok(())
 }
 
-/// Compares each sequence of up to four labels with the definition.
+/// Asserts it for each pattern, where internal steps are not observed, and where they are.
+fn assert_both(rt: &impl Abort, alloc: Global, rows: &[Row]) -> Result<(), PatternFault> {
+    assert_languages(rt, alloc, rows, false)?;
+    assert_languages(rt, alloc, rows, true)
+}
+
 #[test]
-fn matches_as_defined(rt: HostRuntime) -> Result<(), Fail> {
-    let all = sequences(rt.alloc())?;
-    Ok(assert_languages(&rt, rt.alloc(), all.as_slice())?)
+fn matches_without_repetitions(rt: HostRuntime) -> Result<(), Fail> {
+    Ok(assert_both(&rt, rt.alloc(), WITHOUT_REPETITIONS)?)
+}
+
+#[test]
+fn matches_repetitions(rt: HostRuntime) -> Result<(), Fail> {
+    Ok(assert_both(&rt, rt.alloc(), REPETITIONS)?)
+}
+
+#[test]
+fn matches_longer_repetitions(rt: HostRuntime) -> Result<(), Fail> {
+    Ok(assert_both(&rt, rt.alloc(), LONGER_REPETITIONS)?)
+}
+
+#[test]
+fn matches_internal_steps(rt: HostRuntime) -> Result<(), Fail> {
+    Ok(assert_languages(&rt, rt.alloc(), INTERNAL_STEPS, true)?)
 }

@@ -10,7 +10,10 @@ fn assert_text(rt: &impl Abort, words: &str, found: &str, expected: &str) {
 }
 
 /// What is tested, a behaviour expression, and its form with every group in parentheses.
-const BEHAVIOURS: &[(&str, &str, &str)] = &[
+type Row = (&'static str, &'static str, &'static str);
+
+/// How operators group and bind, hide forms and parentheses.
+const GROUPINGS: &[Row] = &[
     (
         "choices group to the right",
         "stop [] stop [] stop",
@@ -108,6 +111,10 @@ const BEHAVIOURS: &[(&str, &str, &str)] = &[
         "(A@35; (stop [] (i; exit)))",
     ),
     ("a prefix of a prefix", "i; i; stop", "(i; (i; stop))"),
+];
+
+/// Calls, lists of gates, and how tokens are spelled.
+const SPELLINGS: &[Row] = &[
     ("a call without gates", "P", "P@35"),
     ("a call with gates", "P [a,b]", "P@35[A@38,B@40]"),
     ("the same gate twice", "P[a,a]", "P@35[A@37,A@39]"),
@@ -195,12 +202,21 @@ fn assert_behaviour(
     Ok(())
 }
 
-#[test]
-fn reads_behaviour_expressions(rt: HostRuntime) -> Result<(), Fail> {
-    for (words, expression, expected) in BEHAVIOURS {
-        assert_behaviour(&rt, rt.alloc(), words, expression, expected)?;
+fn assert_behaviours(rt: &impl Abort, alloc: Global, rows: &[Row]) -> Result<(), TextFault> {
+    for (words, expression, expected) in rows {
+        assert_behaviour(rt, alloc, words, expression, expected)?;
     }
     Ok(())
+}
+
+#[test]
+fn reads_groups(rt: HostRuntime) -> Result<(), Fail> {
+    Ok(assert_behaviours(&rt, rt.alloc(), GROUPINGS)?)
+}
+
+#[test]
+fn reads_calls_and_spellings(rt: HostRuntime) -> Result<(), Fail> {
+    Ok(assert_behaviours(&rt, rt.alloc(), SPELLINGS)?)
 }
 
 /// What is tested, a text, and its definitions as `write_definition` prints them.

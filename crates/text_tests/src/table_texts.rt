@@ -24,19 +24,20 @@ pub fn assert_fault(rt: &impl Abort, words: &str, found: (u8, usize), expected: 
 
 /// The number of a text's fault and its offset, 0 if it has none; two zeros if there is no fault.
 pub fn fault_of_text(alloc: Global, text: &[u8]) -> (u8, usize) {
-    fault_of(parse(alloc, text))
+    let answer = parse(alloc, text);
+    fault_of(&answer)
 }
 
-fn fault_of(answer: Result<Specification, TextFault>) -> (u8, usize) {
+fn fault_of(answer: &Result<Specification, TextFault>) -> (u8, usize) {
     match answer {
         Ok(_) => (0, 0),
-        Err(TextFault::E01(at)) => (1, at),
-        Err(TextFault::E02(at)) => (2, at),
+        Err(TextFault::E01(at)) => (1, *at),
+        Err(TextFault::E02(at)) => (2, *at),
         Err(TextFault::E03) => (3, 0),
-        Err(TextFault::E04(at)) => (4, at),
-        Err(TextFault::E05(at)) => (5, at),
-        Err(TextFault::E06(at)) => (6, at),
-        Err(TextFault::E07(at)) => (7, at),
+        Err(TextFault::E04(at)) => (4, *at),
+        Err(TextFault::E05(at)) => (5, *at),
+        Err(TextFault::E06(at)) => (6, *at),
+        Err(TextFault::E07(at)) => (7, *at),
         Err(TextFault::E99(_)) => (99, 0),
     }
 }

@@ -2,10 +2,14 @@
 use super::table_texts::{FRONT, assert_fault, fault_of_text, joined};
 use lotos_text::TEXT_LIMIT;
 use std::alloc::{AllocError, Global};
+use std::process::Abort;
 use std::test::Fail;
 
 /// A text up to the first process definition, which begins at offset 46.
 const WHERE: &str = "specification S : noexit behaviour stop where ";
+
+/// What is wrong, the rest of the text, and the number and the offset of the fault.
+type Row = (&'static str, &'static str, u8, usize);
 
 /// The fault of a text in two parts.
 fn joined_fault(alloc: Global, front: &str, rest: &str) -> Result<(u8, usize), AllocError> {
@@ -13,8 +17,8 @@ fn joined_fault(alloc: Global, front: &str, rest: &str) -> Result<(u8, usize), A
     Ok(fault_of_text(alloc, text.as_bytes()))
 }
 
-/// What is wrong, the text after the header, and the number and the offset of the fault.
-const BEHAVIOURS: &[(&str, &str, u8, usize)] = &[
+/// Operands that do not fit together, and operands before what does not follow them.
+const OPERANDS: &[Row] = &[
     ("two operands", "stop stop endspec", 4, 40),
     ("no operand", "endspec", 4, 35),
     ("an action with no semicolon", "i stop endspec", 4, 37),
@@ -27,6 +31,10 @@ const BEHAVIOURS: &[(&str, &str, u8, usize)] = &[
     ("parentheses before a gate list", "(P) [a] endspec", 4, 39),
     ("parentheses before a semicolon", "(a); stop endspec", 4, 38),
     ("`stop` before a gate list", "stop [a] endspec", 4, 40),
+];
+
+/// Operators without an operand, and parentheses that do not match.
+const OPERATORS: &[Row] = &[
     ("a choice of nothing", "stop [] endspec", 4, 43),
     (
         "a choice that begins with its sign",
@@ -46,6 +54,10 @@ const BEHAVIOURS: &[(&str, &str, u8, usize)] = &[
     ("parentheses that stay open", "(stop endspec", 4, 41),
     ("parentheses about nothing", "() endspec", 4, 36),
     ("parentheses that nothing opened", "stop) endspec", 4, 39),
+];
+
+/// Lists of gates, of calls, of hiding and of synchronization.
+const GATE_LISTS: &[Row] = &[
     ("the sign of choice as a gate list", "P[] endspec", 4, 39),
     ("a gate list without names", "P[ ] endspec", 4, 38),
     ("a gate list of a sign", "P[;] endspec", 4, 37),
@@ -93,6 +105,10 @@ const BEHAVIOURS: &[(&str, &str, u8, usize)] = &[
         42,
     ),
     ("a bar alone", "stop | stop endspec", 4, 40),
+];
+
+/// Words in the wrong place, and bytes that begin no token.
+const WORDS_AND_BYTES: &[Row] = &[
     ("`where` before nothing", "stop where endspec", 4, 46),
     ("`where` before no behaviour", "where endspec", 4, 35),
     ("a word of full LOTOS", "choice endspec", 7, 35),
@@ -140,6 +156,10 @@ const BEHAVIOURS: &[(&str, &str, u8, usize)] = &[
         2,
         45,
     ),
+];
+
+/// Texts that end too early.
+const ENDS: &[Row] = &[
     ("a text that ends before the operand", "", 6, 35),
     ("a text that ends after a name", "a", 6, 36),
     ("a text that ends after a semicolon", "a;", 6, 37),
@@ -157,17 +177,47 @@ const BEHAVIOURS: &[(&str, &str, u8, usize)] = &[
     ("a text that ends after a comment", "stop (* *)", 6, 45),
 ];
 
-#[test]
-fn rejects_behaviour_expressions(rt: HostRuntime) -> Result<(), Fail> {
-    for (words, expression, number, at) in BEHAVIOURS {
-        let found = joined_fault(rt.alloc(), FRONT, expression)?;
-        assert_fault(&rt, words, found, (*number, *at));
+/// Expects the fault of each text that begins so.
+fn assert_rejected(
+    rt: &impl Abort,
+    alloc: Global,
+    front: &str,
+    rows: &[Row],
+) -> Result<(), AllocError> {
+    for (words, rest, number, at) in rows {
+        let found = joined_fault(alloc, front, rest)?;
+        assert_fault(rt, words, found, (*number, *at));
     }
     Ok(())
 }
 
-/// What is wrong, the text after `where`, and the number and the offset of the fault.
-const DEFINITIONS: &[(&str, &str, u8, usize)] = &[
+#[test]
+fn rejects_operands(rt: HostRuntime) -> Result<(), Fail> {
+    Ok(assert_rejected(&rt, rt.alloc(), FRONT, OPERANDS)?)
+}
+
+#[test]
+fn rejects_operators(rt: HostRuntime) -> Result<(), Fail> {
+    Ok(assert_rejected(&rt, rt.alloc(), FRONT, OPERATORS)?)
+}
+
+#[test]
+fn rejects_gate_lists(rt: HostRuntime) -> Result<(), Fail> {
+    Ok(assert_rejected(&rt, rt.alloc(), FRONT, GATE_LISTS)?)
+}
+
+#[test]
+fn rejects_words_and_bytes(rt: HostRuntime) -> Result<(), Fail> {
+    Ok(assert_rejected(&rt, rt.alloc(), FRONT, WORDS_AND_BYTES)?)
+}
+
+#[test]
+fn rejects_texts_that_end_too_early(rt: HostRuntime) -> Result<(), Fail> {
+    Ok(assert_rejected(&rt, rt.alloc(), FRONT, ENDS)?)
+}
+
+/// What follows the keyword `where`.
+const DEFINITIONS: &[Row] = &[
     ("the end", "endspec", 4, 46),
     ("a name", "P : noexit := stop endproc endspec", 4, 46),
     (
@@ -247,14 +297,9 @@ const DEFINITIONS: &[(&str, &str, u8, usize)] = &[
     ),
 ];
 
-/// What follows the keyword `where`. It begins at offset 46.
 #[test]
 fn rejects_definitions(rt: HostRuntime) -> Result<(), Fail> {
-    for (words, definitions, number, at) in DEFINITIONS {
-        let found = joined_fault(rt.alloc(), WHERE, definitions)?;
-        assert_fault(&rt, words, found, (*number, *at));
-    }
-    Ok(())
+    Ok(assert_rejected(&rt, rt.alloc(), WHERE, DEFINITIONS)?)
 }
 
 #[test]

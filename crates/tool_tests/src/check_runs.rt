@@ -11,7 +11,10 @@ const CHECK: &[&str] = &["lotosseq", "check"];
 
 const SEARCH: &[&str] = &["lotosseq", "search", "--depth", "1", "A"];
 
-const ACCEPTED: &[(&str, &[u8], &[u8])] = &[
+/// What is tested, a text, and the lines of its check or the message.
+type Row = (&'static str, &'static [u8], &'static [u8]);
+
+const ACCEPTED: &[Row] = &[
     (
         "inner processes after their own, one with a name of an outer one",
         b"specification S [a] : noexit behaviour P[a] where process P [x] : noexit := Q[x] where process Q [y] : noexit := y; P[y] endproc endproc process Q [x,y] : noexit := x; y; stop endproc endspec",
@@ -49,7 +52,8 @@ const ACCEPTED: &[(&str, &[u8], &[u8])] = &[
     ),
 ];
 
-const REFUSED: &[(&str, &[u8], &[u8])] = &[
+/// A fault of each kind.
+const FAULTS: &[Row] = &[
     (
         "a gate that is not declared",
         b"specification S [a] : noexit behaviour b; stop endspec",
@@ -120,6 +124,10 @@ const REFUSED: &[(&str, &[u8], &[u8])] = &[
         b"specification S [a] : noexit behaviour a; stop where process T [x] : noexit := x; T[x] endproc process P [x] : noexit := Q[x] endproc process Q [x] : noexit := P[x] [] T[x] endproc process R [x] : noexit := P[x] endproc endspec",
         b"lotosseq: 1:104: E27 the unguarded calls of P do not end\n",
     ),
+];
+
+/// Names that their place does not see.
+const SCOPES: &[Row] = &[
     (
         "a gate of the outer process",
         b"specification S [a] : noexit behaviour P[a] where process P [x] : noexit := Q where process Q : noexit :=\n x; stop endproc endproc endspec",
@@ -151,6 +159,15 @@ const REFUSED: &[(&str, &[u8], &[u8])] = &[
         b"lotosseq: 1:59: E27 the unguarded calls of P do not end\n",
     ),
     (
+        "a gate that is hidden in the other operand",
+        b"specification S : noexit behaviour (hide b in b; stop) ||| hide c in b; stop endspec",
+        b"lotosseq: 1:70: E21 gate B is not declared\n",
+    ),
+];
+
+/// Texts with two faults.
+const ORDER: &[Row] = &[
+    (
         "two faults of one pass, by their places",
         b"specification S [a] : noexit behaviour b; Q[a] endspec",
         b"lotosseq: 1:40: E21 gate B is not declared\n",
@@ -175,6 +192,10 @@ const REFUSED: &[(&str, &[u8], &[u8])] = &[
         b"specification S : noexit behaviour stop where process P : noexit := P endproc process Q : noexit := exit endproc endspec",
         b"lotosseq: 1:87: E25 Q is declared noexit and is exit\n",
     ),
+];
+
+/// Functionalities of composed behaviours.
+const FUNCTIONALITIES: &[Row] = &[
     (
         "a parallel expression of which one side exits",
         b"specification S : exit behaviour exit ||| stop endspec",
@@ -199,11 +220,6 @@ const REFUSED: &[(&str, &[u8], &[u8])] = &[
         "a left operand that is a call of a process with noexit",
         b"specification S : noexit behaviour P >> stop where process P : noexit := stop endproc endspec",
         b"lotosseq: 1:38: E26 left side of >> never exits\n",
-    ),
-    (
-        "a gate that is hidden in the other operand",
-        b"specification S : noexit behaviour (hide b in b; stop) ||| hide c in b; stop endspec",
-        b"lotosseq: 1:70: E21 gate B is not declared\n",
     ),
 ];
 
@@ -269,12 +285,32 @@ fn expect_fault(
     expect(rt, alloc, &run, &outcome);
 }
 
+/// Expects the message of each text of a check and of a search.
+fn expect_faults(rt: &impl Abort, alloc: Global, rows: &[Row]) {
+    for (name, text, message) in rows {
+        expect_fault(rt, alloc, *name, CHECK, *text, *message);
+        expect_fault(rt, alloc, *name, SEARCH, *text, *message);
+    }
+}
+
+#[test]
+fn names_each_fault(rt: HostRuntime) {
+    expect_faults(&rt, rt.alloc(), FAULTS);
+}
+
+#[test]
+fn names_faults_of_scopes(rt: HostRuntime) {
+    expect_faults(&rt, rt.alloc(), SCOPES);
+}
+
 #[test]
 fn names_the_first_fault(rt: HostRuntime) {
-    for (name, text, message) in REFUSED {
-        expect_fault(&rt, rt.alloc(), *name, CHECK, *text, *message);
-        expect_fault(&rt, rt.alloc(), *name, SEARCH, *text, *message);
-    }
+    expect_faults(&rt, rt.alloc(), ORDER);
+}
+
+#[test]
+fn names_faults_of_functionalities(rt: HostRuntime) {
+    expect_faults(&rt, rt.alloc(), FUNCTIONALITIES);
 }
 
 const TEXT: &[u8] =

@@ -24,7 +24,8 @@ const NEVER: &[u8] = b"lotosseq: it happens at no depth\n";
 const BUFFER: &[u8] =
     b"specification S [a,b] : noexit behaviour P[a,b] where process P [x,y] : noexit := x; y; P[x,y] endproc endspec";
 
-const ROWS: &[Row] = &[
+/// Matches, and patterns that match at no depth.
+const MATCHES: &[Row] = &[
     Row {
         name: "two steps and termination",
         text: b"specification S [a,b] : exit behaviour a; b; exit endspec",
@@ -105,6 +106,10 @@ const ROWS: &[Row] = &[
         message: NEVER,
         status: 1,
     },
+];
+
+/// Empty sequences, and deadlocks.
+const EMPTY_SEQUENCES: &[Row] = &[
     Row {
         name: "no word matches the empty sequence alone",
         text: b"specification S [a] : noexit behaviour a; stop endspec",
@@ -137,6 +142,10 @@ const ROWS: &[Row] = &[
         message: NEVER,
         status: 1,
     },
+];
+
+/// Searches with a bound on the states.
+const BOUNDS: &[Row] = &[
     Row {
         name: "more states than one",
         text: b"specification S [a,b] : noexit behaviour a; b; stop endspec",
@@ -161,6 +170,10 @@ const ROWS: &[Row] = &[
         message: b"lotosseq: stopped: more than 20 states\n",
         status: 4,
     },
+];
+
+/// Words that name no gate, and texts that are refused.
+const REFUSALS: &[Row] = &[
     Row {
         name: "a word that is no gate",
         text: b"specification S [a] : noexit behaviour a; stop endspec",
@@ -241,11 +254,30 @@ fn expect_row(rt: &impl Abort, alloc: Global, row: &Row) {
     expect(rt, alloc, &run, &outcome);
 }
 
-#[test]
-fn answers(rt: HostRuntime) {
-    for row in ROWS {
-        expect_row(&rt, rt.alloc(), row);
+fn expect_rows(rt: &impl Abort, alloc: Global, rows: &[Row]) {
+    for row in rows {
+        expect_row(rt, alloc, row);
     }
+}
+
+#[test]
+fn matches(rt: HostRuntime) {
+    expect_rows(&rt, rt.alloc(), MATCHES);
+}
+
+#[test]
+fn empty_sequences_and_deadlocks(rt: HostRuntime) {
+    expect_rows(&rt, rt.alloc(), EMPTY_SEQUENCES);
+}
+
+#[test]
+fn bounds_on_the_states(rt: HostRuntime) {
+    expect_rows(&rt, rt.alloc(), BOUNDS);
+}
+
+#[test]
+fn refusals(rt: HostRuntime) {
+    expect_rows(&rt, rt.alloc(), REFUSALS);
 }
 
 /// Command lines with patterns that are refused before anything is read, and the message of each.

@@ -420,11 +420,14 @@ const VERSION: &str = "lotosseq 0.1.0 (proved, logic dac8208d650f15bf)
 ";
 
 /// Words that ask for help or for the version, and the text.
-const ROWS: &[(&[&str], &str)] = &[
+type Row = (&'static [&'static str], &'static str);
+
+const LONG: &[Row] = &[
     (&["lotosseq", "--help"], PROGRAM),
-    (&["lotosseq", "search", "--help"], SEARCH),
-    (&["lotosseq", "ever", "--help"], EVER),
     (&["lotosseq", "check", "--help"], CHECK),
+];
+
+const SHORT: &[Row] = &[
     (&["lotosseq", "-h"], PROGRAM_SUMMARY),
     (&["lotosseq", "search", "-h"], SEARCH_SUMMARY),
     (&["lotosseq", "ever", "-h"], EVER_SUMMARY),
@@ -433,9 +436,28 @@ const ROWS: &[(&[&str], &str)] = &[
     (&["lotosseq", "-V"], VERSION),
 ];
 
-#[test]
-fn each_help(rt: HostRuntime) {
-    for (words, text) in ROWS {
-        expect_text(&rt, rt.alloc(), *words, *text);
+fn expect_texts(rt: &impl Abort, alloc: Global, rows: &[Row]) {
+    for (words, text) in rows {
+        expect_text(rt, alloc, *words, *text);
     }
+}
+
+#[test]
+fn the_program_and_check(rt: HostRuntime) {
+    expect_texts(&rt, rt.alloc(), LONG);
+}
+
+#[test]
+fn summaries_and_the_version(rt: HostRuntime) {
+    expect_texts(&rt, rt.alloc(), SHORT);
+}
+
+#[test]
+fn search(rt: HostRuntime) {
+    expect_text(&rt, rt.alloc(), &["lotosseq", "search", "--help"], SEARCH);
+}
+
+#[test]
+fn ever(rt: HostRuntime) {
+    expect_text(&rt, rt.alloc(), &["lotosseq", "ever", "--help"], EVER);
 }

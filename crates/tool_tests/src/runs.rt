@@ -66,8 +66,8 @@ pub const SINGLE_BYTES: Run<'static, 'static> = Run {
     ..RUN
 };
 
-/// What is expected of a run: what it writes, its status, and how often it flushes the output.
-#[derive(Clone, Copy)]
+/// What a run comes to: what it writes, its status, and how often it flushes the output.
+#[derive(Clone, Copy, Debug, PartialEq)]
 pub struct Outcome<'a> {
     pub output: &'a [u8],
     pub message: &'a [u8],
@@ -90,6 +90,18 @@ pub struct Ran {
     pub message: ArrayWriter,
     pub reads: usize,
     pub status: u8,
+}
+
+impl Ran {
+    /// What the run has come to.
+    fn outcome(&self) -> Outcome<'_> {
+        Outcome {
+            output: self.output.got(),
+            message: self.message.got(),
+            status: self.status,
+            flushes: self.output.flushes,
+        }
+    }
 }
 
 impl Run<'_, '_> {
@@ -153,11 +165,7 @@ pub fn expect(rt: &impl Abort, alloc: Global, run: &Run<'_, '_>, outcome: &Outco
 
 /// Expects that the run has ended so.
 fn expect_outcome(rt: &impl Abort, run: &Run<'_, '_>, ran: &Ran, outcome: &Outcome<'_>) {
-    let (name, number) = (run.name, run.number);
-    assert_eq!(rt; ran.output.got(), outcome.output, "{name}, {number}");
-    assert_eq!(rt; ran.message.got(), outcome.message, "{name}, {number}");
-    assert_eq!(rt; ran.status, outcome.status, "{name}, {number}");
-    assert_eq!(rt; ran.output.flushes, outcome.flushes, "{name}, {number}");
+    assert_eq!(rt; ran.outcome(), *outcome, "{}, {}", run.name, run.number);
 }
 
 /// What is expected of bytes that are written.
@@ -215,6 +223,18 @@ pub const UNREAD: Parts<'static> = Parts {
     flushes: Some(0),
 };
 
+impl Parts<'_> {
+    /// Whether the run has ended as expected.
+    fn fit(&self, ran: &Ran) -> bool {
+        let found = ran.outcome();
+        self.output.fit(found.output)
+            && self.message.fit(found.message)
+            && self.status == found.status
+            && self.reads.unwrap_or(ran.reads) == ran.reads
+            && self.flushes.unwrap_or(found.flushes) == found.flushes
+    }
+}
+
 /// Runs the command, and expects this in part.
 pub fn expect_parts(rt: &impl Abort, alloc: Global, run: &Run<'_, '_>, parts: &Parts<'_>) {
     let ran = run.finish(alloc);
@@ -223,25 +243,13 @@ pub fn expect_parts(rt: &impl Abort, alloc: Global, run: &Run<'_, '_>, parts: &P
 
 /// Expects that the run has ended so.
 fn expect_ended(rt: &impl Abort, run: &Run<'_, '_>, ran: &Ran, parts: &Parts<'_>) {
-    let (name, number) = (run.name, run.number);
     assert!(rt;
-        parts.output.fit(ran.output.got()),
-        "output of {name}, {number}"
-    );
-    assert!(rt;
-        parts.message.fit(ran.message.got()),
-        "message of {name}, {number}"
-    );
-    assert_eq!(rt; ran.status, parts.status, "{name}, {number}");
-    assert_eq!(rt;
-        ran.reads,
-        parts.reads.unwrap_or(ran.reads),
-        "{name}, {number}"
-    );
-    assert_eq!(rt;
-        ran.output.flushes,
-        parts.flushes.unwrap_or(ran.output.flushes),
-        "{name}, {number}"
+        parts.fit(ran),
+        "{}, {}: {:?}, {} reads",
+        run.name,
+        run.number,
+        ran.outcome(),
+        ran.reads
     );
 }
 

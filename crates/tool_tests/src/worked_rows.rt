@@ -19,7 +19,8 @@ struct Row {
     status: u8,
 }
 
-const ROWS: &[Row] = &[
+/// Texts that are accepted.
+const LISTINGS: &[Row] = &[
     Row {
         name: "a derivation of exactly the depth",
         text: b"specification S [a,b] : exit behaviour a; b; exit endspec",
@@ -108,6 +109,10 @@ const ROWS: &[Row] = &[
         message: b"",
         status: 1,
     },
+];
+
+/// Texts that are refused.
+const REFUSALS: &[Row] = &[
     Row {
         name: "a gate that is not declared",
         text: b"specification S [a] : noexit behaviour b; stop endspec",
@@ -204,13 +209,22 @@ fn expect_search(rt: &impl Abort, alloc: Global, row: &Row, piece: usize) {
     expect(rt, alloc, &run, &outcome);
 }
 
-#[test]
-fn searches(rt: HostRuntime) {
-    for row in ROWS {
+fn expect_searches(rt: &impl Abort, alloc: Global, rows: &[Row]) {
+    for row in rows {
         for piece in [1usize, 7, 4096] {
-            expect_search(&rt, rt.alloc(), row, piece);
+            expect_search(rt, alloc, row, piece);
         }
     }
+}
+
+#[test]
+fn searches(rt: HostRuntime) {
+    expect_searches(&rt, rt.alloc(), LISTINGS);
+}
+
+#[test]
+fn searches_of_texts_that_are_refused(rt: HostRuntime) {
+    expect_searches(&rt, rt.alloc(), REFUSALS);
 }
 
 /// Command lines with patterns that are refused before anything is read, and the message of each.

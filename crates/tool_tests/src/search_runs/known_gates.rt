@@ -7,7 +7,8 @@ use std::process::Abort;
 
 const TWO_STEPS: &[u8] = b"specification S [a,b] : exit behaviour a; b; exit endspec";
 
-const ROWS: &[Row] = &[
+/// Words that are misspelt, with and without the option.
+const MISSPELT: &[Row] = &[
     Row {
         name: "each word names a gate, in any case, or is exit",
         text: TWO_STEPS,
@@ -84,6 +85,10 @@ const ROWS: &[Row] = &[
         message: b"lotosseq: E49 word 2 is no gate of the specification\n",
         status: 2,
     },
+];
+
+/// Gates that are not of the specification's own list, and words that are none.
+const SCOPES: &[Row] = &[
     Row {
         name: "a gate that is hidden",
         text: b"specification S [a] : noexit behaviour hide b in b; a; stop endspec",
@@ -152,6 +157,10 @@ const ROWS: &[Row] = &[
         message: b"",
         status: 0,
     },
+];
+
+/// Words that name no gate beside other faults, and marks.
+const FAULTS: &[Row] = &[
     Row {
         name: "a gate that is not declared, and a word that is no gate",
         text: b"specification S [a] : noexit behaviour b; stop endspec",
@@ -210,11 +219,25 @@ fn expect_row(rt: &impl Abort, alloc: Global, row: &Row) {
     expect(rt, alloc, &run, &outcome);
 }
 
-#[test]
-fn words_that_name_no_gate(rt: HostRuntime) {
-    for row in ROWS {
-        expect_row(&rt, rt.alloc(), row);
+fn expect_rows(rt: &impl Abort, alloc: Global, rows: &[Row]) {
+    for row in rows {
+        expect_row(rt, alloc, row);
     }
+}
+
+#[test]
+fn words_that_are_misspelt(rt: HostRuntime) {
+    expect_rows(&rt, rt.alloc(), MISSPELT);
+}
+
+#[test]
+fn gates_of_other_lists(rt: HostRuntime) {
+    expect_rows(&rt, rt.alloc(), SCOPES);
+}
+
+#[test]
+fn words_that_name_no_gate_beside_faults_and_marks(rt: HostRuntime) {
+    expect_rows(&rt, rt.alloc(), FAULTS);
 }
 
 /// Command lines with words that name no gate, and a fault that is found before anything is read; its message.
