@@ -16,7 +16,7 @@ use Rattle.lotos_search.specs.declared.fault.MarkFault.TheVariants as mark_fault
 use Rattle.lotos_tool.specs.ListingOutcome.{SearchOutcome, IsQuestionOfText}
 use Rattle.lotos_tool.specs.RefusalCauses.{IsMarkOf, IsMarkRefused, words_of}
 use Rattle.lotos_tool.specs.OutcomeFlags.{is_input_fault}
-use Rattle.lotos_tool.specs.SearchSetup.{HasNoRefusedGate, IsFirstRefusedGate, ListingOutcome, IsSearchFor, IsFaultOfMark, IsMarkOutcome}
+use Rattle.lotos_tool.specs.SearchSetup.{HasNoRefusedGate, IsFirstRefusedGate, ListingOutcome, IsSearchFor, IsFaultOfMark, IsMarkOutcome, IsOutcomeFor}
 use Rattle.lotos_tool.specs.AcceptedText.{ReadsAccepted}
 use Rattle.lotos_tool.specs.declared.refusal.Refusal.TheVariants as refusal
 use Rattle.lotos_tool.specs.declared.outcome.Ended.{Ended}
@@ -69,6 +69,25 @@ answered request left left' got got' q mark (Stopped last why.Limit) asks h = (q
 answered request left left' got got' q mark (Stopped last (why.OverTerms prefix)) asks h = (q, mark, asks, h)
 answered request left left' got got' q mark (Stopped last why.Memory) asks h = inr (q, mark, asks, h)
 answered request left left' got got' q mark (Stopped last why.Write) asks h = (q, mark, asks, h)
+
+-- the outcome for the system is that of the search
+pub told : (request : SearchRequest) (left left' got got' : Option (List ℕ)) (system : System) (p : Pattern) (mark : Option (List Label)) (ended : Ended) →
+    ReadsAccepted left left' system → PatternOf request.strong (words_of request) p → IsMarkOf request.strong request.after mark →
+    HasNoRefusedGate request system → IsOutcomeFor request system p mark got got' ended → SearchOutcome request left left' got got' ended
+told request left left' got got' system p mark ended read pattern marked known h = elim h [
+  | inl begun ↦ answered request left left' got got' begun.0.question begun.0.cursor ended
+      (asks request left left' system p mark begun.0 read pattern marked known begun.1) begun.2
+  | inr stopped ↦ subst (SearchOutcome request left left' got got') (sym stopped.0)
+      (inl (record { taken = (read.text, (let w = read.read.within in omega arith), read.read.bytes); kept = stopped.1; no_line = refl }))
+]
+
+-- no outcome for the system is an input fault
+pub told_was_read : (request : SearchRequest) (got got' : Option (List ℕ)) (system : System) (p : Pattern) (mark : Option (List Label)) (ended : Ended) →
+    IsOutcomeFor request system p mark got got' ended → is_input_fault ended ≡ false
+told_was_read request got got' system p mark ended h = elim h [
+  | inl begun ↦ no_input_fault request got got' begun.0.question begun.0.cursor ended begun.2
+  | inr stopped ↦ subst (λ (e : Ended). is_input_fault e ≡ false) (sym stopped.0) refl
+]
 
 -- the outcome if the line is not one of a listing, or memory ran out when it was read
 pub mark_refused : (request : SearchRequest) (left got : Option (List ℕ)) (p : Pattern) (fault : MarkFault) (ended : Ended) →

@@ -3,10 +3,11 @@ ghost use Rattle.std.specs.Prelude.{◌≡◌, ◌+◌, ◌≤◌, IfErr, IfOk, 
 ghost use Rattle.lotos_text.specs.Limits.{max_text_length};
 ghost use Rattle.lotos_check.specs.CheckedView.{system_of};
 ghost use Rattle.lotos_tool.specs.ListingOutcome.{SearchOutcome};
-ghost use Rattle.lotos_tool.specs.RefusalCauses.{IsMarkOf};
+ghost use Rattle.lotos_pattern.specs.Spelling.{PatternOf};
+ghost use Rattle.lotos_tool.specs.RefusalCauses.{IsMarkOf, words_of};
 ghost use Rattle.lotos_tool.specs.OutcomeFlags.{is_input_fault, is_output_fault};
 ghost use Rattle.lotos_command.specs.Request.{HasSearchBounds};
-ghost use Rattle.lotos_tool.specs.SearchSetup.{HasNoRefusedGate, IsFirstRefusedGate, IsSearchFor, IsFaultOfMark, IsMarkOutcome, IsPatternOutcome};
+ghost use Rattle.lotos_tool.specs.SearchSetup.{HasNoRefusedGate, IsFirstRefusedGate, IsSearchFor, IsFaultOfMark, IsMarkOutcome, IsOutcomeFor, IsPatternOutcome};
 ghost use Rattle.lotos_tool.specs.declared.outcome.Ended.TheVariants.{Stopped};
 ghost use Rattle.lotos_tool.specs.declared.outcome.Why.TheVariants.{Memory};
 
@@ -79,20 +80,61 @@ pub fn list_with_progress<R: Source, W: Sink, P: OutputProgress>(
         Ok(pattern) => pattern,
         Err(fault) => return pattern_refusal(fault),
     };
-    let mark = match read_mark(alloc, request) {
-        Ok(mark) => mark,
-        Err(fault) => return mark_refusal(fault),
-    };
+    match read_mark(alloc, request) {
+        Ok(mark) => list_text(alloc, request, pattern, mark, reader, writer, progress),
+        Err(fault) => mark_refusal(fault),
+    }
+}
+
+/// Reads a specification and writes its listing for the pattern and the mark of the request.
+fn list_text<R: Source, W: Sink, P: OutputProgress>(
+    alloc: Global,
+    request: &SearchRequest,
+    pattern: Pattern,
+    mark: Option<Mark>,
+    reader: &mut R,
+    writer: &mut W,
+    progress: &mut P,
+) -> Ended
+    requires bounds { HasSearchBounds request.now }
+    requires pattern { PatternOf request.now.strong (words_of request.now) pattern }
+    requires mark { IsMarkOf request.now.strong request.now.after mark }
+    requires reader { R.has_failed reader.old ≡ false }
+    requires writer { W.has_failed writer.old ≡ false }
+    ensures answers { SearchOutcome request.now (R.left reader.old) (R.left reader.new)
+        (W.got writer.old) (W.got writer.new) result }
+    ensures given { R.given reader.new ≤ R.given reader.old + (max_text_length + 1) }
+    ensures input { R.has_failed reader.new ≡ is_input_fault result }
+    ensures output { W.has_failed writer.new ≡ is_output_fault result }
+{
     let found = match read_specification(alloc, reader) {
         Ok(found) => found,
         Err(Rejection::Refused(refusal)) => return Ended::Refused(refusal),
         Err(Rejection::Memory) => return out_of_memory(),
     };
     match find_refused_gate(alloc, request, &found) {
-        Ok(None) => {}
-        Ok(Some(number)) => return Ended::Refused(Refusal::E49(number)),
-        Err(AllocError) => return out_of_memory(),
+        Ok(None) => list_system(alloc, request, found, pattern, mark, writer, progress),
+        Ok(Some(number)) => Ended::Refused(Refusal::E49(number)),
+        Err(AllocError) => out_of_memory(),
     }
+}
+
+/// Writes the listing of an accepted specification.
+fn list_system<W: Sink, P: OutputProgress>(
+    alloc: Global,
+    request: &SearchRequest,
+    found: Checked,
+    pattern: Pattern,
+    mark: Option<Mark>,
+    writer: &mut W,
+    progress: &mut P,
+) -> Ended
+    requires bounds { HasSearchBounds request.now }
+    requires writer { W.has_failed writer.old ≡ false }
+    ensures outcome { IsOutcomeFor request.now (system_of found) pattern mark
+        (W.got writer.old) (W.got writer.new) result }
+    ensures failed { W.has_failed writer.new ≡ is_output_fault result }
+{
     match begin_search(alloc, request, found, pattern, mark) {
         Ok(mut search) => write_listing(alloc, request, &mut search, writer, progress),
         Err(AllocError) => out_of_memory(),
