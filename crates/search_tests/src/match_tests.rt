@@ -43,7 +43,8 @@ const MANY: usize = 1000;
 
 const LOOP: &str = "noexit behaviour P[a,b] where process P [x,y] : noexit := x; y; P[x,y] endproc";
 
-const ROWS: &[Row] = &[
+/// Matches, and patterns that match at no depth.
+const ANSWERS: &[Row] = &[
     // The empty sequence, and a start that is a deadlock.
     Row {
         behaviour: "noexit behaviour stop",
@@ -141,6 +142,10 @@ const ROWS: &[Row] = &[
         states: MANY,
         answer: Answer::Found(&[A, B, A, B, A], &[A, B, A, B, A]),
     },
+];
+
+/// Which of several matches is found.
+const FIRST_MATCHES: &[Row] = &[
     // The fewest steps, although another run begins with a smaller label.
     Row {
         behaviour: "noexit behaviour a; i; i; b; stop [] i; a; b; stop",
@@ -244,6 +249,10 @@ const ROWS: &[Row] = &[
         states: MANY,
         answer: Answer::Found(&[EXIT], &[EXIT]),
     },
+];
+
+/// Bounds on the states, and recursions.
+const STATES: &[Row] = &[
     // Too few states, and just enough.
     Row {
         behaviour: "noexit behaviour a; stop",
@@ -414,13 +423,27 @@ fn has_answer(alloc: Global, row: Row) -> Result<bool, Fail> {
     has_answer_in(alloc, &mut table, row)
 }
 
-#[test]
-fn answers_rows(rt: HostRuntime) -> Result<(), Fail> {
-    for row in ROWS {
-        let holds = has_answer(rt.alloc(), *row)?;
-        assert_answer(&rt, *row, holds);
+fn assert_answers(rt: &impl Abort, alloc: Global, rows: &[Row]) -> Result<(), Fail> {
+    for row in rows {
+        let holds = has_answer(alloc, *row)?;
+        assert_answer(rt, *row, holds);
     }
     Ok(())
+}
+
+#[test]
+fn answers_whether_there_is_a_match(rt: HostRuntime) -> Result<(), Fail> {
+    assert_answers(&rt, rt.alloc(), ANSWERS)
+}
+
+#[test]
+fn answers_with_the_first_match(rt: HostRuntime) -> Result<(), Fail> {
+    assert_answers(&rt, rt.alloc(), FIRST_MATCHES)
+}
+
+#[test]
+fn answers_within_the_states(rt: HostRuntime) -> Result<(), Fail> {
+    assert_answers(&rt, rt.alloc(), STATES)
 }
 
 fn assert_answer(rt: &impl Abort, row: Row, holds: bool) {
