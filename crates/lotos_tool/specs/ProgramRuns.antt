@@ -41,15 +41,19 @@ status_of (Complete lines) = if lines == 0 then 1 else 0
 status_of (Refused cause) = 2
 status_of (Stopped last cause) = stop_status_of cause
 
--- the words ask for a search, which had an outcome, and the status is that of the outcome
-pub record SearchRan (words : List (List ℕ)) (left left' got got' : Option (List ℕ)) (failed : Bool) (status : ℕ) : Type 0 where
-  pub request : SearchRequest
-  pub asked : RequestOf words (request_view (command.Search request))
+-- a search had an outcome, and the status is that of the outcome
+pub record SearchReported (request : SearchRequest) (left left' got got' : Option (List ℕ)) (failed : Bool) (status : ℕ) : Type 0 where
   pub ended : Ended
   pub answered : SearchOutcome request left left' got got' ended
   -- the reader failed exactly if the outcome says so
   pub input : failed ≡ is_input_fault ended
   pub status_is : status ≡ status_of ended
+
+-- the words ask for a search, which had an outcome, and the status is that of the outcome
+pub record SearchRan (words : List (List ℕ)) (left left' got got' : Option (List ℕ)) (failed : Bool) (status : ℕ) : Type 0 where
+  pub request : SearchRequest
+  pub asked : RequestOf words (request_view (command.Search request))
+  pub reported : SearchReported request left left' got got' failed status
 
 -- the status of a check: that of a search, but 0 if it is complete
 abbrev pub check_status_of : Ended → ℕ
@@ -105,15 +109,19 @@ ever_status_of ever.NoMatch = 1
 ever_status_of (ever.Refused cause) = 2
 ever_status_of (ever.Stopped cause) = ever_stop_status_of cause
 
--- the words ask for a match of any length, the search for it had an outcome, and the status is that of the outcome
-pub record EverRan (words : List (List ℕ)) (left left' got got' : Option (List ℕ)) (failed : Bool) (status : ℕ) : Type 0 where
-  pub request : EverRequest
-  pub asked : RequestOf words (request_view (command.Ever request))
+-- a search for a match had an outcome, and the status is that of the outcome
+pub record EverReported (request : EverRequest) (left left' got got' : Option (List ℕ)) (failed : Bool) (status : ℕ) : Type 0 where
   pub ended : EverEnded
   pub answered : EverOutcome request left left' got got' ended
   -- the reader failed exactly if the outcome says so
   pub input : failed ≡ is_ever_input_fault ended
   pub status_is : status ≡ ever_status_of ended
+
+-- the words ask for a match of any length, the search for it had an outcome, and the status is that of the outcome
+pub record EverRan (words : List (List ℕ)) (left left' got got' : Option (List ℕ)) (failed : Bool) (status : ℕ) : Type 0 where
+  pub request : EverRequest
+  pub asked : RequestOf words (request_view (command.Ever request))
+  pub reported : EverReported request left left' got got' failed status
 
 -- the text was written and the status is 0, or the output failed after a prefix of it, perhaps all of it, and the
 -- status is 6

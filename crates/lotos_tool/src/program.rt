@@ -3,8 +3,8 @@ ghost use Rattle.std.specs.Prelude.{◌≡◌, ◌+◌, ◌≤◌, ◌==◌, fal
 ghost use Rattle.lotos_text.specs.Limits.{max_text_length};
 ghost use Rattle.lotos_tool.specs.OutcomeFlags.{is_output_cause, is_output_fault};
 ghost use Rattle.lotos_tool.specs.EverOutcomeContracts.{is_ever_output_cause, is_ever_output_fault};
-ghost use Rattle.lotos_command.specs.Request.{texts_of};
-ghost use Rattle.lotos_tool.specs.ProgramRuns.{HelpWritten, IsAnswerTo, Ran, check_status_of, ever_status_of, ever_stop_status_of, status_of, stop_status_of};
+ghost use Rattle.lotos_command.specs.Request.{HasSearchBounds, texts_of};
+ghost use Rattle.lotos_tool.specs.ProgramRuns.{EverReported, HelpWritten, IsAnswerTo, Ran, SearchReported, check_status_of, ever_status_of, ever_stop_status_of, status_of, stop_status_of};
 
 use crate::check_command::check_text;
 use crate::diagnosis::diagnose;
@@ -16,7 +16,7 @@ use crate::messages::{
 use crate::outcome::{Ended, EverEnded, EverWhy, Why};
 use crate::output_flush::write_and_flush;
 use crate::search_command::list_with_report;
-use lotos_command::{CommandFault, Request, request};
+use lotos_command::{CommandFault, EverRequest, Request, SearchRequest, request};
 use lotos_device::{DeviceFailed, Sink, Source};
 use std::alloc::Global;
 use std::io::Write;
@@ -65,39 +65,55 @@ pub fn run_with_terminal<R: Source, W: Sink, E: Write>(
     match request(alloc, words) {
         Ok(Request::Check) => report_check(&check_text(alloc, reader, out), err),
         Ok(Request::Diagnose(asked)) => diagnose(alloc, &asked, reader, out, err),
-        Ok(Request::Search(search)) => end_search(
-            &list_with_report(alloc, &search, reader, out, err, terminal),
-            search.terms,
-            search.words.as_slice(),
-            err,
-        ),
-        Ok(Request::Ever(question)) => end_ever(
-            &ever_with_report(alloc, &question, reader, out, err, terminal),
-            question.states,
-            question.words.as_slice(),
-            err,
-        ),
+        Ok(Request::Search(asked)) => run_search(alloc, &asked, reader, out, err, terminal),
+        Ok(Request::Ever(asked)) => run_ever(alloc, &asked, reader, out, err, terminal),
         Err(fault) => end_without_command(&fault, words, out, err),
     }
 }
 
-/// Reports a search, with a hint if one of its words names a file, and returns its status.
-fn end_search<E: Write>(ended: &Ended, terms: usize, words: &[String], err: &mut E) -> u8
-    ensures status { result ≡ status_of ended.now }
-    ensures output { is_output_fault ended.now ≡ (result == 6) }
+/// Runs a search and reports it, with a hint if one of its words names a file. Returns its status.
+fn run_search<R: Source, W: Sink, E: Write>(
+    alloc: Global,
+    request: &SearchRequest,
+    reader: &mut R,
+    out: &mut W,
+    err: &mut E,
+    terminal: bool,
+) -> u8
+    requires bounds { HasSearchBounds request.now }
+    requires reader { R.has_failed reader.old ≡ false }
+    requires out { W.has_failed out.old ≡ false }
+    ensures reported { SearchReported request.now (R.left reader.old) (R.left reader.new)
+        (W.got out.old) (W.got out.new) (R.has_failed reader.new) result }
+    ensures given { R.given reader.new ≤ R.given reader.old + (max_text_length + 1) }
+    ensures output { W.has_failed out.new ≡ (result == 6) }
 {
-    let status = report_search(ended, terms, err);
-    hint_after_search(ended, words, err);
+    let ended = list_with_report(alloc, request, reader, out, err, terminal);
+    let status = report_search(&ended, request.terms, err);
+    hint_after_search(&ended, request.words.as_slice(), err);
     status
 }
 
-/// Reports a search for a match, with a hint if one of its words names a file, and returns its status.
-fn end_ever<E: Write>(ended: &EverEnded, states: usize, words: &[String], err: &mut E) -> u8
-    ensures status { result ≡ ever_status_of ended.now }
-    ensures output { is_ever_output_fault ended.now ≡ (result == 6) }
+/// Searches for a match of any length and reports the outcome, with a hint if one of the request's words names a file.
+/// Returns the status.
+fn run_ever<R: Source, W: Sink, E: Write>(
+    alloc: Global,
+    request: &EverRequest,
+    reader: &mut R,
+    out: &mut W,
+    err: &mut E,
+    terminal: bool,
+) -> u8
+    requires reader { R.has_failed reader.old ≡ false }
+    requires out { W.has_failed out.old ≡ false }
+    ensures reported { EverReported request.now (R.left reader.old) (R.left reader.new)
+        (W.got out.old) (W.got out.new) (R.has_failed reader.new) result }
+    ensures given { R.given reader.new ≤ R.given reader.old + (max_text_length + 1) }
+    ensures output { W.has_failed out.new ≡ (result == 6) }
 {
-    let status = report_ever(ended, states, err);
-    hint_after_ever(ended, words, err);
+    let ended = ever_with_report(alloc, request, reader, out, err, terminal);
+    let status = report_ever(&ended, request.states, err);
+    hint_after_ever(&ended, request.words.as_slice(), err);
     status
 }
 

@@ -3,7 +3,7 @@ use Rattle.lotos_tool.specs.ListingOutcome.{SearchOutcome}
 use Rattle.lotos_tool.specs.CheckOutcome.{CheckOutcome}
 use Rattle.lotos_tool.specs.OutcomeFlags.{is_input_fault}
 use Rattle.lotos_command.specs.Request.{RequestOf, request_view}
-use Rattle.lotos_tool.specs.ProgramRuns.{CheckRan, CheckReported, EverRan, SearchRan, check_status_of, ever_status_of, status_of}
+use Rattle.lotos_tool.specs.ProgramRuns.{CheckRan, CheckReported, EverRan, EverReported, SearchRan, SearchReported, check_status_of}
 use Rattle.lotos_tool.specs.declared.outcome.Ended.{Ended}
 use Rattle.lotos_command.specs.declared.command.Request.{Request}
 use Rattle.lotos_command.specs.declared.command.Request.TheVariants as one
@@ -16,12 +16,11 @@ use Rattle.lotos_tool.proofs.UnreadWords.{answered}
 use Rattle.lotos_tool.proofs.program.run_with_terminal.Goals as goal
 
 module _ (words : List (List ℕ)) (left left' got got' : Option (List ℕ)) (broken : Bool) (status : ℕ) where
-  searched : (asked : Request) (request : SearchRequest) (ended : Ended) → SearchOutcome request left left' got got' ended → broken ≡ is_input_fault ended
-      → status ≡ status_of ended → asked ≡ one.Search request → RequestOf words (request_view asked)
-      → SearchRan words left left' got got' broken status
-  searched asked request ended answers input status_is is asks =
+  searched : (asked : Request) (request : SearchRequest) → SearchReported request left left' got got' broken status → asked ≡ one.Search request
+      → RequestOf words (request_view asked) → SearchRan words left left' got got' broken status
+  searched asked request reported is asks =
       let Asks : Request → Type 0 = λ r. RequestOf words (request_view r) in
-      record { request = request; asked = subst Asks is asks; ended = ended; answered = answers; input = input; status_is = status_is }
+      record { request = request; asked = subst Asks is asks; reported = reported }
 
   inspected : (asked : Request) (ended : Ended) → CheckOutcome left left' got got' ended → broken ≡ is_input_fault ended → status ≡ check_status_of ended
       → asked ≡ one.Check → RequestOf words (request_view asked) → CheckRan words left left' got got' broken status
@@ -35,16 +34,15 @@ module _ (words : List (List ℕ)) (left left' got got' : Option (List ℕ)) (br
       let Asks : Request → Type 0 = λ r. RequestOf words (request_view r) in
       record { asked = inr (request, subst Asks is asks); reported = reported }
 
-  questioned : (asked : Request) (request : EverRequest) (ended : EverEnded) → EverOutcome request left left' got got' ended → broken ≡ is_ever_input_fault ended
-      → status ≡ ever_status_of ended → asked ≡ one.Ever request → RequestOf words (request_view asked)
-      → EverRan words left left' got got' broken status
-  questioned asked request ended answers input status_is is asks =
+  questioned : (asked : Request) (request : EverRequest) → EverReported request left left' got got' broken status → asked ≡ one.Ever request
+      → RequestOf words (request_view asked) → EverRan words left left' got got' broken status
+  questioned asked request reported is asks =
       let Asks : Request → Type 0 = λ r. RequestOf words (request_view r) in
-      record { request = request; asked = subst Asks is asks; ended = ended; answered = answers; input = input; status_is = status_is }
+      record { request = request; asked = subst Asks is asks; reported = reported }
 
 pub returns-in-Ok-Ever-clause-ran : goal.returns-in-Ok-Ever-clause-ran
 returns-in-Ok-Ever-clause-ran g c =
-    inr (inr (inl (questioned _ _ _ _ _ _ _ c.in-Ok-Ever.field-0 _ c.ever_with_report.result c.ever_with_report.ensures.answers c.ever_with_report.ensures.input c.end_ever.ensures.status (search rules) c.in-Ok-Ever.ensures.is)))
+    inr (inr (inl (questioned _ _ _ _ _ _ _ c.in-Ok-Ever.field-0 c.in-Ok-Ever.asked c.run_ever.ensures.reported (search rules) c.in-Ok-Ever.ensures.is)))
 
 pub returns-in-Ok-Check-clause-ran : goal.returns-in-Ok-Check-clause-ran
 returns-in-Ok-Check-clause-ran g c =
@@ -56,7 +54,7 @@ returns-in-Ok-Diagnose-clause-ran g c =
 
 pub returns-in-Ok-Search-clause-ran : goal.returns-in-Ok-Search-clause-ran
 returns-in-Ok-Search-clause-ran g c =
-    inl (searched _ _ _ _ _ _ _ c.in-Ok-Search.field-0 _ c.list_with_report.result c.list_with_report.ensures.answers c.list_with_report.ensures.input c.end_search.ensures.status (search rules) c.in-Ok-Search.ensures.is)
+    inl (searched _ _ _ _ _ _ _ c.in-Ok-Search.field-0 c.in-Ok-Search.asked c.run_search.ensures.reported (search rules) c.in-Ok-Search.ensures.is)
 
 pub returns-in-Err-clause-ran : goal.returns-in-Err-clause-ran
 returns-in-Err-clause-ran g c =
