@@ -42,7 +42,8 @@ pub fn read_specification<R: Source>(alloc: Global, reader: &mut R) -> Result<Ch
 /// text is refused with E47 if the reader fails, and with E03 if it is too long.
 pub fn read_input<R: Source>(alloc: Global, reader: &mut R) -> Result<Vec<u8>, Rejection>
     requires { R.has_failed reader.old ≡ false }
-    ensures whole { IfOk result (λ text. ReadsAll (R.left reader.old) (R.left reader.new) max_text_length text.items) }
+    ensures whole { IfOk result (λ text.
+        ReadsAll (R.left reader.old) (R.left reader.new) max_text_length text.items) }
     ensures refused { IfErr result (IsInputRejection (R.left reader.old) (R.left reader.new)) }
     ensures given { R.given reader.new ≤ R.given reader.old + (max_text_length + 1) }
     ensures failed { R.has_failed reader.new ≡ is_input_failure result }

@@ -1,5 +1,4 @@
 use Rattle.std.proofs.Common.{◌≡◌, ℕ, Bool, List, Option, inl, inr, rules, subst}
-use Rattle.lotos_tool.specs.ListingOutcome.{SearchOutcome}
 use Rattle.lotos_tool.specs.CheckOutcome.{CheckOutcome}
 use Rattle.lotos_tool.specs.OutcomeFlags.{is_input_fault}
 use Rattle.lotos_command.specs.Request.{RequestOf, request_view}
@@ -7,8 +6,6 @@ use Rattle.lotos_tool.specs.ProgramRuns.{CheckRan, CheckReported, EverRan, EverR
 use Rattle.lotos_tool.specs.declared.outcome.Ended.{Ended}
 use Rattle.lotos_command.specs.declared.command.Request.{Request}
 use Rattle.lotos_command.specs.declared.command.Request.TheVariants as one
-use Rattle.lotos_tool.specs.EverOutcomeContracts.{EverOutcome, is_ever_input_fault}
-use Rattle.lotos_tool.specs.declared.outcome.EverEnded.{EverEnded}
 use Rattle.lotos_command.specs.declared.command.DiagnoseRequest.{DiagnoseRequest}
 use Rattle.lotos_command.specs.declared.command.EverRequest.{EverRequest}
 use Rattle.lotos_command.specs.declared.command.SearchRequest.{SearchRequest}
