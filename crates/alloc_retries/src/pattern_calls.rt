@@ -20,6 +20,12 @@ const ROWS: &[(&[&str], bool, &[&str])] = &[
     (&["A"; 257], false, &[]),
     (&["a", "I"], false, &[]),
     (&["<while>", "<while>"], false, &[]),
+    (
+        &["<not>", "a,b", "<until>", "exit,c"],
+        false,
+        &["C", "A", "C"],
+    ),
+    (&["<not>"], false, &[]),
 ];
 
 pub fn rows(rt: &impl Print, heap: &mut Heap) -> Result<(), Stop> {

@@ -1,8 +1,8 @@
 -- What the last element demands, and the elements from one on.
 use Rattle.std.proofs.Common.{◌≡◌, ℕ, suc, ◌+◌, ◌-◌, ◌<◌, List, [], ◌∷◌, length, drop, refl, sym, ap, subst, ◌∙◌, arith, Bool, get_or}
-use Rattle.std.specs.Prelude.{MatchBool, Some, option_map, slice_get}
+use Rattle.std.specs.Prelude.{All, MatchBool, Some, option_map, slice_get}
 use Rattle.std.proofs.lemmas.List.{drop_more, length-map, get_or-map, drop_all}
-use Rattle.std.proofs.lemmas.Option.{slice_get-map, slice_get_read}
+use Rattle.std.proofs.lemmas.Option.{get_or_from_slice_get, slice_get-map, slice_get_read, slice_get_within}
 use Rattle.lotos_pattern.specs.Patterns.{Element, LastDemandsDeadlock, ElementDemandsDeadlock}
 use Rattle.lotos_pattern.specs.ElementView.{element_of, elements_of}
 use Rattle.lotos_pattern.specs.declared.element.Element.{Element as CodeElement}
@@ -25,6 +25,10 @@ element_at p kept i x shown within is =
 
 pub as_long : (p : List Element) (kept : List CodeElement) → elements_of kept ≡ p → length kept ≡ length p
 as_long p kept shown = sym (length-map kept element_of) ∙ ap length shown
+
+-- what holds of all elements holds of the one there
+pub all_at : (P : Element → Type 0) (p : List Element) (i : ℕ) (e : Element) → All P p → slice_get p i ≡ Some e → P e
+all_at P p i e all here = subst P (get_or_from_slice_get p i e e here) (all i e (slice_get_within p i e here))
 
 -- the last element decides
 last_decides : (p : List Element) (e : Element) → drop (length p - 1) p ≡ e ∷ [] → LastDemandsDeadlock p ≡ ElementDemandsDeadlock e

@@ -5,13 +5,14 @@ use Rattle.std.specs.Borrow.{Bor}
 use Rattle.std.proofs.lemmas.List.{append-nil, length-append, map-append}
 use Rattle.std.proofs.lemmas.List.Elements.{All-cons, All-nil}
 use Rattle.std.proofs.lemmas.Option.{slice_get_within}
-use Rattle.lotos_pattern.specs.Patterns.{Element, LastDemandsDeadlock, OnlyLastDemandsDeadlock, IsJoin, any, deadlock, one, until, until_deadlock, while, while_any}
+use Rattle.lotos_pattern.specs.Patterns.{Element, LastDemandsDeadlock, OnlyLastDemandsDeadlock, IsJoin}
 use Rattle.lotos_pattern.specs.Spelling.{PatternOf, Spelling, Text, texts_of}
 use Rattle.lotos_pattern.specs.PatternFaults.{BeginsElement, IsCause, SpellsNone, IsAfterPattern}
 use Rattle.lotos_pattern.specs.ElementView.{CanOccur, IsPattern, element_of, elements_of, pattern_of}
 use Rattle.lotos_pattern.specs.WordKinds.{CanBeFollowed, IsAppendFault, ParsesAt}
 use Rattle.lotos_pattern.specs.declared.element.Element.{Element as CodeElement}
 use Rattle.lotos_pattern.specs.declared.fault.PatternFault.{PatternFault}
+use Rattle.lotos_pattern.proofs.Segments.{can_occur}
 use Rattle.lotos_pattern.proofs.SpellingFaults.{full_cause, full_nothing}
 use Rattle.lotos_pattern.proofs.Words.{take_at, within_texts}
 
@@ -35,6 +36,23 @@ module _ (strong : Bool) where
       further = omega arith;
       within = omega arith;
     }
+
+    pub spelled_by_three : (second third : Text) (e : Element) → slice_get words (index + 1) ≡ Some second → slice_get words (index + 1 + 1) ≡ Some third →
+        Spelling strong e (first ∷ second ∷ third ∷ []) → ParsesAt strong words index e (index + 1 + 2)
+    spelled_by_three second third e follows ends spelling =
+        let there = slice_get_within words (index + 1 + 1) third ends in
+        let two : take (index + 1 + 1) words ≡ take index words ++ first ∷ second ∷ [] =
+        take_at words (index + 1) second follows ∙ ap (λ front. front ++ second ∷ []) (take_at words index first stands) ∙ append_assoc (take index words) (first ∷ []) (second ∷ []) in
+        let three : take (index + 1 + 1 + 1) words ≡ take index words ++ first ∷ second ∷ third ∷ [] =
+        take_at words (index + 1 + 1) third ends ∙ ap (λ front. front ++ third ∷ []) two ∙ append_assoc (take index words) (first ∷ second ∷ []) (third ∷ []) in
+        let same : index + 1 + 1 + 1 ≡ index + 1 + 2 = omega arith in
+        record {
+          own = first ∷ second ∷ third ∷ [];
+          spelling = spelling;
+          located = subst (λ n. take n words ≡ take index words ++ first ∷ second ∷ third ∷ []) same three;
+          further = omega arith;
+          within = omega arith;
+        }
 
   joined_more : (p : List Element) (e : Element) (words own : List Text) → IsJoin (Spelling strong) p words → Spelling strong e own → IsJoin (Spelling strong) (p ++ e ∷ []) (words ++ own)
   joined_more [] e words own none spelling = (own, [], spelling, refl, ap (λ front. front ++ own) none ∙ sym (append-nil own))
@@ -60,18 +78,9 @@ module _ (strong : Bool) where
     ends_last = ends_last_more p e spelled.ends_last has.goes_on;
   }
 
-  can_occur : (e : Element) (own : List Text) → Spelling strong e own → CanOccur strong e
-  can_occur (one l) own (word, is, names) = names.observable
-  can_occur any own spelling = tt
-  can_occur (until l) own (first, second, is, reads, names) = names.observable
-  can_occur (while l) own spelling = tt
-  can_occur while_any own spelling = tt
-  can_occur deadlock own spelling = tt
-  can_occur until_deadlock own spelling = tt
-
   all_occur : (p : List Element) (words : List Text) → IsJoin (Spelling strong) p words → All (CanOccur strong) p
   all_occur [] words none = All-nil (CanOccur strong)
-  all_occur (e ∷ p) words (front, rest, spelling, others, cut) = All-cons (CanOccur strong) e p (can_occur e front spelling) (all_occur p rest others)
+  all_occur (e ∷ p) words (front, rest, spelling, others, cut) = All-cons (CanOccur strong) e p (can_occur strong e front spelling) (all_occur p rest others)
 
   -- what words spell is a pattern
   pub is_pattern : (words : List Text) (p : List Element) → PatternOf strong words (pattern_of strong p) → IsPattern (pattern_of strong p)

@@ -1,4 +1,6 @@
 pub mod Words
+pub mod LabelNames
+pub mod SplitNames
 pub mod Segments
 pub mod PlaceTransitions
 pub mod NfaTransitions

@@ -1,12 +1,12 @@
 -- The NFA states to which a label leads from those of a place, and those after a sequence.
-use Rattle.std.proofs.Common.{◌≡◌, ◌≢◌, ℕ, ◌+◌, ◌<◌, ◌≤◌, ◌⊎◌, inl, inr, Option, None, Some, List, [], ◌∷◌, ◌++◌, length, refl, sym, subst, arith}
+use Rattle.std.proofs.Common.{◌≡◌, ℕ, Bool, ◌+◌, ◌<◌, ◌≤◌, ◌⊎◌, inl, inr, Option, None, Some, List, [], ◌∷◌, ◌++◌, length, refl, sym, subst, arith}
 use Rattle.std.specs.Prelude.{◌↔◌, MatchOption, slice_get, unwrap_or}
 use Rattle.std.proofs.lemmas.Bool.{cases_lt}
 use Rattle.std.proofs.lemmas.List.{same_from_push}
-use Rattle.std.proofs.lemmas.List.Elements.{All-nil}
 use Rattle.std.proofs.lemmas.Option.{slice_get_within}
 use Rattle.lotos_pattern.specs.PatternLabels.{Label}
-use Rattle.lotos_pattern.specs.Patterns.{Element, Pattern, Segment, any, deadlock, one, until, until_deadlock, while, while_any}
+use Rattle.lotos_pattern.specs.Patterns.{Element, Pattern, Segment}
+use Rattle.lotos_pattern.specs.ElementView.{CanOccur}
 use Rattle.lotos_pattern.specs.NfaStates.{HasState, IsFirstState, Place}
 use Rattle.lotos_pattern.specs.NfaTransitions.{HasStatesAfter, IsStateAfter, Leads, advances, initial, led_to, skips, stays}
 use Rattle.lotos_pattern.specs.PlaceTransitions.{HasTransition, IsNextState}
@@ -14,16 +14,6 @@ use Rattle.lotos_pattern.specs.Transitions.{IsTransition}
 use Rattle.lotos_pattern.specs.declared.element.Transition.{Transition}
 use Rattle.lotos_pattern.specs.declared.element.Transition.TheVariants.{Reject, Advance, Stay}
 use Rattle.lotos_pattern.proofs.PlaceTransitions.{later, no_label}
-
--- each element has a segment
-some_segment : (e : Element) → (s : List Label) × Segment e s
-some_segment (one own) = (own ∷ [], refl)
-some_segment any = ([] ∷ [], ([], refl))
-some_segment (until own) = (own ∷ [], ([], All-nil (λ v. v ≢ own), refl))
-some_segment (while own) = ([], All-nil (λ v. v ≡ own))
-some_segment while_any = ([], tt)
-some_segment deadlock = ([], refl)
-some_segment until_deadlock = ([], tt)
 
 -- an element has one transition on a label
 no_advance_and_stay : (e : Element) (l : Label) → IsTransition e l Advance → IsTransition e l Stay → ⊥
@@ -36,11 +26,11 @@ only_advance Advance e l takes ends = refl
 only_advance Stay e l takes ends = absurd (no_advance_and_stay e l ends takes)
 only_advance Reject e l takes ends = absurd (takes [] ((ends []).1 refl))
 
-only_stay : (t : Transition) (e : Element) (l : Label) → IsTransition e l t → IsTransition e l Stay → t ≡ Stay
+only_stay : (strong : Bool) (t : Transition) (e : Element) (l : Label) → CanOccur strong e → IsTransition e l t → IsTransition e l Stay → t ≡ Stay
 unfolding IsTransition
-only_stay Advance e l takes goes_on = absurd (no_advance_and_stay e l takes goes_on)
-only_stay Stay e l takes goes_on = refl
-only_stay Reject e l takes goes_on = let some = some_segment e in absurd (takes some.0 ((goes_on some.0).1 some.1))
+only_stay strong Advance e l some takes goes_on = absurd (no_advance_and_stay e l takes goes_on)
+only_stay strong Stay e l some takes goes_on = refl
+only_stay strong Reject e l some takes goes_on = absurd (takes some.0 ((goes_on some.0).1 some.1))
 
 -- a label leads on from the state of an element alone
 led_within : (p : List Element) (l : Label) (j k : ℕ) → Leads p l j k → j < length p
@@ -105,7 +95,7 @@ keeps Advance k old new marks n has = (marks n).1 (inl has)
 keeps Stay k old new marks n has = (marks n).1 (inl has)
 keeps Reject k old new marks n has = (marks n).1 has
 
-module _ (p : List Element) (from : Place) (l : Label) (k : ℕ) (e : Element) (here : slice_get p k ≡ Some e) where
+module _ (strong : Bool) (p : List Element) (from : Place) (l : Label) (k : ℕ) (e : Element) (here : slice_get p k ≡ Some e) (occurs : CanOccur strong e) where
   -- what a place gains is where the label leads
   gains : (t : Transition) (old new : Place) → IsTransition e l t → HasTransition t k old new → (n : ℕ) → HasState new n → HasState old n ⊎ Leads p l k n
   gains Advance old new takes marks n has = elim ((marks n).0 has) [ inl before ↦ inl before | inr same ↦ inr (subst (λ i. Leads p l k i) (sym same) (advances here takes)) ]
@@ -122,7 +112,7 @@ module _ (p : List Element) (from : Place) (l : Label) (k : ℕ) (e : Element) (
   leaves : (t : Transition) (end n : ℕ) (old new : Place) → IsTransition e l t → HasTransition t k old new → IsNextState e from k end n → (m : ℕ) → Led p l e k m →
       HasState new m ⊎ Leads p l n m
   leaves t end n old new takes marks next m (advanced ends same) = inl (subst (HasState new) (sym same) (to_next t old new marks (only_advance t e l takes ends)))
-  leaves t end n old new takes marks next m (stayed goes_on same) = inl (subst (HasState new) (sym same) (to_same t old new marks (only_stay t e l takes goes_on)))
+  leaves t end n old new takes marks next m (stayed goes_on same) = inl (subst (HasState new) (sym same) (to_same t old new marks (only_stay strong t e l occurs takes goes_on)))
   leaves t end n old new takes marks next m (skipped empty rest) = inr (subst (λ i. Leads p l i m) (sym (next.passes empty)) rest)
 
   -- a reached element takes the label or is skipped

@@ -9,13 +9,12 @@ use Rattle.lotos_pattern.specs.NfaStates.{CanFollow, HasState, Place}
 use Rattle.lotos_pattern.specs.Places.{IsPlaceOf}
 use Rattle.lotos_pattern.specs.ElementView.{CanOccur}
 use Rattle.lotos_pattern.specs.PlaceTransitions.{CanContinue, IsSuccessorPlace}
-use Rattle.lotos_pattern.proofs.Segments.{some_segment}
 
 -- a pattern whose labels can occur matches some sequence
 pub some_sequence : (p : Pattern) (elements : List Element) → All (CanOccur p.strong) elements → (s : List Label) × IsJoin Segment elements s × All (IsObservable p.strong) s
 some_sequence p [] h = ([], refl, All-nil (IsObservable p.strong))
 some_sequence p (e ∷ es) h =
-    let first = some_segment p.strong e (All-head (CanOccur p.strong) e es h) in
+    let first = All-head (CanOccur p.strong) e es h in
     let rest = some_sequence p es (All-tail (CanOccur p.strong) e es h) in (
       first.0 ++ rest.0,
       (first.0, rest.0, first.1, rest.1, refl),

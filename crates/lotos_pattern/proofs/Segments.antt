@@ -1,59 +1,57 @@
 -- The segments of an element that start with a label.
-use Rattle.std.proofs.Common.{◌≡◌, ◌≢◌, Bool, List, [], ◌∷◌, ◌++◌, refl, sym, ap}
+use Rattle.std.proofs.Common.{◌≡◌, Bool, List, [], ◌∷◌, ◌++◌, refl, ap, subst}
 use Rattle.std.specs.Prelude.{All}
 use Rattle.std.proofs.lemmas.List.Elements.{All-head, All-tail, All-cons, All-nil}
 use Rattle.lotos_pattern.specs.PatternLabels.{Label}
-use Rattle.lotos_pattern.specs.Patterns.{Element, IsObservable, Segment, any, deadlock, one, until, until_deadlock, while, while_any}
+use Rattle.lotos_pattern.specs.Patterns.{Element, IsIn, IsObservable, LabelSet, Segment, deadlock, one, others, until, until_deadlock, while}
+use Rattle.lotos_pattern.specs.Spelling.{Spelling, Text, end, one_any, one_of, until_end, until_set, while_any, while_set}
 use Rattle.lotos_pattern.specs.ElementView.{CanOccur}
 use Rattle.lotos_pattern.specs.Transitions.{IsTransition}
 use Rattle.lotos_pattern.specs.declared.element.Transition.TheVariants.{Reject, Advance, Stay}
-use Rattle.lotos_pattern.proofs.Words.{other_observable}
+use Rattle.lotos_pattern.proofs.LabelNames.{some_label, some_other_label}
 
-pub one_passes : (own l : Label) → own ≡ l → IsTransition (one own) l Advance
-unfolding IsTransition
-one_passes own l same s = (λ e. let none : s ≡ [] = cc in none, λ e. let whole : l ∷ s ≡ own ∷ [] = cc in whole)
+-- the label is outside of the set
+abbrev IsOutside : LabelSet → Label → Type 0
+IsOutside set l = IsIn l set → ⊥
 
-pub one_fails : (own l : Label) → own ≢ l → IsTransition (one own) l Reject
-unfolding IsTransition
-one_fails own l other s e = other cc
+module _ (set : LabelSet) (l : Label) where
+  pub one_passes : IsIn l set → IsTransition (one set) l Advance
+  unfolding IsTransition
+  one_passes has s = (λ (x, is, e). let none : s ≡ [] = cc in none, λ e. (l, has, ap (λ rest. l ∷ rest) e))
 
-pub any_passes : (l : Label) → IsTransition any l Advance
-unfolding IsTransition
-any_passes l s = (λ (x, e). let none : s ≡ [] = cc in none, λ e. (l, ap (λ rest. l ∷ rest) e))
+  pub one_fails : (IsIn l set → ⊥) → IsTransition (one set) l Reject
+  unfolding IsTransition
+  one_fails none s (x, is, e) = let same : x ≡ l = cc in none (subst (λ v. IsIn v set) same is)
 
-until_ends : (own l : Label) (s others : List Label) → own ≡ l → All (λ x. x ≢ own) others → l ∷ s ≡ others ++ own ∷ [] → s ≡ []
-until_ends own l s [] same h e = cc
-until_ends own l s (x ∷ others) same h e = absurd (All-head (λ v. v ≢ own) x others h cc)
+  until_ends : (s before : List Label) (x : Label) → IsIn l set → All (IsOutside set) before → l ∷ s ≡ before ++ x ∷ [] → s ≡ []
+  until_ends s [] x has h e = cc
+  until_ends s (y ∷ before) x has h e = absurd (let same : l ≡ y = cc in All-head (IsOutside set) y before h (subst (λ v. IsIn v set) same has))
 
-until_goes_on : (own l : Label) (s others : List Label) → own ≢ l → All (λ x. x ≢ own) others → l ∷ s ≡ others ++ own ∷ [] → Segment (until own) s
-until_goes_on own l s [] other h e = absurd (other cc)
-until_goes_on own l s (x ∷ others) other h e = (others, All-tail (λ v. v ≢ own) x others h, let rest : s ≡ others ++ own ∷ [] = cc in rest)
+  until_goes_on : (s before : List Label) (x : Label) → (IsIn l set → ⊥) → All (IsOutside set) before → IsIn x set → l ∷ s ≡ before ++ x ∷ [] → Segment (until set) s
+  until_goes_on s [] x none h is e = absurd (let same : x ≡ l = cc in none (subst (λ v. IsIn v set) same is))
+  until_goes_on s (y ∷ before) x none h is e = (before, x, All-tail (IsOutside set) y before h, is, let rest : s ≡ before ++ x ∷ [] = cc in rest)
 
-pub until_passes : (own l : Label) → own ≡ l → IsTransition (until own) l Advance
-unfolding IsTransition
-until_passes own l same s = (
-  λ (others, h, e). until_ends own l s others same h e,
-  λ e. ([], All-nil (λ v. v ≢ own), let whole : l ∷ s ≡ own ∷ [] = cc in whole),
-)
+  pub until_passes : IsIn l set → IsTransition (until set) l Advance
+  unfolding IsTransition
+  until_passes has s = (
+    λ (before, x, h, is, e). until_ends s before x has h e,
+    λ e. ([], l, All-nil (IsOutside set), has, ap (λ rest. l ∷ rest) e),
+  )
 
-pub until_stays : (own l : Label) → own ≢ l → IsTransition (until own) l Stay
-unfolding IsTransition
-until_stays own l other s = (
-  λ (others, h, e). until_goes_on own l s others other h e,
-  λ (others, h, e). (l ∷ others, All-cons (λ v. v ≢ own) l others (λ same. other (let back : own ≡ l = cc in back)) h, ap (λ rest. l ∷ rest) e),
-)
+  pub until_stays : (IsIn l set → ⊥) → IsTransition (until set) l Stay
+  unfolding IsTransition
+  until_stays none s = (
+    λ (before, x, h, is, e). until_goes_on s before x none h is e,
+    λ (before, x, h, is, e). (l ∷ before, x, All-cons (IsOutside set) l before none h, is, ap (λ rest. l ∷ rest) e),
+  )
 
-pub while_stays : (own l : Label) → own ≡ l → IsTransition (while own) l Stay
-unfolding IsTransition
-while_stays own l same s = (λ h. All-tail (λ v. v ≡ own) l s h, λ h. All-cons (λ v. v ≡ own) l s (sym same) h)
+  pub while_stays : IsIn l set → IsTransition (while set) l Stay
+  unfolding IsTransition
+  while_stays has s = (λ h. All-tail (λ v. IsIn v set) l s h, λ h. All-cons (λ v. IsIn v set) l s has h)
 
-pub while_fails : (own l : Label) → own ≢ l → IsTransition (while own) l Reject
-unfolding IsTransition
-while_fails own l other s h = other (sym (All-head (λ v. v ≡ own) l s h))
-
-pub while_any_stays : (l : Label) → IsTransition while_any l Stay
-unfolding IsTransition
-while_any_stays l s = (λ h. tt, λ h. tt)
+  pub while_fails : (IsIn l set → ⊥) → IsTransition (while set) l Reject
+  unfolding IsTransition
+  while_fails none s h = none (All-head (λ v. IsIn v set) l s h)
 
 pub deadlock_fails : (l : Label) → IsTransition deadlock l Reject
 unfolding IsTransition
@@ -67,12 +65,22 @@ module _ (strong : Bool) where
   alone : (l : Label) → IsObservable strong l → All (IsObservable strong) (l ∷ [])
   alone l h = All-cons (IsObservable strong) l [] h (All-nil (IsObservable strong))
 
-  -- each element has a segment that can be observed
-  pub some_segment : (e : Element) → CanOccur strong e → (s : List Label) × Segment e s × All (IsObservable strong) s
-  some_segment (one own) h = (own ∷ [], refl, alone own h)
-  some_segment any h = ([] ∷ [], ([], refl), alone [] (other_observable strong [] (λ e. cc)))
-  some_segment (until own) h = (own ∷ [], ([], All-nil (λ v. v ≢ own), refl), alone own h)
-  some_segment (while own) h = ([], All-nil (λ v. v ≡ own), All-nil (IsObservable strong))
-  some_segment while_any h = ([], tt, All-nil (IsObservable strong))
-  some_segment deadlock h = ([], refl, All-nil (IsObservable strong))
-  some_segment until_deadlock h = ([], tt, All-nil (IsObservable strong))
+  -- with a label of the set that can be observed, its elements can occur
+  one_occurs : (set : LabelSet) → (l : Label) × IsIn l set × IsObservable strong l → CanOccur strong (one set)
+  one_occurs set (l, has, seen) = (l ∷ [], (l, has, refl), alone l seen)
+
+  until_occurs : (set : LabelSet) → (l : Label) × IsIn l set × IsObservable strong l → CanOccur strong (until set)
+  until_occurs set (l, has, seen) = (l ∷ [], ([], l, All-nil (IsOutside set), has, refl), alone l seen)
+
+  while_occurs : (set : LabelSet) → CanOccur strong (while set)
+  while_occurs set = ([], All-nil (λ x. IsIn x set), All-nil (IsObservable strong))
+
+  -- an element that is spelled has a segment that can be observed
+  pub can_occur : (e : Element) (words : List Text) → Spelling strong e words → CanOccur strong e
+  can_occur _ words (one_of {set = set} h) = one_occurs set (some_label strong set words h)
+  can_occur _ _ (one_any i) = one_occurs (others []) (some_other_label strong)
+  can_occur _ _ (until_set {set = set} {rest = rest} i h) = until_occurs set (some_label strong set rest h)
+  can_occur _ _ (while_set {set = set} i h) = while_occurs set
+  can_occur _ _ (while_any i j) = while_occurs (others [])
+  can_occur _ _ (end i) = ([], refl, All-nil (IsObservable strong))
+  can_occur _ _ (until_end i j) = ([], tt, All-nil (IsObservable strong))

@@ -1,16 +1,16 @@
 -- If no element can begin or end at a word, the words spell no pattern.
-use Rattle.std.proofs.Common.{◌≡◌, ◌≢◌, ℕ, ◌+◌, ◌<◌, Bool, false, List, [], ◌∷◌, ◌++◌, length, take, drop, Some, refl, sym, ap, subst, ◌∙◌, arith, codes, get_or, inl, inr}
+use Rattle.std.proofs.Common.{◌≡◌, ℕ, ◌+◌, ◌<◌, Bool, false, List, [], ◌∷◌, ◌++◌, length, take, drop, Some, refl, sym, ap, subst, ◌∙◌, arith, codes, inl, inr}
 use Rattle.std.specs.Prelude.{slice_get}
-use Rattle.std.proofs.lemmas.List.{length-drop, take-append-drop, length-append}
-use Rattle.lotos_pattern.specs.PatternLabels.{internal}
-use Rattle.lotos_pattern.specs.Patterns.{Element, LastDemandsDeadlock, OnlyLastDemandsDeadlock, IsJoin, Pattern, any, deadlock, one, until, until_deadlock, while, while_any}
-use Rattle.lotos_pattern.specs.Spelling.{Names, PatternOf, EqualsIgnoringCase, Spelling, Text}
-use Rattle.lotos_pattern.specs.PatternFaults.{BeginsElement, BeginsNoElement, EndsNoUntil, HasWord, IsCause, IsInternal, IsLabel, IsUntil, IsWhile, EndsNoWhile, SpellsNone, IsAfterPattern}
-use Rattle.lotos_pattern.specs.WordKinds.{IsFaultAt, IsAppendFault}
+use Rattle.std.proofs.lemmas.List.{drop_all, length-drop, take-append-drop, length-append}
+use Rattle.lotos_pattern.specs.Patterns.{Element, LabelSet, LastDemandsDeadlock, OnlyLastDemandsDeadlock, IsJoin, Pattern}
+use Rattle.lotos_pattern.specs.Spelling.{EqualsIgnoringCase, IsAny, IsDeadlock, IsNot, IsUntil, IsWhile, PatternOf, SetSpelling, Spelling, Text, complement, end, named, one_any, one_of, until_end, until_set, while_any, while_set}
+use Rattle.lotos_pattern.specs.PatternFaults.{AwaitsSet, BeginsElement, BeginsNoElement, EndsNoComplement, EndsNoUntil, EndsNoWhile, HasWord, IsCause, IsLabels, NamesInternal, SpellsNone, IsAfterPattern}
+use Rattle.lotos_pattern.specs.WordKinds.{IsAppendFault, IsFaultAt, IsSetFaultAt}
 use Rattle.lotos_pattern.specs.declared.fault.PatternFault.{PatternFault}
-use Rattle.lotos_pattern.specs.declared.fault.PatternFault.TheVariants.{E41, E42, E43, E44, E45, E48, E99}
-use Rattle.lotos_pattern.proofs.Words.{apart, drop_at, label_no_angle, names_no_internal}
-use Rattle.lotos_pattern.proofs.Spellings.{Marks, angle, first, goes_on, mark, one_mark}
+use Rattle.lotos_pattern.specs.declared.fault.PatternFault.TheVariants.{E41, E42, E43, E44, E45, E48, E50, E99}
+use Rattle.lotos_pattern.proofs.LabelNames.{internal_no_angle, internal_no_labels, labels_no_angle}
+use Rattle.lotos_pattern.proofs.Words.{Differ, apart, drop_at}
+use Rattle.lotos_pattern.proofs.Spellings.{goes_on}
 
 -- a word with a number has the index before it
 pub numbered : (words : List Text) (index : ℕ) (Such : Text → Type 0) (has : HasWord words (index + 1) Such) → slice_get words index ≡ Some has.word
@@ -25,59 +25,130 @@ dead_last (f ∷ []) e more dead last = last.0 dead
 dead_last (f ∷ g ∷ p) e more dead last = dead_last (g ∷ p) e more dead last.1
 
 module _ (strong : Bool) where
-  -- no element begins with the word
-  record NoBeginning (word : Text) : Type 0 where
-    label : IsLabel strong word → ⊥
-    any : EqualsIgnoringCase word (codes "<any>") → ⊥
-    until : IsUntil word → ⊥
-    while : IsWhile word → ⊥
-    deadlock : EqualsIgnoringCase word (codes "<deadlock>") → ⊥
+  -- the words begin with those of a set
+  data SetHead : List Text → Type 0 where
+    names_head : {word : Text} {more : List Text} → IsLabels strong word → SetHead (word ∷ more)
+    not_head : {first second : Text} {more : List Text} → IsNot first → IsLabels strong second → SetHead (first ∷ second ∷ more)
 
-  -- no element of two words ends with the word
-  record NoEnding (text : Text) (word : Text) : Type 0 where
-    label : IsLabel strong word → ⊥
-    last : EqualsIgnoringCase word text → ⊥
+  -- the words begin with those of an element
+  data ElementHead : List Text → Type 0 where
+    set_head : {words : List Text} → SetHead words → ElementHead words
+    any_head : {word : Text} {more : List Text} → IsAny word → ElementHead (word ∷ more)
+    until_head : {first : Text} {rest : List Text} → IsUntil first → SetHead rest → ElementHead (first ∷ rest)
+    until_end_head : {first second : Text} {more : List Text} → IsUntil first → IsDeadlock second → ElementHead (first ∷ second ∷ more)
+    while_head : {first : Text} {rest : List Text} → IsWhile first → SetHead rest → ElementHead (first ∷ rest)
+    while_any_head : {first second : Text} {more : List Text} → IsWhile first → IsAny second → ElementHead (first ∷ second ∷ more)
+    end_head : {word : Text} {more : List Text} → IsDeadlock word → ElementHead (word ∷ more)
 
-  -- the first of the words that begin with those of an element
-  first_word : (front remainder rest r : List Text) (w word : Text) → front ≡ w ∷ r → word ∷ rest ≡ front ++ remainder → w ≡ word
-  first_word front remainder rest r w word i cut = let joined : word ∷ rest ≡ w ∷ (r ++ remainder) = cut ∙ ap (λ l. l ++ remainder) i in cc
+  set_begins : (set : LabelSet) (own rest : List Text) → SetSpelling strong set own → SetHead (own ++ rest)
+  set_begins _ _ rest (named {labels = labels} n) = names_head (labels, n)
+  set_begins _ _ rest (complement {labels = labels} i n) = not_head i (labels, n)
 
-  rest_words : (front remainder rest r : List Text) (w word : Text) → front ≡ w ∷ r → word ∷ rest ≡ front ++ remainder → rest ≡ r ++ remainder
-  rest_words front remainder rest r w word i cut = let joined : word ∷ rest ≡ w ∷ (r ++ remainder) = cut ∙ ap (λ l. l ++ remainder) i in cc
+  element_begins : (e : Element) (own rest : List Text) → Spelling strong e own → ElementHead (own ++ rest)
+  element_begins _ own rest (one_of {set = set} h) = set_head (set_begins set own rest h)
+  element_begins _ _ rest (one_any i) = any_head i
+  element_begins _ _ rest (until_set {set = set} {rest = own} i h) = until_head i (set_begins set own rest h)
+  element_begins _ _ rest (while_set {set = set} {rest = own} i h) = while_head i (set_begins set own rest h)
+  element_begins _ _ rest (while_any i j) = while_any_head i j
+  element_begins _ _ rest (end i) = end_head i
+  element_begins _ _ rest (until_end i j) = until_end_head i j
 
-  not_begun : (e : Element) (front remainder rest : List Text) (word : Text) → Spelling strong e front → word ∷ rest ≡ front ++ remainder → NoBeginning word → ⊥
-  not_begun (one l) front remainder rest word (w, i, n) cut none = none.label (l, subst (λ v. Names strong v l) (first_word front remainder rest [] w word i cut) n)
-  not_begun any front remainder rest word (w, i, k) cut none = none.any (subst (λ v. EqualsIgnoringCase v (codes "<any>")) (first_word front remainder rest [] w word i cut) k)
-  not_begun (until l) front remainder rest word (w, t, i, k, o) cut none = none.until (subst IsUntil (first_word front remainder rest (t ∷ []) w word i cut) k)
-  not_begun (while l) front remainder rest word (w, t, i, k, o) cut none = none.while (subst IsWhile (first_word front remainder rest (t ∷ []) w word i cut) k)
-  not_begun while_any front remainder rest word (w, t, i, k, o) cut none = none.while (subst IsWhile (first_word front remainder rest (t ∷ []) w word i cut) k)
-  not_begun deadlock front remainder rest word (w, i, k) cut none = none.deadlock (subst (λ v. EqualsIgnoringCase v (codes "<deadlock>")) (first_word front remainder rest [] w word i cut) k)
-  not_begun until_deadlock front remainder rest word (w, t, i, k, o) cut none = none.until (subst IsUntil (first_word front remainder rest (t ∷ []) w word i cut) k)
+  no_beginning : (word : Text) (tail : List Text) → BeginsNoElement strong word → ElementHead (word ∷ tail) → ⊥
+  no_beginning word tail none (set_head (names_head n)) = none.labels n
+  no_beginning word _ none (set_head (not_head i n)) = none.complement i
+  no_beginning word tail none (any_head i) = none.any i
+  no_beginning word tail none (until_head i h) = none.until i
+  no_beginning word _ none (until_end_head i j) = none.until i
+  no_beginning word tail none (while_head i h) = none.while i
+  no_beginning word _ none (while_any_head i j) = none.while i
+  no_beginning word tail none (end_head i) = none.deadlock i
 
-  -- an element is marked by the word that it begins with
-  marked : (e : Element) (front remainder rest : List Text) (word tail : Text) → Spelling strong e front → word ∷ rest ≡ front ++ remainder → EqualsIgnoringCase word (60 ∷ tail) → mark e ≡ 60 ∷ tail
-  marked e front remainder rest word tail spelling cut is =
-      let f = first strong e front spelling in
-      let same = first_word front remainder rest f.rest f.word word f.begins cut in
-      one_mark word (mark e) (60 ∷ tail) (subst (λ w. Marks w (mark e)) same f.marks) (angle is)
+  no_internal : (word : Text) (tail : List Text) → strong ≡ false → NamesInternal word → ElementHead (word ∷ tail) → ⊥
+  no_internal word tail hidden is (set_head (names_head n)) = internal_no_labels strong word hidden is n
+  no_internal word _ hidden is (set_head (not_head i n)) = internal_no_angle word _ is i
+  no_internal word tail hidden is (any_head i) = internal_no_angle word _ is i
+  no_internal word tail hidden is (until_head i h) = internal_no_angle word _ is i
+  no_internal word _ hidden is (until_end_head i j) = internal_no_angle word _ is i
+  no_internal word tail hidden is (while_head i h) = internal_no_angle word _ is i
+  no_internal word _ hidden is (while_any_head i j) = internal_no_angle word _ is i
+  no_internal word tail hidden is (end_head i) = internal_no_angle word _ is i
 
-  -- the second words that there are end no element
-  abbrev NoneEnds : Text → List Text → Type 0
-  NoneEnds last rest = (second : Text) (tail : List Text) → rest ≡ second ∷ tail → NoEnding last second
+  -- what goes on with an element after `<until>`, after `<while>`, and with a set after `<not>`
+  data UntilTail : List Text → Type 0 where
+    until_goes_on : {words : List Text} → SetHead words → UntilTail words
+    until_ends : {word : Text} {more : List Text} → IsDeadlock word → UntilTail (word ∷ more)
 
-  not_ended : (e : Element) (front remainder rest : List Text) (word : Text) → Spelling strong e front → word ∷ rest ≡ front ++ remainder → IsUntil word →
-      NoneEnds (codes "<deadlock>") rest → ⊥
-  not_ended (until l) front remainder rest word (w, t, i, k, o) cut is none = (none t remainder (rest_words front remainder rest (t ∷ []) w word i cut)).label (l, o)
-  not_ended until_deadlock front remainder rest word (w, t, i, k, o) cut is none = (none t remainder (rest_words front remainder rest (t ∷ []) w word i cut)).last o
-  not_ended e front remainder rest word spelling cut is none =
-      let differ : get_or (mark e) 1 0 ≡ 117 = ap (λ text. get_or text 1 0) (marked e front remainder rest word _ spelling cut is) in absurd (omega arith)
+  data WhileTail : List Text → Type 0 where
+    while_goes_on : {words : List Text} → SetHead words → WhileTail words
+    while_ends : {word : Text} {more : List Text} → IsAny word → WhileTail (word ∷ more)
 
-  not_repeated : (e : Element) (front remainder rest : List Text) (word : Text) → Spelling strong e front → word ∷ rest ≡ front ++ remainder → IsWhile word →
-      NoneEnds (codes "<any>") rest → ⊥
-  not_repeated (while l) front remainder rest word (w, t, i, k, o) cut is none = (none t remainder (rest_words front remainder rest (t ∷ []) w word i cut)).label (l, o)
-  not_repeated while_any front remainder rest word (w, t, i, k, o) cut is none = (none t remainder (rest_words front remainder rest (t ∷ []) w word i cut)).last o
-  not_repeated e front remainder rest word spelling cut is none =
-      let differ : get_or (mark e) 1 0 ≡ 119 = ap (λ text. get_or text 1 0) (marked e front remainder rest word _ spelling cut is) in absurd (omega arith)
+  data NotTail : List Text → Type 0 where
+    not_ends : {word : Text} {more : List Text} → IsLabels strong word → NotTail (word ∷ more)
+
+  until_tail : (word : Text) (tail : List Text) → IsUntil word → ElementHead (word ∷ tail) → UntilTail tail
+  until_tail word tail is (set_head (names_head n)) = absurd (labels_no_angle strong word _ n is)
+  until_tail word _ is (set_head (not_head i n)) = absurd (apart word _ _ is i refl)
+  until_tail word tail is (any_head i) = absurd (apart word _ _ is i refl)
+  until_tail word tail is (until_head i h) = until_goes_on h
+  until_tail word _ is (until_end_head i j) = until_ends j
+  until_tail word tail is (while_head i h) = absurd (apart word _ _ is i refl)
+  until_tail word _ is (while_any_head i j) = absurd (apart word _ _ is i refl)
+  until_tail word tail is (end_head i) = absurd (apart word _ _ is i refl)
+
+  while_tail : (word : Text) (tail : List Text) → IsWhile word → ElementHead (word ∷ tail) → WhileTail tail
+  while_tail word tail is (set_head (names_head n)) = absurd (labels_no_angle strong word _ n is)
+  while_tail word _ is (set_head (not_head i n)) = absurd (apart word _ _ is i refl)
+  while_tail word tail is (any_head i) = absurd (apart word _ _ is i refl)
+  while_tail word tail is (until_head i h) = absurd (apart word _ _ is i refl)
+  while_tail word _ is (until_end_head i j) = absurd (apart word _ _ is i refl)
+  while_tail word tail is (while_head i h) = while_goes_on h
+  while_tail word _ is (while_any_head i j) = while_ends j
+  while_tail word tail is (end_head i) = absurd (apart word _ _ is i refl)
+
+  not_tail : (word : Text) (tail : List Text) → IsNot word → ElementHead (word ∷ tail) → NotTail tail
+  not_tail word tail is (set_head (names_head n)) = absurd (labels_no_angle strong word _ n is)
+  not_tail word _ is (set_head (not_head i n)) = not_ends n
+  not_tail word tail is (any_head i) = absurd (apart word _ _ is i refl)
+  not_tail word tail is (until_head i h) = absurd (apart word _ _ is i refl)
+  not_tail word _ is (until_end_head i j) = absurd (apart word _ _ is i refl)
+  not_tail word tail is (while_head i h) = absurd (apart word _ _ is i refl)
+  not_tail word _ is (while_any_head i j) = absurd (apart word _ _ is i refl)
+  not_tail word tail is (end_head i) = absurd (apart word _ _ is i refl)
+
+  -- nothing goes on with no word, or with a word that does not
+  no_set_head : SetHead [] → ⊥
+  no_set_head h = elim h [ ]
+
+  until_stops : UntilTail [] → ⊥
+  until_stops (until_goes_on h) = no_set_head h
+
+  while_stops : WhileTail [] → ⊥
+  while_stops (while_goes_on h) = no_set_head h
+
+  not_stops : NotTail [] → ⊥
+  not_stops h = elim h [ ]
+
+  until_fails : (word : Text) (tail : List Text) → EndsNoUntil strong word → UntilTail (word ∷ tail) → ⊥
+  until_fails word tail none (until_goes_on (names_head n)) = none.labels n
+  until_fails word _ none (until_goes_on (not_head i n)) = none.complement i
+  until_fails word tail none (until_ends i) = none.deadlock i
+
+  while_fails : (word : Text) (tail : List Text) → EndsNoWhile strong word → WhileTail (word ∷ tail) → ⊥
+  while_fails word tail none (while_goes_on (names_head n)) = none.labels n
+  while_fails word _ none (while_goes_on (not_head i n)) = none.complement i
+  while_fails word tail none (while_ends i) = none.any i
+
+  not_fails : (word : Text) (tail : List Text) → (IsLabels strong word → ⊥) → NotTail (word ∷ tail) → ⊥
+  not_fails word tail none (not_ends n) = none n
+
+  -- what goes on with an element is itself the beginning of one
+  until_next : (words : List Text) → UntilTail words → ElementHead words
+  until_next words (until_goes_on h) = set_head h
+  until_next _ (until_ends i) = end_head i
+
+  while_next : (words : List Text) → WhileTail words → ElementHead words
+  while_next words (while_goes_on h) = set_head h
+  while_next _ (while_ends i) = any_head i
 
   -- the element of a pattern that begins at an index
   record Next (words : List Text) (index : ℕ) (p q : List Element) : Type 0 where
@@ -106,58 +177,113 @@ module _ (strong : Bool) where
     here : (Such : Text → Type 0) → Such word → HasWord words (index + 1) Such
     here Such such = record { before = index; word = word; counted = refl; located = stands; such = such }
 
-    begins_nowhere : NoBeginning word → BeginsElement strong words (index + 1) → (q : Pattern) → PatternOf strong words q → ⊥
-    begins_nowhere none begins q spelled =
+    -- where no element begins, the words spell no pattern
+    spells_none : (ElementHead (word ∷ drop (index + 1) words) → ⊥) → BeginsElement strong words (index + 1) → (q : Pattern) → PatternOf strong words q → ⊥
+    spells_none none begins q spelled =
         let n = next words index begins.pattern q begins.is_after spelled in
-        not_begun n.element n.front n.rest (drop (index + 1) words) word n.spelling (sym (drop_at words index word stands) ∙ n.cut) none
+        let cut : word ∷ drop (index + 1) words ≡ n.front ++ n.rest = sym (drop_at words index word stands) ∙ n.cut in
+        none (subst ElementHead (sym cut) (element_begins n.element n.front n.rest n.spelling))
+
+  module _ (words : List Text) (index : ℕ) (word : Text) (stands : slice_get words index ≡ Some word) where
+    -- the words after the one before
+    after_word : (before : ℕ) → index ≡ before + 1 → drop (before + 1) words ≡ word ∷ drop (index + 1) words
+    after_word before same = subst (λ i. drop i words ≡ word ∷ drop (index + 1) words) same (drop_at words index word stands)
+
+    -- nor do they where a set may begin, and no element does
+    set_spells_none : (ElementHead (word ∷ drop (index + 1) words) → ⊥) → AwaitsSet strong words (index + 1) → (q : Pattern) → PatternOf strong words q → ⊥
+    set_spells_none none (inl begins) = spells_none words index word stands none begins
+    set_spells_none none (inr (n, same, inl with_until)) =
+        let first = with_until.first in
+        let before = first.before in
+        let counted = first.counted in
+        let follows : index ≡ before + 1 = omega arith in
+        spells_none words before first.word first.located
+        (λ h. none (subst ElementHead (after_word before follows) (until_next _ (until_tail first.word (drop (before + 1) words) first.such h))))
+        (subst (BeginsElement strong words) counted with_until.begins)
+    set_spells_none none (inr (n, same, inr with_while)) =
+        let first = with_while.first in
+        let before = first.before in
+        let counted = first.counted in
+        let follows : index ≡ before + 1 = omega arith in
+        spells_none words before first.word first.located
+        (λ h. none (subst ElementHead (after_word before follows) (while_next _ (while_tail first.word (drop (before + 1) words) first.such h))))
+        (subst (BeginsElement strong words) counted with_while.begins)
 
     pub fault_nothing : BeginsNoElement strong word → IsFaultAt strong words index (E41 (index + 1))
     fault_nothing none begins = (
-      (begins, here (BeginsNoElement strong) none),
-      begins_nowhere (record { label = none.label; any = none.any; until = none.until; while = none.while; deadlock = none.deadlock }) begins,
+      (begins, here words index word stands (BeginsNoElement strong) none),
+      spells_none words index word stands (no_beginning word (drop (index + 1) words) none) begins,
     )
 
-    -- after `<until>` nothing that ends an element
-    ends_nowhere : IsUntil word → NoneEnds (codes "<deadlock>") (drop (index + 1) words) → BeginsElement strong words (index + 1) → (q : Pattern) → PatternOf strong words q → ⊥
-    ends_nowhere is none begins q spelled =
-        let n = next words index begins.pattern q begins.is_after spelled in
-        not_ended n.element n.front n.rest (drop (index + 1) words) word n.spelling (sym (drop_at words index word stands) ∙ n.cut) is none
+    pub fault_internal : strong ≡ false → NamesInternal word → IsSetFaultAt strong words index (E45 (index + 1))
+    fault_internal hidden is awaits = (
+      (inl awaits, here words index word stands NamesInternal is, hidden),
+      set_spells_none (no_internal word (drop (index + 1) words) hidden is) awaits,
+    )
 
-    -- after `<while>` nothing that ends an element
-    repeats_nowhere : IsWhile word → NoneEnds (codes "<any>") (drop (index + 1) words) → BeginsElement strong words (index + 1) → (q : Pattern) → PatternOf strong words q → ⊥
-    repeats_nowhere is none begins q spelled =
-        let n = next words index begins.pattern q begins.is_after spelled in
-        not_repeated n.element n.front n.rest (drop (index + 1) words) word n.spelling (sym (drop_at words index word stands) ∙ n.cut) is none
-
-    none_ends_after_last : (last : Text) → length words ≡ index + 1 → NoneEnds last (drop (index + 1) words)
-    none_ends_after_last last ends second tail e = let long = length-drop (index + 1) words in let some = ap length e in absurd (omega arith)
+    -- no word follows
+    none_after : length words ≡ index + 1 → drop (index + 1) words ≡ []
+    none_after last = drop_all (index + 1) words (omega arith)
 
     pub fault_until_alone : IsUntil word → length words ≡ index + 1 → IsFaultAt strong words index (E42 (index + 1))
-    fault_until_alone is last begins = ((record { begins = begins; first = here IsUntil is }, inr last), ends_nowhere is (none_ends_after_last _ last) begins)
+    fault_until_alone is last begins = (
+      (record { begins = begins; first = here words index word stands IsUntil is }, inr last),
+      spells_none words index word stands (λ h. until_stops (subst UntilTail (none_after last) (until_tail word (drop (index + 1) words) is h))) begins,
+    )
 
     pub fault_while_alone : IsWhile word → length words ≡ index + 1 → IsFaultAt strong words index (E48 (index + 1))
-    fault_while_alone is last begins = ((record { begins = begins; first = here IsWhile is }, inr last), repeats_nowhere is (none_ends_after_last _ last) begins)
+    fault_while_alone is last begins = (
+      (record { begins = begins; first = here words index word stands IsWhile is }, inr last),
+      spells_none words index word stands (λ h. while_stops (subst WhileTail (none_after last) (while_tail word (drop (index + 1) words) is h))) begins,
+    )
+
+    pub fault_not_alone : IsNot word → length words ≡ index + 1 → IsSetFaultAt strong words index (E50 (index + 1))
+    fault_not_alone is last awaits = (
+      (awaits, here words index word stands IsNot is, inr last),
+      set_spells_none (λ h. not_stops (subst NotTail (none_after last) (not_tail word (drop (index + 1) words) is h))) awaits,
+    )
+
+    -- after `<until>` or `<while>` a set may begin
+    pub awaits_after_until : IsUntil word → BeginsElement strong words (index + 1) → AwaitsSet strong words (index + 1 + 1)
+    awaits_after_until is begins = inr (index + 1, refl, inl (record { begins = begins; first = here words index word stands IsUntil is }))
+
+    pub awaits_after_while : IsWhile word → BeginsElement strong words (index + 1) → AwaitsSet strong words (index + 1 + 1)
+    awaits_after_while is begins = inr (index + 1, refl, inr (record { begins = begins; first = here words index word stands IsWhile is }))
 
     module _ (second : Text) (follows : slice_get words (index + 1) ≡ Some second) where
       there : (Such : Text → Type 0) → Such second → HasWord words (index + 1 + 1) Such
       there Such such = record { before = index + 1; word = second; counted = refl; located = follows; such = such }
 
-      none_ends_at_second : (last : Text) → NoEnding last second → NoneEnds last (drop (index + 1) words)
-      none_ends_at_second last none other tail e =
-          let both : second ∷ drop (index + 1 + 1) words ≡ other ∷ tail = sym (drop_at words (index + 1) second follows) ∙ e in
-          let same : second ≡ other = cc in
-          subst (NoEnding last) same none
+      -- the words after the first
+      after : drop (index + 1) words ≡ second ∷ drop (index + 1 + 1) words
+      after = drop_at words (index + 1) second follows
 
       pub fault_until_none : IsUntil word → EndsNoUntil strong second → IsFaultAt strong words index (E42 (index + 1))
       fault_until_none is none begins = (
-        (record { begins = begins; first = here IsUntil is }, inl (there (EndsNoUntil strong) none)),
-        ends_nowhere is (none_ends_at_second _ (record { label = none.label; last = none.deadlock })) begins,
+        (record { begins = begins; first = here words index word stands IsUntil is }, inl (there (EndsNoUntil strong) none)),
+        spells_none words index word stands (λ h. until_fails second _ none (subst UntilTail after (until_tail word (drop (index + 1) words) is h))) begins,
       )
 
       pub fault_while_none : IsWhile word → EndsNoWhile strong second → IsFaultAt strong words index (E48 (index + 1))
       fault_while_none is none begins = (
-        (record { begins = begins; first = here IsWhile is }, inl (there (EndsNoWhile strong) none)),
-        repeats_nowhere is (none_ends_at_second _ (record { label = none.label; last = none.any })) begins,
+        (record { begins = begins; first = here words index word stands IsWhile is }, inl (there (EndsNoWhile strong) none)),
+        spells_none words index word stands (λ h. while_fails second _ none (subst WhileTail after (while_tail word (drop (index + 1) words) is h))) begins,
+      )
+
+      -- where the next word names no labels, `<not>` begins no set
+      no_complement : IsNot word → (IsLabels strong second → ⊥) → ElementHead (word ∷ drop (index + 1) words) → ⊥
+      no_complement is none h = not_fails second _ none (subst NotTail after (not_tail word (drop (index + 1) words) is h))
+
+      pub fault_not_none : IsNot word → EndsNoComplement strong second → IsSetFaultAt strong words index (E50 (index + 1))
+      fault_not_none is none awaits = (
+        (awaits, here words index word stands IsNot is, inl (there (EndsNoComplement strong) none)),
+        set_spells_none (no_complement is none.labels) awaits,
+      )
+
+      pub fault_not_internal : strong ≡ false → IsNot word → NamesInternal second → IsSetFaultAt strong words index (E45 (index + 1 + 1))
+      fault_not_internal hidden is too awaits = (
+        (inr (index + 1, refl, awaits, here words index word stands IsNot is), there NamesInternal too, hidden),
+        set_spells_none (no_complement is (internal_no_labels strong second hidden too)) awaits,
       )
 
   module _ (words : List Text) (index : ℕ) (p : Pattern) (stands : IsAfterPattern strong words (index + 1) p) where
@@ -181,6 +307,7 @@ module _ (strong : Bool) where
     full_cause (E44 n) (goes, full, same) = (p, subst (λ i. IsAfterPattern strong words i p) (sym same) stands, goes, full)
     full_cause (E45 n) h = absurd h
     full_cause (E48 n) h = absurd h
+    full_cause (E50 n) h = absurd h
     full_cause (E99 e) h = absurd h
 
     pub full_nothing : (fault : PatternFault) → IsAppendFault p.elements (index + 1) fault → SpellsNone strong words fault
@@ -190,102 +317,53 @@ module _ (strong : Bool) where
     full_nothing (E44 n) h = full_spells_none h.1
     full_nothing (E45 n) h = absurd h
     full_nothing (E48 n) h = absurd h
+    full_nothing (E50 n) h = absurd h
     full_nothing (E99 e) h = absurd h
 
--- no element begins or ends with the internal action, where it is not observed
-internal_no_label : (word : Text) → IsInternal word → IsLabel false word → ⊥
-internal_no_label word is (l, n) = names_no_internal word l n is
-
-internal_no_beginning : (word : Text) → IsInternal word → NoBeginning false word
-internal_no_beginning word is = record {
-  label = internal_no_label word is;
-  any = apart word word internal (codes "<any>") refl (λ h. cc) is;
-  until = apart word word internal (codes "<until>") refl (λ h. cc) is;
-  while = apart word word internal (codes "<while>") refl (λ h. cc) is;
-  deadlock = apart word word internal (codes "<deadlock>") refl (λ h. cc) is;
-}
-
-internal_no_ending : (word last : Text) → internal ≢ last → IsInternal word → NoEnding false last word
-internal_no_ending word last differ is = record { label = internal_no_label word is; last = apart word word internal last refl differ is }
-
-module _ (words : List Text) (index : ℕ) (word : Text) (stands : slice_get words index ≡ Some word) where
-  hidden_begins : IsInternal word → IsFaultAt false words index (E45 (index + 1))
-  hidden_begins is begins = (
-    (inl begins, here false words index word stands IsInternal is, refl),
-    begins_nowhere false words index word stands (internal_no_beginning word is) begins,
-  )
-
-  module _ (second : Text) (follows : slice_get words (index + 1) ≡ Some second) where
-    hidden_until : IsUntil word → IsInternal second → IsFaultAt false words index (E45 (index + 1 + 1))
-    hidden_until is too begins = (
-      (
-        inr (index + 1, refl, inl (record { begins = begins; first = here false words index word stands IsUntil is })),
-        there false words index word stands second follows IsInternal too,
-        refl,
-      ),
-      ends_nowhere false words index word stands is (none_ends_at_second false words index word stands second follows _ (internal_no_ending second _ (λ h. cc) too)) begins,
-    )
-
-    hidden_while : IsWhile word → IsInternal second → IsFaultAt false words index (E45 (index + 1 + 1))
-    hidden_while is too begins = (
-      (
-        inr (index + 1, refl, inr (record { begins = begins; first = here false words index word stands IsWhile is })),
-        there false words index word stands second follows IsInternal too,
-        refl,
-      ),
-      repeats_nowhere false words index word stands is (none_ends_at_second false words index word stands second follows _ (internal_no_ending second _ (λ h. cc) too)) begins,
-    )
-
-module _ (strong : Bool) (hidden : strong ≡ false) (words : List Text) (index : ℕ) (word : Text) (stands : slice_get words index ≡ Some word) where
-  pub fault_internal : IsInternal word → IsFaultAt strong words index (E45 (index + 1))
-  fault_internal is = subst (λ b. IsFaultAt b words index (E45 (index + 1))) (sym hidden) (hidden_begins words index word stands is)
-
-  module _ (second : Text) (follows : slice_get words (index + 1) ≡ Some second) where
-    pub fault_until_internal : IsUntil word → IsInternal second → IsFaultAt strong words index (E45 (index + 1 + 1))
-    fault_until_internal is too = subst (λ b. IsFaultAt b words index (E45 (index + 1 + 1))) (sym hidden) (hidden_until words index word stands second follows is too)
-
-    pub fault_while_internal : IsWhile word → IsInternal second → IsFaultAt strong words index (E45 (index + 1 + 1))
-    fault_while_internal is too = subst (λ b. IsFaultAt b words index (E45 (index + 1 + 1))) (sym hidden) (hidden_while words index word stands second follows is too)
-
--- a word in angle brackets ends no element that another one ends
+-- a word in angle brackets goes on with no element that another one does
 module _ (strong : Bool) (word rest : Text) (is : EqualsIgnoringCase word (60 ∷ rest)) where
-  angle_internal : internal ≢ 60 ∷ rest → IsInternal word → ⊥
-  angle_internal differ h = apart word word internal (60 ∷ rest) refl differ h is
-
-  pub angle_ends_none : codes "<deadlock>" ≢ 60 ∷ rest → internal ≢ 60 ∷ rest → EndsNoUntil strong word
-  angle_ends_none differ no_internal = record {
-    label = λ (l, n). label_no_angle strong word word rest l refl n is;
-    internal = angle_internal no_internal;
-    deadlock = λ h. apart word word (codes "<deadlock>") (60 ∷ rest) refl differ h is;
+  pub angle_ends_none : Differ (codes "<not>") (60 ∷ rest) → Differ (codes "<deadlock>") (60 ∷ rest) → EndsNoUntil strong word
+  angle_ends_none no_not no_deadlock = record {
+    labels = λ n. labels_no_angle strong word rest n is;
+    internal = λ n. internal_no_angle word rest n is;
+    complement = λ h. apart word (codes "<not>") (60 ∷ rest) h is no_not;
+    deadlock = λ h. apart word (codes "<deadlock>") (60 ∷ rest) h is no_deadlock;
   }
 
-  pub angle_repeats_none : codes "<any>" ≢ 60 ∷ rest → internal ≢ 60 ∷ rest → EndsNoWhile strong word
-  angle_repeats_none differ no_internal = record {
-    label = λ (l, n). label_no_angle strong word word rest l refl n is;
-    internal = angle_internal no_internal;
-    any = λ h. apart word word (codes "<any>") (60 ∷ rest) refl differ h is;
+  pub angle_repeats_none : Differ (codes "<not>") (60 ∷ rest) → Differ (codes "<any>") (60 ∷ rest) → EndsNoWhile strong word
+  angle_repeats_none no_not no_any = record {
+    labels = λ n. labels_no_angle strong word rest n is;
+    internal = λ n. internal_no_angle word rest n is;
+    complement = λ h. apart word (codes "<not>") (60 ∷ rest) h is no_not;
+    any = λ h. apart word (codes "<any>") (60 ∷ rest) h is no_any;
   }
 
-pub any_ends_none : (strong : Bool) (word : Text) → EqualsIgnoringCase word (codes "<any>") → EndsNoUntil strong word
-any_ends_none strong word is = angle_ends_none strong word _ is (λ h. cc) (λ h. cc)
+  pub angle_names_none : EndsNoComplement strong word
+  angle_names_none = record { labels = λ n. labels_no_angle strong word rest n is; internal = λ n. internal_no_angle word rest n is }
+
+pub any_ends_none : (strong : Bool) (word : Text) → IsAny word → EndsNoUntil strong word
+any_ends_none strong word is = angle_ends_none strong word _ is refl refl
 
 pub until_ends_none : (strong : Bool) (word : Text) → IsUntil word → EndsNoUntil strong word
-until_ends_none strong word is = angle_ends_none strong word _ is (λ h. cc) (λ h. cc)
+until_ends_none strong word is = angle_ends_none strong word _ is refl refl
 
 pub while_ends_none : (strong : Bool) (word : Text) → IsWhile word → EndsNoUntil strong word
-while_ends_none strong word is = angle_ends_none strong word _ is (λ h. cc) (λ h. cc)
+while_ends_none strong word is = angle_ends_none strong word _ is refl refl
 
 pub nothing_ends_none : (strong : Bool) (word : Text) → BeginsNoElement strong word → EndsNoUntil strong word
-nothing_ends_none strong word none = record { label = none.label; internal = none.internal; deadlock = none.deadlock }
+nothing_ends_none strong word none = record { labels = none.labels; internal = none.internal; complement = none.complement; deadlock = none.deadlock }
 
 pub until_repeats_none : (strong : Bool) (word : Text) → IsUntil word → EndsNoWhile strong word
-until_repeats_none strong word is = angle_repeats_none strong word _ is (λ h. cc) (λ h. cc)
+until_repeats_none strong word is = angle_repeats_none strong word _ is refl refl
 
 pub while_repeats_none : (strong : Bool) (word : Text) → IsWhile word → EndsNoWhile strong word
-while_repeats_none strong word is = angle_repeats_none strong word _ is (λ h. cc) (λ h. cc)
+while_repeats_none strong word is = angle_repeats_none strong word _ is refl refl
 
-pub deadlock_repeats_none : (strong : Bool) (word : Text) → EqualsIgnoringCase word (codes "<deadlock>") → EndsNoWhile strong word
-deadlock_repeats_none strong word is = angle_repeats_none strong word _ is (λ h. cc) (λ h. cc)
+pub deadlock_repeats_none : (strong : Bool) (word : Text) → IsDeadlock word → EndsNoWhile strong word
+deadlock_repeats_none strong word is = angle_repeats_none strong word _ is refl refl
 
 pub nothing_repeats_none : (strong : Bool) (word : Text) → BeginsNoElement strong word → EndsNoWhile strong word
-nothing_repeats_none strong word none = record { label = none.label; internal = none.internal; any = none.any }
+nothing_repeats_none strong word none = record { labels = none.labels; internal = none.internal; complement = none.complement; any = none.any }
+
+pub nothing_names_none : (strong : Bool) (word : Text) → BeginsNoElement strong word → EndsNoComplement strong word
+nothing_names_none strong word none = record { labels = none.labels; internal = none.internal }

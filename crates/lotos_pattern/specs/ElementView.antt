@@ -1,17 +1,23 @@
 -- The views of the program's elements and patterns, and the invariant of patterns.
 use Rattle.std.specs.Prelude.{◌≤◌, Bool, List, All, length, map}
 use Rattle.std.specs.String.{string_bytes}
-use Rattle.lotos_pattern.specs.Patterns.{Element, OnlyLastDemandsDeadlock, IsObservable, Pattern, any, deadlock, one, until, until_deadlock, while, while_any}
+use Rattle.lotos_pattern.specs.PatternLabels.{Label}
+use Rattle.lotos_pattern.specs.Patterns.{Element, LabelSet, OnlyLastDemandsDeadlock, IsObservable, Pattern, Segment, deadlock, one, others, these, until, until_deadlock, while}
 use Rattle.lotos_pattern.specs.declared.element.Element.{Element as CodeElement}
 use Rattle.lotos_pattern.specs.declared.element.Element.TheVariants as code
+use Rattle.lotos_pattern.specs.declared.label_set.LabelSet.{LabelSet as CodeLabelSet}
+use Rattle.lotos_pattern.specs.declared.label_set.LabelSet.TheVariants as code_set
+
+-- the view of a set of labels
+abbrev pub set_of : CodeLabelSet → LabelSet
+set_of (code_set.These labels) = these (map string_bytes labels.items)
+set_of (code_set.Others labels) = others (map string_bytes labels.items)
 
 -- the view of an element
 abbrev pub element_of : CodeElement → Element
-element_of (code.Label text) = one (string_bytes text)
-element_of code.Any = any
-element_of (code.Until text) = until (string_bytes text)
-element_of (code.While text) = while (string_bytes text)
-element_of code.WhileAny = while_any
+element_of (code.One set) = one (set_of set)
+element_of (code.Until set) = until (set_of set)
+element_of (code.While set) = while (set_of set)
 element_of code.Deadlock = deadlock
 element_of code.UntilDeadlock = until_deadlock
 
@@ -23,15 +29,9 @@ elements_of = map element_of
 abbrev pub pattern_of : (strong : Bool) → List Element → Pattern
 pattern_of strong elements = record { elements = elements; strong = strong }
 
--- the label of the element, if it needs one, can be observed
+-- some segment of the element can be observed
 abbrev pub CanOccur : (strong : Bool) → Element → Type 0
-CanOccur strong (one l) = IsObservable strong l
-CanOccur strong any = Unit {0}
-CanOccur strong (until l) = IsObservable strong l
-CanOccur strong (while l) = Unit {0}
-CanOccur strong while_any = Unit {0}
-CanOccur strong deadlock = Unit {0}
-CanOccur strong until_deadlock = Unit {0}
+CanOccur strong e = (s : List Label) × Segment e s × All (IsObservable strong) s
 
 -- the invariant of patterns
 pub record IsPattern (p : Pattern) : Type 0 where

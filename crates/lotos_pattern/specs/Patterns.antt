@@ -1,5 +1,5 @@
 -- What a pattern is, and which sequences of labels it matches.
-use Rattle.std.specs.Prelude.{◌≡◌, ◌≢◌, Bool, true, false, List, [], ◌∷◌, ◌++◌, All}
+use Rattle.std.specs.Prelude.{◌≡◌, ◌≢◌, Bool, true, false, List, [], ◌∷◌, ◌++◌, All, Contains}
 use Rattle.lotos_pattern.specs.PatternLabels.{Label, internal}
 
 -- the list is the concatenation of one part for each of the items, in turn
@@ -7,18 +7,26 @@ abbrev pub IsJoin : {E X : Type 0} → (E → List X → Type 0) → List E → 
 IsJoin Part [] xs = xs ≡ []
 IsJoin {E} {X} Part (e ∷ es) xs = (front : List X) × (rest : List X) × Part e front × IsJoin Part es rest × (xs ≡ front ++ rest)
 
+-- a set of labels
+pub data LabelSet : Type 0 where
+  -- these labels
+  these : List Label → LabelSet
+  -- all labels but these
+  others : List Label → LabelSet
+
+-- the label is in the set
+abbrev pub IsIn : Label → LabelSet → Type 0
+IsIn l (these labels) = Contains labels l
+IsIn l (others labels) = Contains labels l → ⊥
+
 -- an element of a pattern
 pub data Element : Type 0 where
-  -- that one label
-  one : Label → Element
-  -- any one label
-  any : Element
-  -- any number of labels other than this one, and then it
-  until : Label → Element
-  -- any number of labels, all of them this one
-  while : Label → Element
-  -- any number of labels
-  while_any : Element
+  -- one label of the set
+  one : LabelSet → Element
+  -- any number of labels outside of the set, and then one of the set
+  until : LabelSet → Element
+  -- any number of labels, all of the set
+  while : LabelSet → Element
   -- no label; the end must be a deadlock
   deadlock : Element
   -- any number of labels; the end must be a deadlock
@@ -26,11 +34,9 @@ pub data Element : Type 0 where
 
 -- the sequence is a segment of the element
 abbrev pub Segment : Element → List Label → Type 0
-Segment (one l) s = s ≡ l ∷ []
-Segment any s = (l : Label) × (s ≡ l ∷ [])
-Segment (until l) s = (others : List Label) × All (λ x. x ≢ l) others × (s ≡ others ++ l ∷ [])
-Segment (while l) s = All (λ x. x ≡ l) s
-Segment while_any s = Unit {0}
+Segment (one set) s = (l : Label) × IsIn l set × (s ≡ l ∷ [])
+Segment (until set) s = (before : List Label) × (l : Label) × All (λ x. IsIn x set → ⊥) before × IsIn l set × (s ≡ before ++ l ∷ [])
+Segment (while set) s = All (λ x. IsIn x set) s
 Segment deadlock s = s ≡ []
 Segment until_deadlock s = Unit {0}
 
@@ -55,11 +61,9 @@ Viable p r = (s : List Label) × Matches p (r ++ s)
 
 -- the element demands a deadlock at the end
 abbrev pub ElementDemandsDeadlock : Element → Type 0
-ElementDemandsDeadlock (one l) = ⊥
-ElementDemandsDeadlock any = ⊥
-ElementDemandsDeadlock (until l) = ⊥
-ElementDemandsDeadlock (while l) = ⊥
-ElementDemandsDeadlock while_any = ⊥
+ElementDemandsDeadlock (one set) = ⊥
+ElementDemandsDeadlock (until set) = ⊥
+ElementDemandsDeadlock (while set) = ⊥
 ElementDemandsDeadlock deadlock = Unit {0}
 ElementDemandsDeadlock until_deadlock = Unit {0}
 

@@ -2,9 +2,9 @@
 use Rattle.std.specs.Prelude.{◌≡◌, ℕ, ◌≤◌, ◌||◌, ◌==◌, Bool, IsTrue, List, [], ◌∷◌, codes, length, map}
 use Rattle.std.specs.Borrow.{Bor}
 use Rattle.std.specs.Char.{is_ascii_alphabetic, is_ascii_alphanumeric, to_ascii_lowercase, to_ascii_uppercase}
-use Rattle.std.specs.List.{AllByRecursion}
+use Rattle.std.specs.List.{AllByRecursion, slice_split}
 use Rattle.lotos_pattern.specs.PatternLabels.{Label, internal, termination}
-use Rattle.lotos_pattern.specs.Patterns.{Element, OnlyLastDemandsDeadlock, IsJoin, IsObservable, Pattern, any, deadlock, one, until, until_deadlock, while, while_any}
+use Rattle.lotos_pattern.specs.Patterns.{Element, LabelSet, OnlyLastDemandsDeadlock, IsJoin, IsObservable, Pattern, deadlock, one, others, these, until, until_deadlock, while}
 
 -- a word as its bytes
 abbrev pub Text : Type 0
@@ -40,19 +40,65 @@ pub record Names (strong : Bool) (word : Text) (l : Label) : Type 0 where
   pub named : IsNamed word l
   pub observable : IsObservable strong l
 
+-- the names are those of the labels, each of one, in this order
+abbrev pub NamesEach : (strong : Bool) → List Text → List Label → Type 0
+NamesEach strong [] [] = Unit {0}
+NamesEach strong [] (l ∷ labels) = ⊥
+NamesEach strong (name ∷ names) [] = ⊥
+NamesEach strong (name ∷ names) (l ∷ labels) = Names strong name l × NamesEach strong names labels
+
+-- the parts of a word between its commas
+abbrev pub parts_of : Text → List Text
+parts_of word = slice_split (λ b. b == 44) word
+
+-- the word is the names of the labels, with commas between them
+abbrev pub NamesLabels : (strong : Bool) → Text → List Label → Type 0
+NamesLabels strong word labels = NamesEach strong (parts_of word) labels
+
+-- the word is `<any>`
+abbrev pub IsAny : Text → Type 0
+IsAny word = EqualsIgnoringCase word (codes "<any>")
+
+-- the word is `<not>`
+abbrev pub IsNot : Text → Type 0
+IsNot word = EqualsIgnoringCase word (codes "<not>")
+
+-- the word is `<until>`
+abbrev pub IsUntil : Text → Type 0
+IsUntil word = EqualsIgnoringCase word (codes "<until>")
+
+-- the word is `<while>`
+abbrev pub IsWhile : Text → Type 0
+IsWhile word = EqualsIgnoringCase word (codes "<while>")
+
+-- the word is `<deadlock>`
+abbrev pub IsDeadlock : Text → Type 0
+IsDeadlock word = EqualsIgnoringCase word (codes "<deadlock>")
+
+-- the words that spell a set of labels
+pub data SetSpelling (strong : Bool) : LabelSet → List Text → Type 0 where
+  -- the names of its labels
+  named : {word : Text} {labels : List Label} → NamesLabels strong word labels → SetSpelling strong (these labels) (word ∷ [])
+  -- `<not>`, and the names of the labels that are not in it
+  complement : {first second : Text} {labels : List Label} → IsNot first → NamesLabels strong second labels →
+      SetSpelling strong (others labels) (first ∷ second ∷ [])
+
 -- the words that spell an element
-abbrev pub Spelling : (strong : Bool) → Element → List Text → Type 0
-Spelling strong (one l) words = (word : Text) × (words ≡ word ∷ []) × Names strong word l
-Spelling strong any words = (word : Text) × (words ≡ word ∷ []) × EqualsIgnoringCase word (codes "<any>")
-Spelling strong (until l) words =
-    (first second : Text) × (words ≡ first ∷ second ∷ []) × EqualsIgnoringCase first (codes "<until>") × Names strong second l
-Spelling strong (while l) words =
-    (first second : Text) × (words ≡ first ∷ second ∷ []) × EqualsIgnoringCase first (codes "<while>") × Names strong second l
-Spelling strong while_any words =
-    (first second : Text) × (words ≡ first ∷ second ∷ []) × EqualsIgnoringCase first (codes "<while>") × EqualsIgnoringCase second (codes "<any>")
-Spelling strong deadlock words = (word : Text) × (words ≡ word ∷ []) × EqualsIgnoringCase word (codes "<deadlock>")
-Spelling strong until_deadlock words =
-    (first second : Text) × (words ≡ first ∷ second ∷ []) × EqualsIgnoringCase first (codes "<until>") × EqualsIgnoringCase second (codes "<deadlock>")
+pub data Spelling (strong : Bool) : Element → List Text → Type 0 where
+  -- a set: one label of it
+  one_of : {set : LabelSet} {words : List Text} → SetSpelling strong set words → Spelling strong (one set) words
+  -- `<any>`: one label of the set of all
+  one_any : {word : Text} → IsAny word → Spelling strong (one (others [])) (word ∷ [])
+  -- `<until>`, and a set
+  until_set : {first : Text} {set : LabelSet} {rest : List Text} → IsUntil first → SetSpelling strong set rest → Spelling strong (until set) (first ∷ rest)
+  -- `<while>`, and a set
+  while_set : {first : Text} {set : LabelSet} {rest : List Text} → IsWhile first → SetSpelling strong set rest → Spelling strong (while set) (first ∷ rest)
+  -- `<while> <any>`: the set of all labels
+  while_any : {first second : Text} → IsWhile first → IsAny second → Spelling strong (while (others [])) (first ∷ second ∷ [])
+  -- `<deadlock>`
+  end : {word : Text} → IsDeadlock word → Spelling strong deadlock (word ∷ [])
+  -- `<until> <deadlock>`
+  until_end : {first second : Text} → IsUntil first → IsDeadlock second → Spelling strong until_deadlock (first ∷ second ∷ [])
 
 -- the words spell the pattern: at most 256 elements, of which only the last may demand a deadlock; if internal steps
 -- are observed, the internal action is a label like others

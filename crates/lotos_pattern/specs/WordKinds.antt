@@ -1,22 +1,23 @@
 -- What a word of a pattern means on its own, and what the parser of one element returns.
-use Rattle.std.specs.Prelude.{◌≡◌, ◌≢◌, ℕ, ◌+◌, ◌<◌, ◌≤◌, Bool, false, List, ◌++◌, codes, length, take}
+use Rattle.std.specs.Prelude.{◌≡◌, ◌≢◌, ℕ, ◌+◌, ◌<◌, ◌≤◌, Bool, false, List, [], ◌∷◌, ◌++◌, Some, length, map, slice_get, take}
 use Rattle.std.specs.String.{string_bytes}
-use Rattle.lotos_pattern.specs.Patterns.{Element, LastDemandsDeadlock}
-use Rattle.lotos_pattern.specs.Spelling.{Names, EqualsIgnoringCase, Spelling, Text}
-use Rattle.lotos_pattern.specs.PatternFaults.{BeginsElement, BeginsNoElement, IsCause, IsInternal, IsUntil, IsWhile, SpellsNone}
+use Rattle.lotos_pattern.specs.Patterns.{Element, LabelSet, LastDemandsDeadlock}
+use Rattle.lotos_pattern.specs.Spelling.{IsAny, IsDeadlock, IsNot, IsUntil, IsWhile, NamesLabels, SetSpelling, Spelling, Text}
+use Rattle.lotos_pattern.specs.PatternFaults.{AwaitsSet, BeginsElement, BeginsNoElement, IsCause, NamesInternal, SpellsNone}
 use Rattle.lotos_pattern.specs.declared.fault.PatternFault.{PatternFault}
-use Rattle.lotos_pattern.specs.declared.fault.PatternFault.TheVariants.{E41, E42, E43, E44, E45, E48, E99}
+use Rattle.lotos_pattern.specs.declared.fault.PatternFault.TheVariants.{E41, E42, E43, E44, E45, E48, E50, E99}
 use Rattle.lotos_pattern.specs.declared.pattern_parser.WordKind.{WordKind}
 use Rattle.lotos_pattern.specs.declared.pattern_parser.WordKind.TheVariants as word_kind
 
 -- what the word means on its own
 abbrev pub IsKindOfWord : (strong : Bool) → Text → WordKind → Type 0
-IsKindOfWord strong word (word_kind.Label text) = Names strong word (string_bytes text)
-IsKindOfWord strong word word_kind.Internal = IsInternal word × (strong ≡ false)
-IsKindOfWord strong word word_kind.Any = EqualsIgnoringCase word (codes "<any>")
+IsKindOfWord strong word (word_kind.Labels labels) = NamesLabels strong word (map string_bytes labels.items)
+IsKindOfWord strong word word_kind.Internal = NamesInternal word × (strong ≡ false)
+IsKindOfWord strong word word_kind.Any = IsAny word
+IsKindOfWord strong word word_kind.Not = IsNot word
 IsKindOfWord strong word word_kind.Until = IsUntil word
 IsKindOfWord strong word word_kind.While = IsWhile word
-IsKindOfWord strong word word_kind.Deadlock = EqualsIgnoringCase word (codes "<deadlock>")
+IsKindOfWord strong word word_kind.Deadlock = IsDeadlock word
 IsKindOfWord strong word word_kind.Unknown = BeginsNoElement strong word
 
 -- another element may follow these
@@ -32,6 +33,7 @@ IsAppendFault p n (E43 m) = LastDemandsDeadlock p × (m ≡ n)
 IsAppendFault p n (E44 m) = (LastDemandsDeadlock p → ⊥) × (length p ≡ 256) × (m ≡ n)
 IsAppendFault p n (E45 m) = ⊥
 IsAppendFault p n (E48 m) = ⊥
+IsAppendFault p n (E50 m) = ⊥
 IsAppendFault p n (E99 e) = ⊥
 
 -- the words from index `index` up to index `end` spell the element
@@ -45,3 +47,15 @@ pub record ParsesAt (strong : Bool) (words : List Text) (index : ℕ) (e : Eleme
 -- if an element begins at this index, the fault has its cause and the words spell no pattern
 abbrev pub IsFaultAt : (strong : Bool) → List Text → ℕ → PatternFault → Type 0
 IsFaultAt strong words index fault = BeginsElement strong words (index + 1) → IsCause strong words fault × SpellsNone strong words fault
+
+-- the word at this index, which is `<not>`, and the next one spell the set
+pub record SpellsSetAt (strong : Bool) (words : List Text) (index : ℕ) (set : LabelSet) : Type 0 where
+  pub first : Text
+  pub second : Text
+  pub first_at : slice_get words index ≡ Some first
+  pub second_at : slice_get words (index + 1) ≡ Some second
+  pub spelling : SetSpelling strong set (first ∷ second ∷ [])
+
+-- if a set may begin at this index, the fault has its cause and the words spell no pattern
+abbrev pub IsSetFaultAt : (strong : Bool) → List Text → ℕ → PatternFault → Type 0
+IsSetFaultAt strong words index fault = AwaitsSet strong words (index + 1) → IsCause strong words fault × SpellsNone strong words fault

@@ -4,19 +4,17 @@ ghost use Rattle.lotos_pattern.specs.Patterns.{LastDemandsDeadlock, ElementDeman
 ghost use Rattle.lotos_pattern.specs.ElementView.{element_of, elements_of};
 ghost use Rattle.lotos_pattern.specs.Transitions.{IsTransition};
 
-/// An element of a pattern. Labels are given by their printed texts.
+use crate::label_set::LabelSet;
+
+/// An element of a pattern.
 #[derive(Debug, Drop)]
 pub(crate) enum Element {
-    /// That one label.
-    Label(String),
-    /// Any one label.
-    Any,
-    /// Any number of labels other than this one, and then it.
-    Until(String),
-    /// Any number of labels, all of them this one.
-    While(String),
-    /// Any number of labels.
-    WhileAny,
+    /// One label of the set.
+    One(LabelSet),
+    /// Any number of labels outside of the set, and then one of the set.
+    Until(LabelSet),
+    /// Any number of labels, all of the set.
+    While(LabelSet),
     /// No label; the end must be a deadlock.
     Deadlock,
     /// Any number of labels; the end must be a deadlock.
@@ -39,29 +37,27 @@ impl Element {
         ensures { IsTransition (element_of self.now) label.now result }
     {
         match self {
-            Element::Label(own) => {
-                if own.as_str() == label {
+            Element::One(set) => {
+                if set.contains(label) {
                     Transition::Advance
                 } else {
                     Transition::Reject
                 }
             }
-            Element::Any => Transition::Advance,
-            Element::Until(last) => {
-                if last.as_str() == label {
+            Element::Until(set) => {
+                if set.contains(label) {
                     Transition::Advance
                 } else {
                     Transition::Stay
                 }
             }
-            Element::While(repeated) => {
-                if repeated.as_str() == label {
+            Element::While(set) => {
+                if set.contains(label) {
                     Transition::Stay
                 } else {
                     Transition::Reject
                 }
             }
-            Element::WhileAny => Transition::Stay,
             Element::Deadlock => Transition::Reject,
             Element::UntilDeadlock => Transition::Stay,
         }
@@ -72,11 +68,9 @@ impl Element {
         ensures { MatchBool result (Segment (element_of self.now) []) (Segment (element_of self.now) [] → ⊥) }
     {
         match self {
-            Element::Label(_) => false,
-            Element::Any => false,
+            Element::One(_) => false,
             Element::Until(_) => false,
             Element::While(_) => true,
-            Element::WhileAny => true,
             Element::Deadlock => true,
             Element::UntilDeadlock => true,
         }

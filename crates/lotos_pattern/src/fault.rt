@@ -6,10 +6,10 @@ use thiserror::Error;
 /// Why words spell no pattern. The number in a fault is that of a word, counted from 1.
 #[derive(Clone, Copy, Debug, PartialEq, Eq, Error)]
 pub enum PatternFault {
-    /// The word is neither a label nor an element.
+    /// The word neither names labels nor begins an element.
     #[error("E41 word {0} is neither a label nor an element")]
     E41(usize),
-    /// This word, `<until>`, is not followed by a label or `<deadlock>`.
+    /// This word, `<until>`, is not followed by a set of labels or `<deadlock>`.
     #[error("E42 word {0} needs a label or <deadlock> after it")]
     E42(usize),
     /// The word follows an element that demands a deadlock.
@@ -18,12 +18,15 @@ pub enum PatternFault {
     /// The word follows 256 elements, the most that a pattern may have.
     #[error("E44 pattern is over 256 elements")]
     E44(usize),
-    /// The word is `i`, and internal steps are not observed.
+    /// The word is `i`, or has `i` among its names, and internal steps are not observed.
     #[error("E45 word {0} is i, which cannot be observed")]
     E45(usize),
-    /// This word, `<while>`, is not followed by a label or `<any>`.
+    /// This word, `<while>`, is not followed by a set of labels or `<any>`.
     #[error("E48 word {0} needs a label or <any> after it")]
     E48(usize),
+    /// This word, `<not>`, is not followed by a word that names labels.
+    #[error("E50 word {0} needs a label after it")]
+    E50(usize),
     /// Out of memory.
     #[error("E99 out of memory")]
     E99(AllocError),

@@ -7,11 +7,14 @@
 
 mod element;
 mod fault;
+mod label_names;
+mod label_set;
 pub mod laws;
 mod pattern;
 mod pattern_parser;
 mod place;
 
 pub use fault::PatternFault;
+pub use label_names::split_names;
 pub use pattern::Pattern;
 pub use place::{End, Place};

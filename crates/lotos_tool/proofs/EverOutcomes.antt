@@ -1,15 +1,18 @@
 -- The outcome of `ever` for the request and the text, from that for a system and a pattern.
-use Rattle.std.proofs.Common.{◌≡◌, ℕ, List, None, Option, Some, false, arith, refl, sym, subst}
+use Rattle.std.proofs.Common.{◌≡◌, ℕ, List, [], None, Option, Some, false, arith, refl, sym, subst}
 use Rattle.std.specs.Io.KnownBytes.{Appends}
-use Rattle.std.proofs.KnownBytes.{Keeps-refl}
+use Rattle.std.proofs.KnownBytes.{Consumes-nil, Keeps-refl}
 use Rattle.std.specs.declared.vec.Vec.{Vec}
 use Rattle.std.specs.declared.alloc.Global.{Global}
 use Rattle.lotos_check.specs.Flat.{System}
 use Rattle.lotos_pattern.specs.Patterns.{Pattern}
 use Rattle.lotos_pattern.specs.Spelling.{PatternOf}
+use Rattle.lotos_pattern.specs.PatternFaults.{IsCause, SpellsNone}
+use Rattle.lotos_pattern.specs.declared.fault.PatternFault.{PatternFault}
+use Rattle.lotos_pattern.specs.declared.fault.PatternFault.TheVariants as pattern
 use Rattle.lotos_ever.specs.MatchQuestions.{MatchQuestion}
 use Rattle.lotos_device.specs.ByteOutput.{AppendsBeginning}
-use Rattle.lotos_tool.specs.EverSetup.{HasLine, IsEndWithoutMatch, IsEverQuestionFor, IsOutcomeFor, IsWritten}
+use Rattle.lotos_tool.specs.EverSetup.{HasLine, IsEndWithoutMatch, IsEverQuestionFor, IsOutcomeFor, IsWordsOutcome, IsWritten}
 use Rattle.lotos_tool.specs.EverOutcomeContracts.{IsEverQuestionOfText, EverOutcome, is_ever_input_fault, ever_words_of}
 use Rattle.lotos_tool.specs.UnknownGates.{HasNoUnknownGate, IsFirstUnknownGate}
 use Rattle.lotos_tool.specs.AcceptedText.{ReadsAccepted}
@@ -18,6 +21,27 @@ use Rattle.lotos_tool.specs.declared.outcome.EverEnded.TheVariants.{Matched, NoM
 use Rattle.lotos_tool.specs.declared.outcome.EverWhy.TheVariants as why
 use Rattle.lotos_tool.specs.declared.refusal.Refusal.TheVariants as refusal
 use Rattle.lotos_command.specs.declared.command.EverRequest.{EverRequest}
+
+-- the outcome if the words spell no pattern, or memory ran out when they were read
+pub words_refused : (request : EverRequest) (left got : Option (List ℕ)) (fault : PatternFault) (ended : EverEnded) →
+    IsCause request.strong (ever_words_of request) fault → SpellsNone request.strong (ever_words_of request) fault → IsWordsOutcome fault ended →
+    EverOutcome request left left got got ended
+words_refused request left got (pattern.E41 n) ended cause none e =
+    subst (EverOutcome request left left got got) (sym e) (record { kept = Keeps-refl left; cause = cause; never = none }, Keeps-refl got)
+words_refused request left got (pattern.E42 n) ended cause none e =
+    subst (EverOutcome request left left got got) (sym e) (record { kept = Keeps-refl left; cause = cause; never = none }, Keeps-refl got)
+words_refused request left got (pattern.E43 n) ended cause none e =
+    subst (EverOutcome request left left got got) (sym e) (record { kept = Keeps-refl left; cause = cause; never = none }, Keeps-refl got)
+words_refused request left got (pattern.E44 n) ended cause none e =
+    subst (EverOutcome request left left got got) (sym e) (record { kept = Keeps-refl left; cause = cause; never = none }, Keeps-refl got)
+words_refused request left got (pattern.E45 n) ended cause none e =
+    subst (EverOutcome request left left got got) (sym e) (record { kept = Keeps-refl left; cause = cause; never = none }, Keeps-refl got)
+words_refused request left got (pattern.E48 n) ended cause none e =
+    subst (EverOutcome request left left got got) (sym e) (record { kept = Keeps-refl left; cause = cause; never = none }, Keeps-refl got)
+words_refused request left got (pattern.E50 n) ended cause none e =
+    subst (EverOutcome request left left got got) (sym e) (record { kept = Keeps-refl left; cause = cause; never = none }, Keeps-refl got)
+words_refused request left got (pattern.E99 x) ended cause none e =
+    subst (EverOutcome request left left got got) (sym e) (record { taken = ([], omega arith, Consumes-nil left); kept = Keeps-refl got })
 
 -- an outcome for a system and a pattern is no input fault
 pub told_was_read : (request : EverRequest) (system : System) (p : Pattern) (got got' : Option (List ℕ)) (ended : EverEnded) →

@@ -8,6 +8,9 @@ use Rattle.lotos_check.specs.Flat.{System}
 use Rattle.lotos_terms.specs.TableView.{TableView}
 use Rattle.lotos_pattern.specs.Patterns.{Pattern}
 use Rattle.lotos_pattern.specs.Spelling.{PatternOf}
+use Rattle.lotos_pattern.specs.PatternFaults.{IsCause, SpellsNone}
+use Rattle.lotos_pattern.specs.declared.fault.PatternFault.{PatternFault}
+use Rattle.lotos_pattern.specs.declared.fault.PatternFault.TheVariants as pattern
 use Rattle.lotos_search.specs.Order.{Label}
 use Rattle.lotos_search.specs.SearchSteps.{IsBegun, SearchState}
 use Rattle.lotos_search.specs.Question.{IsQuestionOf, Question}
@@ -16,7 +19,7 @@ use Rattle.lotos_search.specs.declared.fault.MarkFault.TheVariants as mark_fault
 use Rattle.lotos_tool.specs.ListingOutcome.{SearchOutcome, IsQuestionOfText}
 use Rattle.lotos_tool.specs.RefusalCauses.{IsMarkOf, IsMarkRefused, words_of}
 use Rattle.lotos_tool.specs.OutcomeFlags.{is_input_fault}
-use Rattle.lotos_tool.specs.SearchSetup.{HasNoRefusedGate, IsFirstRefusedGate, ListingOutcome, IsSearchFor, IsFaultOfMark, IsMarkOutcome, IsOutcomeFor}
+use Rattle.lotos_tool.specs.SearchSetup.{HasNoRefusedGate, IsFirstRefusedGate, ListingOutcome, IsSearchFor, IsFaultOfMark, IsMarkOutcome, IsOutcomeFor, IsPatternOutcome}
 use Rattle.lotos_tool.specs.AcceptedText.{ReadsAccepted}
 use Rattle.lotos_tool.specs.declared.refusal.Refusal.TheVariants as refusal
 use Rattle.lotos_tool.specs.declared.outcome.Ended.{Ended}
@@ -88,6 +91,28 @@ told_was_read request got got' system p mark ended h = elim h [
   | inl begun ↦ no_input_fault request got got' begun.0.question begun.0.cursor ended begun.2
   | inr stopped ↦ subst (λ (e : Ended). is_input_fault e ≡ false) (sym stopped.0) refl
 ]
+
+-- the outcome if the words spell no pattern, or memory ran out when they were read
+pub pattern_refused : (request : SearchRequest) (left got : Option (List ℕ)) (fault : PatternFault) (ended : Ended) →
+    IsCause request.strong (words_of request) fault → SpellsNone request.strong (words_of request) fault → IsPatternOutcome fault ended →
+    SearchOutcome request left left got got ended
+pattern_refused request left got (pattern.E41 n) ended cause none e =
+    subst (SearchOutcome request left left got got) (sym e) (record { kept = Keeps-refl left; cause = cause; never = none }, Keeps-refl got)
+pattern_refused request left got (pattern.E42 n) ended cause none e =
+    subst (SearchOutcome request left left got got) (sym e) (record { kept = Keeps-refl left; cause = cause; never = none }, Keeps-refl got)
+pattern_refused request left got (pattern.E43 n) ended cause none e =
+    subst (SearchOutcome request left left got got) (sym e) (record { kept = Keeps-refl left; cause = cause; never = none }, Keeps-refl got)
+pattern_refused request left got (pattern.E44 n) ended cause none e =
+    subst (SearchOutcome request left left got got) (sym e) (record { kept = Keeps-refl left; cause = cause; never = none }, Keeps-refl got)
+pattern_refused request left got (pattern.E45 n) ended cause none e =
+    subst (SearchOutcome request left left got got) (sym e) (record { kept = Keeps-refl left; cause = cause; never = none }, Keeps-refl got)
+pattern_refused request left got (pattern.E48 n) ended cause none e =
+    subst (SearchOutcome request left left got got) (sym e) (record { kept = Keeps-refl left; cause = cause; never = none }, Keeps-refl got)
+pattern_refused request left got (pattern.E50 n) ended cause none e =
+    subst (SearchOutcome request left left got got) (sym e) (record { kept = Keeps-refl left; cause = cause; never = none }, Keeps-refl got)
+pattern_refused request left got (pattern.E99 x) ended cause none e =
+    subst (SearchOutcome request left left got got) (sym e)
+    (inl (record { taken = ([], omega arith, Consumes-nil left); kept = Keeps-refl got; no_line = refl }))
 
 -- the outcome if the line is not one of a listing, or memory ran out when it was read
 pub mark_refused : (request : SearchRequest) (left got : Option (List ℕ)) (p : Pattern) (fault : MarkFault) (ended : Ended) →

@@ -8,10 +8,10 @@ use Rattle.lotos_check.proofs.ListIndices.{one_item}
 use Rattle.lotos_pattern.specs.PatternFaults.{HasWord}
 use Rattle.lotos_tool.specs.UnknownGates.{HasNoUnknownGate, HasNoUnknownGateBefore, IsFirstUnknownGate, NamesUnknownGate}
 
--- if no earlier word names an unknown gate, and this one does not, none up to it does
-pub known_more : (gates : List Name) (words : List (List ℕ)) (n : ℕ) (word : List ℕ) → slice_get words n ≡ Some word → (NamesUnknownGate gates word → ⊥) →
-    HasNoUnknownGateBefore n gates words → HasNoUnknownGateBefore (n + 1) gates words
-known_more gates words n word at none before k w h is foreign = by (below_or k n h)
+-- if `Such` holds of no earlier word, and not of this one, it holds of none up to it
+pub none_more : (Such : List ℕ → Type 0) (words : List (List ℕ)) (n : ℕ) (word : List ℕ) → slice_get words n ≡ Some word → (Such word → ⊥) →
+    ((k : ℕ) (w : List ℕ) → k < n → slice_get words k ≡ Some w → Such w → ⊥) → (k : ℕ) (w : List ℕ) → k < n + 1 → slice_get words k ≡ Some w → Such w → ⊥
+none_more Such words n word at none before k w h is such = by (below_or k n h)
   where
     below_or : (k n : ℕ) → k < n + 1 → (k < n) ⊎ (k ≡ n)
     below_or k n h = elim (cases_order k n) [
@@ -20,10 +20,15 @@ known_more gates words n word at none before k w h is foreign = by (below_or k n
     ]
 
     by : (k < n) ⊎ (k ≡ n) → ⊥
-    by (inl less) = before k w less is foreign
+    by (inl less) = before k w less is such
     by (inr same) =
         let v : w ≡ word = one_item words n w word (subst (λ j. slice_get words j ≡ Some w) same is) at in
-        none (subst (NamesUnknownGate gates) v foreign)
+        none (subst Such v such)
+
+-- if no earlier word names an unknown gate, and this one does not, none up to it does
+pub known_more : (gates : List Name) (words : List (List ℕ)) (n : ℕ) (word : List ℕ) → slice_get words n ≡ Some word → (NamesUnknownGate gates word → ⊥) →
+    HasNoUnknownGateBefore n gates words → HasNoUnknownGateBefore (n + 1) gates words
+known_more gates words n word at none before = none_more (NamesUnknownGate gates) words n word at none before
 
 -- if no earlier word names an unknown gate, and this one does, it is the first
 pub first_unknown : (gates : List Name) (words : List (List ℕ)) (n : ℕ) (word : List ℕ) → slice_get words n ≡ Some word → NamesUnknownGate gates word →

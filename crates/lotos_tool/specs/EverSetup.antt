@@ -85,4 +85,5 @@ IsWordsOutcome (pattern.E43 n) ended = ended ≡ Refused (refusal.Pattern (patte
 IsWordsOutcome (pattern.E44 n) ended = ended ≡ Refused (refusal.Pattern (pattern.E44 n))
 IsWordsOutcome (pattern.E45 n) ended = ended ≡ Refused (refusal.Pattern (pattern.E45 n))
 IsWordsOutcome (pattern.E48 n) ended = ended ≡ Refused (refusal.Pattern (pattern.E48 n))
+IsWordsOutcome (pattern.E50 n) ended = ended ≡ Refused (refusal.Pattern (pattern.E50 n))
 IsWordsOutcome (pattern.E99 e) ended = ended ≡ Stopped why.Memory

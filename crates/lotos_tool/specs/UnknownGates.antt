@@ -4,15 +4,23 @@ use Rattle.std.specs.Char.{to_ascii_uppercase}
 use Rattle.lotos_check.specs.NameLists.{In, Name}
 use Rattle.lotos_pattern.specs.PatternLabels.{internal, termination}
 use Rattle.lotos_pattern.specs.PatternFaults.{HasWord}
-use Rattle.lotos_pattern.specs.Spelling.{IsWord, EqualsIgnoringCase}
+use Rattle.lotos_pattern.specs.Spelling.{IsWord, EqualsIgnoringCase, parts_of}
 
--- the word names a gate other than these: it is spelled like a gate, is neither `exit` nor `i`, and in upper case it is
--- none of these
-pub record NamesUnknownGate (gates : List Name) (word : List ℕ) : Type 0 where
-  pub spelled : IsWord word
-  pub no_exit : EqualsIgnoringCase word termination → ⊥
-  pub no_internal : EqualsIgnoringCase word internal → ⊥
-  pub no_gate : In (map to_ascii_uppercase word) gates → ⊥
+-- the name is that of a gate other than these: it is spelled like a gate, is neither `exit` nor `i`, and in upper case
+-- it is none of these
+pub record IsUnknownGate (gates : List Name) (name : List ℕ) : Type 0 where
+  pub spelled : IsWord name
+  pub no_exit : EqualsIgnoringCase name termination → ⊥
+  pub no_internal : EqualsIgnoringCase name internal → ⊥
+  pub no_gate : In (map to_ascii_uppercase name) gates → ⊥
+
+-- one of the names is that of a gate other than these
+abbrev pub HasUnknownGate : List Name → List (List ℕ) → Type 0
+HasUnknownGate gates names = (name : List ℕ) × In name names × IsUnknownGate gates name
+
+-- the word names a gate other than these: one of its parts between commas does
+abbrev pub NamesUnknownGate : List Name → List ℕ → Type 0
+NamesUnknownGate gates word = HasUnknownGate gates (parts_of word)
 
 -- no word names a gate other than these
 abbrev pub HasNoUnknownGate : List Name → List (List ℕ) → Type 0

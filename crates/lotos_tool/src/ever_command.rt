@@ -225,7 +225,8 @@ fn words_refusal(fault: PatternFault) -> EverEnded
         | PatternFault::E43(_)
         | PatternFault::E44(_)
         | PatternFault::E45(_)
-        | PatternFault::E48(_) => EverEnded::Refused(Refusal::Pattern(fault)),
+        | PatternFault::E48(_)
+        | PatternFault::E50(_) => EverEnded::Refused(Refusal::Pattern(fault)),
         PatternFault::E99(_) => EverEnded::Stopped(EverWhy::Memory),
     }
 }

@@ -223,7 +223,8 @@ fn pattern_refusal(fault: PatternFault) -> Ended
         | PatternFault::E43(_)
         | PatternFault::E44(_)
         | PatternFault::E45(_)
-        | PatternFault::E48(_) => Ended::Refused(Refusal::Pattern(fault)),
+        | PatternFault::E48(_)
+        | PatternFault::E50(_) => Ended::Refused(Refusal::Pattern(fault)),
         PatternFault::E99(_) => out_of_memory(),
     }
 }

@@ -12,6 +12,12 @@ enum Part {
     Until(&'static str),
     While(&'static str),
     WhileAny,
+    OneOf(&'static [&'static str]),
+    OneOutside(&'static [&'static str]),
+    UntilOneOf(&'static [&'static str]),
+    UntilOutside(&'static [&'static str]),
+    WhileInside(&'static [&'static str]),
+    WhileOutside(&'static [&'static str]),
     Deadlock,
     UntilDeadlock,
 }
@@ -145,6 +151,81 @@ const LONGER_REPETITIONS: &[Row] = &[
     ),
 ];
 
+/// Patterns of sets of labels.
+const SETS: &[Row] = &[
+    (&["A,exit"], &[Part::OneOf(&["A", "exit"])]),
+    (&["B,B,b"], &[Part::OneOf(&["B"])]),
+    (&["<not>", "A"], &[Part::OneOutside(&["A"])]),
+    (&["<not>", "exit,A"], &[Part::OneOutside(&["A", "exit"])]),
+    (&["<until>", "A,exit"], &[Part::UntilOneOf(&["A", "exit"])]),
+    (&["<until>", "<not>", "B"], &[Part::UntilOutside(&["B"])]),
+    (&["<while>", "A,B"], &[Part::WhileInside(&["A", "B"])]),
+    (&["<while>", "<not>", "B"], &[Part::WhileOutside(&["B"])]),
+    (
+        &["<while>", "<not>", "A", "A,B"],
+        &[Part::WhileOutside(&["A"]), Part::OneOf(&["A", "B"])],
+    ),
+    (
+        &["A", "<while>", "<not>", "B,exit", "exit"],
+        &[
+            Part::One("A"),
+            Part::WhileOutside(&["B", "exit"]),
+            Part::One("exit"),
+        ],
+    ),
+];
+
+/// Patterns of sets of labels before and after other elements.
+const SETS_AMONG_OTHERS: &[Row] = &[
+    (
+        &["<while>", "<any>", "A", "<while>", "<not>", "B", "A"],
+        &[
+            Part::WhileAny,
+            Part::One("A"),
+            Part::WhileOutside(&["B"]),
+            Part::One("A"),
+        ],
+    ),
+    (
+        &["<until>", "A,B", "<until>", "<not>", "A"],
+        &[Part::UntilOneOf(&["A", "B"]), Part::UntilOutside(&["A"])],
+    ),
+    (
+        &["<while>", "A,B", "<not>", "A", "<deadlock>"],
+        &[
+            Part::WhileInside(&["A", "B"]),
+            Part::OneOutside(&["A"]),
+            Part::Deadlock,
+        ],
+    ),
+    (
+        &["<not>", "B", "<until>", "<deadlock>"],
+        &[Part::OneOutside(&["B"]), Part::UntilDeadlock],
+    ),
+];
+
+/// Patterns of sets of labels, where internal steps are observed.
+const SETS_OF_INTERNAL_STEPS: &[Row] = &[
+    (&["A,i"], &[Part::OneOf(&["A", "i"])]),
+    (&["<not>", "i"], &[Part::OneOutside(&["i"])]),
+    (
+        &["<not>", "A,B,exit"],
+        &[Part::OneOutside(&["A", "B", "exit"])],
+    ),
+    (
+        &["<until>", "<not>", "i,A"],
+        &[Part::UntilOutside(&["i", "A"])],
+    ),
+    (
+        &["<while>", "<not>", "i", "i"],
+        &[Part::WhileOutside(&["i"]), Part::One("i")],
+    ),
+    (
+        &["<while>", "A,i", "<while>", "<not>", "A"],
+        &[Part::WhileInside(&["A", "i"]), Part::WhileOutside(&["A"])],
+    ),
+];
+
 /// Patterns of internal steps, which are observed.
 const INTERNAL_STEPS: &[Row] = &[
     (&["i"], &[Part::One("i")]),
@@ -245,6 +326,22 @@ fn is_segment(part: &Part, labels: &[&str]) -> bool {
         },
         Part::While(own) => labels.iter().all(|label| *label == *own),
         Part::WhileAny => true,
+        Part::OneOf(set) => labels.len() == 1 && set.contains(&labels[0]),
+        Part::OneOutside(set) => labels.len() == 1 && !set.contains(&labels[0]),
+        Part::UntilOneOf(set) => match labels.split_last() {
+            Some((last, before)) => {
+                set.contains(last) && !before.iter().any(|label| set.contains(label))
+            }
+            None => false,
+        },
+        Part::UntilOutside(set) => match labels.split_last() {
+            Some((last, before)) => {
+                !set.contains(last) && before.iter().all(|label| set.contains(label))
+            }
+            None => false,
+        },
+        Part::WhileInside(set) => labels.iter().all(|label| set.contains(label)),
+        Part::WhileOutside(set) => !labels.iter().any(|label| set.contains(label)),
         Part::Deadlock => labels.is_empty(),
         Part::UntilDeadlock => true,
     }
@@ -347,4 +444,19 @@ fn matches_longer_repetitions(rt: HostRuntime) -> Result<(), Fail> {
 #[test]
 fn matches_internal_steps(rt: HostRuntime) -> Result<(), Fail> {
     Ok(assert_languages(&rt, rt.alloc(), INTERNAL_STEPS, true)?)
+}
+
+#[test]
+fn matches_sets(rt: HostRuntime) -> Result<(), Fail> {
+    Ok(assert_both(&rt, rt.alloc(), SETS)?)
+}
+
+#[test]
+fn matches_sets_among_others(rt: HostRuntime) -> Result<(), Fail> {
+    Ok(assert_both(&rt, rt.alloc(), SETS_AMONG_OTHERS)?)
+}
+
+#[test]
+fn matches_sets_of_internal_steps(rt: HostRuntime) -> Result<(), Fail> {
+    Ok(assert_languages(&rt, rt.alloc(), SETS_OF_INTERNAL_STEPS, true)?)
 }

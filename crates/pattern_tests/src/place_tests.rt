@@ -113,6 +113,63 @@ const PLACES: &[(bool, &[&str], &[&str], Option<End>)] = &[
     (true, &["<until>", "<deadlock>"], &["i"], Some(End::IfDead)),
 ];
 
+/// The same, of patterns with sets of labels.
+const PLACES_IN_SETS: &[(bool, &[&str], &[&str], Option<End>)] = &[
+    (false, &["A,B"], &[], Some(End::No)),
+    (false, &["A,B"], &["B"], Some(End::Yes)),
+    (false, &["A,B"], &["exit"], None),
+    (false, &["A,A"], &["A"], Some(End::Yes)),
+    (false, &["a,Exit"], &["exit"], Some(End::Yes)),
+    (false, &["<not>", "A,B"], &["exit"], Some(End::Yes)),
+    (false, &["<not>", "A,B"], &["B"], None),
+    (false, &["<not>", "A"], &["i"], None),
+    (true, &["<not>", "A"], &["i"], Some(End::Yes)),
+    (true, &["<not>", "i"], &["i"], None),
+    (false, &["<until>", "A,B"], &["exit", "B"], Some(End::Yes)),
+    (false, &["<until>", "A,B"], &["B", "A"], None),
+    (
+        false,
+        &["<until>", "<not>", "A"],
+        &["A", "A", "B"],
+        Some(End::Yes),
+    ),
+    (false, &["<until>", "<not>", "A"], &["A"], Some(End::No)),
+    (false, &["<until>", "<not>", "A"], &["A", "i"], None),
+    (
+        true,
+        &["<until>", "<not>", "A"],
+        &["A", "i"],
+        Some(End::Yes),
+    ),
+    (false, &["<while>", "A,B"], &["B", "A"], Some(End::Yes)),
+    (false, &["<while>", "A,B"], &["B", "exit"], None),
+    (
+        false,
+        &["<while>", "<not>", "A"],
+        &["B", "exit"],
+        Some(End::Yes),
+    ),
+    (false, &["<while>", "<not>", "A"], &["B", "A"], None),
+    (
+        false,
+        &["<while>", "<any>", "A", "<while>", "<not>", "B", "A"],
+        &["B", "A", "exit", "A"],
+        Some(End::Yes),
+    ),
+    (
+        false,
+        &["<while>", "<any>", "A", "<while>", "<not>", "B", "A"],
+        &["A", "B", "A"],
+        Some(End::No),
+    ),
+    (
+        false,
+        &["<not>", "A", "<deadlock>"],
+        &["B"],
+        Some(End::IfDead),
+    ),
+];
+
 fn end_of(
     alloc: Global,
     words: &[&str],
@@ -126,6 +183,15 @@ fn end_of(
 #[test]
 fn finds_places(rt: HostRuntime) -> Result<(), Fail> {
     for (strong, words, labels, end) in PLACES {
+        let found = end_of(rt.alloc(), words, *strong, labels)?;
+        assert_end(&rt, words, labels, found, *end);
+    }
+    Ok(())
+}
+
+#[test]
+fn finds_places_in_sets(rt: HostRuntime) -> Result<(), Fail> {
+    for (strong, words, labels, end) in PLACES_IN_SETS {
         let found = end_of(rt.alloc(), words, *strong, labels)?;
         assert_end(&rt, words, labels, found, *end);
     }
@@ -166,6 +232,10 @@ const STATES: &[(&[&str], &[&str], &[usize])] = &[
     (&["<while>", "A", "<while>", "B", "A"], &["B", "A"], &[3]),
     (&["A", "<until>", "<deadlock>"], &["A", "B"], &[1]),
     (&["<while>", "A", "<deadlock>"], &["A"], &[0]),
+    (&["<while>", "A,B", "B"], &["A"], &[0]),
+    (&["<while>", "A,B", "B"], &["B"], &[0, 2]),
+    (&["<while>", "<not>", "A", "<any>"], &["B"], &[0, 2]),
+    (&["<while>", "<not>", "A", "<any>"], &["A"], &[2]),
 ];
 
 /// A place with these states, as `Debug` writes it: the first of its words has a bit for each state below 64.

@@ -114,6 +114,61 @@ const SPELLED: &[(&str, bool, &[&str], &str)] = &[
     ),
 ];
 
+/// The same, of words that spell sets of labels.
+const SPELLED_SETS: &[(&str, bool, &[&str], &str)] = &[
+    ("labels", false, &["a,B,Exit"], "A,B,exit;"),
+    ("a label twice", false, &["A,a"], "A,A;"),
+    ("all labels but two", false, &["<NOT>", "a,b"], "not A,B;"),
+    (
+        "all labels but `exit`",
+        false,
+        &["<not>", "EXIT"],
+        "not exit;",
+    ),
+    (
+        "up to one of two labels",
+        false,
+        &["<until>", "A,b"],
+        "until A,B;",
+    ),
+    (
+        "up to a label but one",
+        false,
+        &["<until>", "<Not>", "A"],
+        "until not A;",
+    ),
+    (
+        "repeats of two labels",
+        false,
+        &["<while>", "A,B"],
+        "while A,B;",
+    ),
+    (
+        "repeats of all labels but two, then one of two",
+        false,
+        &["<while>", "<not>", "A,B", "B,C"],
+        "while not A,B; B,C;",
+    ),
+    (
+        "all labels but one before an end",
+        false,
+        &["<not>", "A", "<until>", "<deadlock>"],
+        "not A; until deadlock;",
+    ),
+    (
+        "the internal action among labels, observed",
+        true,
+        &["A,I", "<until>", "i,i"],
+        "A,i; until i,i;",
+    ),
+    (
+        "all labels but the internal action, observed",
+        true,
+        &["<not>", "i", "<while>", "<not>", "A,i"],
+        "not i; while not A,i;",
+    ),
+];
+
 /// What is tried, whether internal steps are observed, the words, and their fault.
 const REFUSED: &[(&str, bool, &[&str], PatternFault)] = &[
     ("a digit first", false, &["1a"], PatternFault::E41(1)),
@@ -277,6 +332,135 @@ const REFUSED: &[(&str, bool, &[&str], PatternFault)] = &[
     ),
 ];
 
+/// The same, of words that spell sets of labels, or nearly so.
+const REFUSED_SETS: &[(&str, bool, &[&str], PatternFault)] = &[
+    (
+        "a comma after a label",
+        false,
+        &["A,"],
+        PatternFault::E41(1),
+    ),
+    (
+        "a comma before a label",
+        false,
+        &[",A"],
+        PatternFault::E41(1),
+    ),
+    ("a comma alone", false, &[","], PatternFault::E41(1)),
+    ("two commas", false, &["B", "A,,B"], PatternFault::E41(2)),
+    (
+        "an element in a set",
+        false,
+        &["A,<any>"],
+        PatternFault::E41(1),
+    ),
+    (
+        "a blank after a comma",
+        false,
+        &["A, B"],
+        PatternFault::E41(1),
+    ),
+    ("`i` and a comma", false, &["i,"], PatternFault::E41(1)),
+    ("`i` in a set", false, &["A,i"], PatternFault::E45(1)),
+    (
+        "`i` in a set after `<until>`",
+        false,
+        &["<until>", "I,A"],
+        PatternFault::E45(2),
+    ),
+    (
+        "`i` in a set after `<while>`",
+        false,
+        &["B", "<while>", "A,i"],
+        PatternFault::E45(3),
+    ),
+    (
+        "`i` after `<not>`",
+        false,
+        &["<not>", "i"],
+        PatternFault::E45(2),
+    ),
+    (
+        "`i` after `<until>` and `<not>`",
+        false,
+        &["<until>", "<not>", "A,i,B"],
+        PatternFault::E45(3),
+    ),
+    (
+        "`<until>` before a comma after a label",
+        false,
+        &["<until>", "A,"],
+        PatternFault::E42(1),
+    ),
+    (
+        "`<while>` before a comma",
+        false,
+        &["A", "<while>", ","],
+        PatternFault::E48(2),
+    ),
+    ("`<not>` alone", false, &["<not>"], PatternFault::E50(1)),
+    (
+        "`<not>` alone, `i` shown",
+        true,
+        &["i", "<not>"],
+        PatternFault::E50(2),
+    ),
+    (
+        "`<not>` alone after `<until>`",
+        false,
+        &["A", "<until>", "<not>"],
+        PatternFault::E50(3),
+    ),
+    (
+        "`<not>` alone after `<while>`",
+        false,
+        &["<while>", "<not>"],
+        PatternFault::E50(2),
+    ),
+    (
+        "`<not>` before two commas",
+        false,
+        &["<not>", "A,,B"],
+        PatternFault::E50(1),
+    ),
+    (
+        "`<not>` before `<any>`",
+        false,
+        &["<not>", "<any>"],
+        PatternFault::E50(1),
+    ),
+    (
+        "`<not>` before `<not>`",
+        false,
+        &["<while>", "<not>", "<not>", "A"],
+        PatternFault::E50(2),
+    ),
+    (
+        "`<not>` before `<until>`",
+        false,
+        &["<not>", "<until>", "A"],
+        PatternFault::E50(1),
+    ),
+    (
+        "`<not>` before `<while>`",
+        false,
+        &["<not>", "<while>", "A"],
+        PatternFault::E50(1),
+    ),
+    (
+        "`<not>` before `<deadlock>`",
+        false,
+        &["<until>", "<not>", "<deadlock>"],
+        PatternFault::E50(2),
+    ),
+    (
+        "`<not>` after an end",
+        false,
+        &["<deadlock>", "<not>", "A"],
+        PatternFault::E43(2),
+    ),
+];
+
 /// What is tried, words repeated a number of times, the words after them, and their fault, if any.
 const LONG: &[(&str, &[&str], usize, &[&str], Option<PatternFault>)] = &[
     ("256 labels", &["A"], 256, &[], None),
@@ -309,6 +493,14 @@ const LONG: &[(&str, &[&str], usize, &[&str], Option<PatternFault>)] = &[
         256,
         &["A"],
         Some(PatternFault::E44(513)),
+    ),
+    ("256 complements", &["<not>", "A"], 256, &[], None),
+    (
+        "257 elements of three words",
+        &["<while>", "<not>", "A"],
+        257,
+        &[],
+        Some(PatternFault::E44(769)),
     ),
     (
         "256 elements, an end the last",
@@ -373,28 +565,57 @@ const PRINTED: &[(PatternFault, &str)] = &[
         PatternFault::E48(2),
         "E48 word 2 needs a label or <any> after it",
     ),
+    (PatternFault::E50(3), "E50 word 3 needs a label after it"),
     (PatternFault::E99(AllocError), "E99 out of memory"),
 ];
 
 /// An element of the table, as `Debug` writes it.
 fn element_text(alloc: Global, element: &str) -> Result<String, AllocError> {
     match element {
-        "any" => joined(alloc, &["Any"]),
-        "while any" => joined(alloc, &["WhileAny"]),
         "deadlock" => joined(alloc, &["Deadlock"]),
         "until deadlock" => joined(alloc, &["UntilDeadlock"]),
-        _ => label_element_text(alloc, element),
+        _ => set_element_text(alloc, element),
     }
 }
 
-fn label_element_text(alloc: Global, element: &str) -> Result<String, AllocError> {
-    if let Some(label) = element.strip_prefix("until ") {
-        joined(alloc, &["Until(\"", label, "\")"])
-    } else if let Some(label) = element.strip_prefix("while ") {
-        joined(alloc, &["While(\"", label, "\")"])
+fn set_element_text(alloc: Global, element: &str) -> Result<String, AllocError> {
+    if let Some(set) = element.strip_prefix("until ") {
+        let set = set_text(alloc, set)?;
+        joined(alloc, &["Until(", set.as_str(), ")"])
+    } else if let Some(set) = element.strip_prefix("while ") {
+        let set = set_text(alloc, set)?;
+        joined(alloc, &["While(", set.as_str(), ")"])
     } else {
-        joined(alloc, &["Label(\"", element, "\")"])
+        let set = set_text(alloc, element)?;
+        joined(alloc, &["One(", set.as_str(), ")"])
     }
+}
+
+/// A set of labels of the table, as `Debug` writes it.
+fn set_text(alloc: Global, set: &str) -> Result<String, AllocError> {
+    if set == "any" {
+        joined(alloc, &["Others([])"])
+    } else if let Some(names) = set.strip_prefix("not ") {
+        let names = names_text(alloc, names)?;
+        joined(alloc, &["Others([", names.as_str(), "])"])
+    } else {
+        let names = names_text(alloc, set)?;
+        joined(alloc, &["These([", names.as_str(), "])"])
+    }
+}
+
+/// The names, each in quotes.
+fn names_text(alloc: Global, names: &str) -> Result<String, AllocError> {
+    let mut text = String::new(alloc);
+    let mut is_first = true;
+    for name in names.split(',') {
+        if !is_first {
+            text.push_str(", ")?;
+        }
+        text.push_str(joined(alloc, &["\"", name, "\""])?.as_str())?;
+        is_first = false;
+    }
+    Ok(text)
 }
 
 /// Appends the elements of the table, as `Debug` writes them.
@@ -450,6 +671,14 @@ fn reads_patterns(rt: HostRuntime) -> Result<(), Fail> {
     Ok(())
 }
 
+#[test]
+fn reads_sets(rt: HostRuntime) -> Result<(), Fail> {
+    for (name, strong, words, spelled) in SPELLED_SETS {
+        assert_spelled(&rt, rt.alloc(), name, words, *strong, spelled)?;
+    }
+    Ok(())
+}
+
 /// The fault of the words, if they have one.
 fn fault_of(alloc: Global, words: &[&str], strong: bool) -> Option<PatternFault> {
     match Pattern::read(alloc, words, strong) {
@@ -470,6 +699,18 @@ fn assert_fault(
 #[test]
 fn rejects_words(rt: HostRuntime) {
     for (name, strong, words, fault) in REFUSED {
+        assert_fault(
+            &rt,
+            name,
+            fault_of(rt.alloc(), words, *strong),
+            Some(*fault),
+        );
+    }
+}
+
+#[test]
+fn rejects_sets(rt: HostRuntime) {
+    for (name, strong, words, fault) in REFUSED_SETS {
         assert_fault(
             &rt,
             name,

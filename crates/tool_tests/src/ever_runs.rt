@@ -144,6 +144,40 @@ const EMPTY_SEQUENCES: &[Row] = &[
     },
 ];
 
+/// A reader that comes in while the writer is in: a bell between them, forever.
+const BELL: &[u8] =
+    b"specification T [win,bell,rin,rout,wout] : noexit behaviour R[win,bell,rin,rout,wout] where process R [win,bell,rin,rout,wout] : noexit := win; bell; rin; rout; wout; R[win,bell,rin,rout,wout] endproc endspec";
+
+/// Patterns with sets of labels.
+const SETS: &[Row] = &[
+    Row {
+        name: "one between two others, and a third not between them",
+        text: BELL,
+        words: &[
+            "lotosseq", "ever", "<while>", "<any>", "WIN", "<while>", "<not>", "WOUT", "RIN",
+        ],
+        output: b"WIN BELL RIN\n",
+        message: b"",
+        status: 0,
+    },
+    Row {
+        name: "never a reader before a writer",
+        text: BELL,
+        words: &["lotosseq", "ever", "<while>", "<not>", "win,wout", "RIN"],
+        output: b"",
+        message: NEVER,
+        status: 1,
+    },
+    Row {
+        name: "up to a label other than two",
+        text: b"specification G [a,b,c] : exit behaviour hide s in ((a; s; exit) |[s]| (s; b; exit)) >> c; exit endspec",
+        words: &["lotosseq", "ever", "--explain", "<until>", "<not>", "A,B"],
+        output: b"A B C : A i B i C\n",
+        message: b"",
+        status: 0,
+    },
+];
+
 /// Searches with a bound on the states.
 const BOUNDS: &[Row] = &[
     Row {
@@ -190,6 +224,14 @@ const REFUSALS: &[Row] = &[
         ],
         output: b"",
         message: b"lotosseq: E49 word 2 is no gate of the specification\n",
+        status: 2,
+    },
+    Row {
+        name: "a set with a name that is no gate",
+        text: b"specification S [a] : noexit behaviour a; stop endspec",
+        words: &["lotosseq", "ever", "a", "<until>", "<not>", "A,exit,X"],
+        output: b"",
+        message: b"lotosseq: E49 word 4 is no gate of the specification\n",
         status: 2,
     },
     Row {
@@ -271,6 +313,11 @@ fn empty_sequences_and_deadlocks(rt: HostRuntime) {
 }
 
 #[test]
+fn sets_of_labels(rt: HostRuntime) {
+    expect_rows(&rt, rt.alloc(), SETS);
+}
+
+#[test]
 fn bounds_on_the_states(rt: HostRuntime) {
     expect_rows(&rt, rt.alloc(), BOUNDS);
 }
@@ -301,6 +348,18 @@ const PATTERNS: &[(&[&str], &[u8])] = &[
     (
         &["lotosseq", "ever", "<deadlock>", "A"],
         b"lotosseq: E43 word 2 follows an end element\n",
+    ),
+    (
+        &["lotosseq", "ever", "<not>"],
+        b"lotosseq: E50 word 1 needs a label after it\n",
+    ),
+    (
+        &["lotosseq", "ever", "A,"],
+        b"lotosseq: E41 word 1 is neither a label nor an element\n",
+    ),
+    (
+        &["lotosseq", "ever", "<until>", "A,i"],
+        b"lotosseq: E45 word 2 is i, which cannot be observed\n",
     ),
 ];
 

@@ -1,10 +1,15 @@
-use Rattle.std.proofs.Common.{subst}
-use Rattle.lotos_pattern.specs.PatternLabels.{internal}
-use Rattle.lotos_pattern.specs.Spelling.{IsWord, EqualsIgnoringCase}
+use Rattle.lotos_pattern.proofs.LabelNames.{no_labels, no_labels_no_internal}
 use Rattle.lotos_pattern.proofs.pattern_parser.classify_word.Goals as goal
 
-pub returns-in_ok-printed_label : goal.returns-in_ok-printed_label
-returns-in_ok-printed_label c =
-    let spelled : IsWord c.args.word.now = subst IsWord c.as_bytes.ensures.value (c.is_word.ensures.0 c.if-is_word.true) in
-    let differs : EqualsIgnoringCase c.args.word.now internal → ⊥ = λ reads. let equal = c.if-eq_ignore_ascii_case.ensures.test.1 reads in let z : ⊥ = cc in z in
-    c.in_ok-printed_label.ensures c.args.strong spelled differs
+pub returns-in-None : goal.returns-in-None
+returns-in-None c =
+    let none = rw c.in-None.is at c.in_ok-labels.ensures in
+    record {
+      labels = no_labels c.args.strong c.args.word.now none;
+      internal = no_labels_no_internal c.args.word.now none;
+      any = λ reads. let equal = c.if-eq_ignore_ascii_case.ensures.test.1 reads in let z : ⊥ = cc in z;
+      complement = λ reads. let equal = c.if-eq_ignore_ascii_case-2.ensures.test.1 reads in let z : ⊥ = cc in z;
+      until = λ reads. let equal = c.if-eq_ignore_ascii_case-3.ensures.test.1 reads in let z : ⊥ = cc in z;
+      while = λ reads. let equal = c.if-eq_ignore_ascii_case-4.ensures.test.1 reads in let z : ⊥ = cc in z;
+      deadlock = λ reads. let equal = c.if-eq_ignore_ascii_case-5.ensures.test.1 reads in let z : ⊥ = cc in z;
+    }

@@ -12,7 +12,7 @@ loop-number-preserved c =
     let text = c.as_str.result.now in
     let at : slice_get (map string_bytes c.args.words.now) n ≡ Some text =
     map_read string_bytes c.args.words.now n _ c.loop-number-test.true c.index-words-number.is ∙ ap Some (sym c.as_str.ensures.value) in
-    let none : NamesUnknownGate c.args.gates.now text → ⊥ = rw c.if-branch.false at c.in_ok-is_unknown_gate.ensures in
+    let none : NamesUnknownGate c.args.gates.now text → ⊥ = rw c.if-branch.false at c.in_ok-names_unknown_gate.ensures in
     known_more c.args.gates.now (map string_bytes c.args.words.now) n text at none c.loop-number.invariant
 
 pub returns-then-branch : goal.returns-then-branch
@@ -21,7 +21,7 @@ returns-then-branch c =
     let text = c.as_str.result.now in
     let at : slice_get (map string_bytes c.args.words.now) n ≡ Some text =
     map_read string_bytes c.args.words.now n _ c.loop-number-test.true c.index-words-number.is ∙ ap Some (sym c.as_str.ensures.value) in
-    let foreign : NamesUnknownGate c.args.gates.now text = rw c.if-branch.true at c.in_ok-is_unknown_gate.ensures in
+    let foreign : NamesUnknownGate c.args.gates.now text = rw c.if-branch.true at c.in_ok-names_unknown_gate.ensures in
     first_unknown c.args.gates.now (map string_bytes c.args.words.now) n text at foreign c.loop-number.invariant
 
 pub returns : goal.returns

@@ -1,6 +1,7 @@
-use Rattle.std.proofs.Common.{ap, ◌∙◌, arith}
-use Rattle.lotos_pattern.specs.ElementView.{elements_of}
-use Rattle.lotos_pattern.proofs.Ends.{as_long, element_at, elements_at}
+use Rattle.std.proofs.Common.{ap, ◌∙◌, arith, subst}
+use Rattle.std.specs.Prelude.{All}
+use Rattle.lotos_pattern.specs.ElementView.{CanOccur, elements_of}
+use Rattle.lotos_pattern.proofs.Ends.{all_at, as_long, element_at, elements_at}
 use Rattle.lotos_pattern.proofs.NfaTransitions.{walk_begins, walk_ends, walked}
 use Rattle.lotos_pattern.proofs.PlaceTransitions.{passed, passing_begins, passing_ends}
 use Rattle.lotos_pattern.proofs.pattern.Pattern.successor_place.Goals as goal
@@ -20,11 +21,12 @@ loop-state-preserved c =
     let kept = c.as_slice-elements.result.now in
     let shown = ap elements_of c.as_slice-elements.ensures.value ∙ ap (λ p. p.elements) c.self.view_is in
     let long = as_long p kept shown in
+    let occur = subst (λ q. All (CanOccur q.strong) q.elements) c.self.view_is c.self.invariant.observable in
     let here = elements_at p kept c.loop-state.state c.index-elements-state.result shown (omega arith) c.index-elements-state.is in
     let element = element_at p kept c.loop-state.state c.index-elements-state.result shown (omega arith) c.index-elements-state.is in (
       passed p c.args.place.now c.args.label.now c.loop-state.state _ here c.transition_on.result _ _ _ _ (omega arith) (omega arith) c.loop-state.invariant.0 c.transition_on.ensures
           c.apply_transition.ensures.states c.skip_empty_elements-state.ensures,
-      walked p c.args.place.now c.args.label.now c.loop-state.state _ element c.transition_on.result _ _ _ _ (omega arith) (omega arith) c.loop-state.invariant.1 c.transition_on.ensures
+      walked c.args.self.now.strong p c.args.place.now c.args.label.now c.loop-state.state _ element (all_at (CanOccur c.args.self.now.strong) p c.loop-state.state _ occur element) c.transition_on.result _ _ _ _ (omega arith) (omega arith) c.loop-state.invariant.1 c.transition_on.ensures
           c.apply_transition.ensures.states c.skip_empty_elements-state.ensures,
       c.apply_transition.ensures.place_value c.loop-state.invariant.2,
     )

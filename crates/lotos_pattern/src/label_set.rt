@@ -1,0 +1,38 @@
+//! Sets of labels.
+ghost use Rattle.std.specs.Prelude.{Contains, MatchBool, map, string_bytes};
+ghost use Rattle.lotos_pattern.specs.Patterns.{IsIn};
+ghost use Rattle.lotos_pattern.specs.ElementView.{set_of};
+
+/// A set of labels, which are given by their printed texts.
+#[derive(Debug, Drop)]
+pub(crate) enum LabelSet {
+    /// These labels.
+    These(Vec<String>),
+    /// All labels but these.
+    Others(Vec<String>),
+}
+
+impl LabelSet {
+    /// Whether the label, given by its printed text, is in the set.
+    pub(crate) fn contains(&self, label: &str) -> bool
+        ensures { MatchBool result (IsIn label.now (set_of self.now)) (IsIn label.now (set_of self.now) → ⊥) }
+    {
+        match self {
+            LabelSet::These(labels) => has_label(labels.as_slice(), label),
+            LabelSet::Others(labels) => !has_label(labels.as_slice(), label),
+        }
+    }
+}
+
+/// Whether the label is one of these.
+pub(crate) fn has_label(labels: &[String], label: &str) -> bool
+    ensures { MatchBool result (Contains (map string_bytes labels.now) label.now)
+        (Contains (map string_bytes labels.now) label.now → ⊥) }
+{
+    for index in 0..labels.len() {
+        if labels[index].as_str() == label {
+            return true;
+        }
+    }
+    false
+}
