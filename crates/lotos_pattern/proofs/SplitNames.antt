@@ -1,7 +1,6 @@
 -- The parts of a word, as an iterator yields them.
-use Rattle.std.proofs.Common.{◌≡◌, ◌∙◌, ℕ, List, [], ◌∷◌, ◌++◌, Some, None, ap, append-nil, append_assoc, map, refl, subst, sym}
+use Rattle.std.proofs.Common.{◌≡◌, ◌∙◌, ℕ, List, [], ◌∷◌, ◌++◌, Some, None, ap, append-nil, append_assoc, sym}
 use Rattle.std.specs.Borrow.{Bor}
-use Rattle.std.specs.Iterator.{AlwaysYields}
 use Rattle.std.specs.Str.Iter.{split_steps}
 use Rattle.std.specs.declared.str.Split.{Split}
 use Rattle.std.specs.Str.Pattern.{FindsChar}
@@ -16,9 +15,9 @@ Yields iterator rest = YieldsList (split_steps FindsChar (λ a b. b ≡ a)) (λ 
 -- one part more is taken
 pub one_more_split : {iterator later : Split ℕ} (parts : List (Bor Text)) (part : Bor Text) (more : List (Bor Text)) (all rest : List Text) → Yields iterator rest →
     texts_of parts ++ rest ≡ all → split_steps FindsChar (λ a b. b ≡ a) iterator (Some part) later → more ≡ parts ++ part ∷ [] → (left : List Text) × Yields later left × (texts_of more ++ left ≡ all)
-one_more_split parts part more all [] yields whole step pushed = absurd (yields.runs part _ step)
-one_more_split parts part more all (text ∷ rest) yields whole step pushed =
-    let next = yields.runs.1 part _ step in
+one_more_split {later = later} parts part more all [] yields whole step pushed = absurd (yields.runs part later step)
+one_more_split {later = later} parts part more all (text ∷ rest) yields whole step pushed =
+    let next = yields.runs.1 part later step in
     let texts : texts_of more ≡ texts_of parts ++ part.now ∷ [] = ap texts_of pushed ∙ map-append (λ w. w.now) parts (part ∷ []) in (
       rest,
       record { runs = next.1 },
@@ -27,5 +26,5 @@ one_more_split parts part more all (text ∷ rest) yields whole step pushed =
 
 -- no part is left
 pub all_split : {iterator later : Split ℕ} (parts : List (Bor Text)) (all rest : List Text) → Yields iterator rest → texts_of parts ++ rest ≡ all → split_steps FindsChar (λ a b. b ≡ a) iterator None later → texts_of parts ≡ all
-all_split parts all [] yields whole step = sym (append-nil (texts_of parts)) ∙ whole
-all_split parts all (text ∷ rest) yields whole step = absurd (yields.runs.0 _ step)
+all_split {later = later} parts all [] yields whole step = sym (append-nil (texts_of parts)) ∙ whole
+all_split {later = later} parts all (text ∷ rest) yields whole step = absurd (yields.runs.0 later step)

@@ -80,7 +80,8 @@ module _ (strong : Bool) where
 
   -- the word with this number may name labels: a set may begin there, or `<not>` begins one before it
   abbrev pub AwaitsLabels : List Text → ℕ → Type 0
-  AwaitsLabels words n = AwaitsSet words n ⊎ ((before : ℕ) × (n ≡ before + 1) × AwaitsSet words before × HasWord words before IsNot)
+  AwaitsLabels words n = AwaitsSet words n
+      ⊎ ((before : ℕ) × (n ≡ before + 1) × AwaitsSet words before × HasWord words before IsNot)
 
   -- the cause of a fault
   abbrev pub IsCause : List Text → PatternFault → Type 0
@@ -97,7 +98,8 @@ module _ (strong : Bool) where
   -- an element begins with `<while>`, and it does not go on with the next word, or there is none
   IsCause words (E48 n) = BeginsWith words n IsWhile × (HasWord words (n + 1) EndsNoWhile ⊎ (length words ≡ n))
   -- a set begins with `<not>`, and the next word does not name its labels, or there is none
-  IsCause words (E50 n) = AwaitsSet words n × HasWord words n IsNot × (HasWord words (n + 1) EndsNoComplement ⊎ (length words ≡ n))
+  IsCause words (E50 n) = AwaitsSet words n × HasWord words n IsNot ×
+      (HasWord words (n + 1) EndsNoComplement ⊎ (length words ≡ n))
   IsCause words (E99 e) = Unit {0}
 
   -- the fault is that memory ran out, or the words spell no pattern

@@ -35,7 +35,8 @@ pub data Element : Type 0 where
 -- the sequence is a segment of the element
 abbrev pub Segment : Element → List Label → Type 0
 Segment (one set) s = (l : Label) × IsIn l set × (s ≡ l ∷ [])
-Segment (until set) s = (before : List Label) × (l : Label) × All (λ x. IsIn x set → ⊥) before × IsIn l set × (s ≡ before ++ l ∷ [])
+Segment (until set) s = (before : List Label) × (l : Label) × All (λ x. IsIn x set → ⊥) before × IsIn l set ×
+    (s ≡ before ++ l ∷ [])
 Segment (while set) s = All (λ x. IsIn x set) s
 Segment deadlock s = s ≡ []
 Segment until_deadlock s = Unit {0}

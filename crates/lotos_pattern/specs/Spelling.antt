@@ -78,7 +78,8 @@ IsDeadlock word = EqualsIgnoringCase word (codes "<deadlock>")
 -- the words that spell a set of labels
 pub data SetSpelling (strong : Bool) : LabelSet → List Text → Type 0 where
   -- the names of its labels
-  named : {word : Text} {labels : List Label} → NamesLabels strong word labels → SetSpelling strong (these labels) (word ∷ [])
+  named : {word : Text} {labels : List Label} → NamesLabels strong word labels →
+      SetSpelling strong (these labels) (word ∷ [])
   -- `<not>`, and the names of the labels that are not in it
   complement : {first second : Text} {labels : List Label} → IsNot first → NamesLabels strong second labels →
       SetSpelling strong (others labels) (first ∷ second ∷ [])
@@ -90,15 +91,19 @@ pub data Spelling (strong : Bool) : Element → List Text → Type 0 where
   -- `<any>`: one label of the set of all
   one_any : {word : Text} → IsAny word → Spelling strong (one (others [])) (word ∷ [])
   -- `<until>`, and a set
-  until_set : {first : Text} {set : LabelSet} {rest : List Text} → IsUntil first → SetSpelling strong set rest → Spelling strong (until set) (first ∷ rest)
+  until_set : {first : Text} {set : LabelSet} {rest : List Text} → IsUntil first → SetSpelling strong set rest →
+      Spelling strong (until set) (first ∷ rest)
   -- `<while>`, and a set
-  while_set : {first : Text} {set : LabelSet} {rest : List Text} → IsWhile first → SetSpelling strong set rest → Spelling strong (while set) (first ∷ rest)
+  while_set : {first : Text} {set : LabelSet} {rest : List Text} → IsWhile first → SetSpelling strong set rest →
+      Spelling strong (while set) (first ∷ rest)
   -- `<while> <any>`: the set of all labels
-  while_any : {first second : Text} → IsWhile first → IsAny second → Spelling strong (while (others [])) (first ∷ second ∷ [])
+  while_any : {first second : Text} → IsWhile first → IsAny second →
+      Spelling strong (while (others [])) (first ∷ second ∷ [])
   -- `<deadlock>`
   end : {word : Text} → IsDeadlock word → Spelling strong deadlock (word ∷ [])
   -- `<until> <deadlock>`
-  until_end : {first second : Text} → IsUntil first → IsDeadlock second → Spelling strong until_deadlock (first ∷ second ∷ [])
+  until_end : {first second : Text} → IsUntil first → IsDeadlock second →
+      Spelling strong until_deadlock (first ∷ second ∷ [])
 
 -- the words spell the pattern: at most 256 elements, of which only the last may demand a deadlock; if internal steps
 -- are observed, the internal action is a label like others

@@ -58,4 +58,5 @@ pub record SpellsSetAt (strong : Bool) (words : List Text) (index : ℕ) (set : 
 
 -- if a set may begin at this index, the fault has its cause and the words spell no pattern
 abbrev pub IsSetFaultAt : (strong : Bool) → List Text → ℕ → PatternFault → Type 0
-IsSetFaultAt strong words index fault = AwaitsSet strong words (index + 1) → IsCause strong words fault × SpellsNone strong words fault
+IsSetFaultAt strong words index fault =
+    AwaitsSet strong words (index + 1) → IsCause strong words fault × SpellsNone strong words fault
