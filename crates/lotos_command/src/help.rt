@@ -165,27 +165,35 @@ pub(crate) const WORDS_HELP: &str = "The words of the pattern: labels and elemen
 
 pub(crate) const WORDS_LONG_HELP: &str = "The words of the pattern
 
-A pattern is a row of at most 256 elements, and matches the sequences that are made of
+A pattern is a list of at most 256 elements, and matches the sequences that are made of
 one part for each of them, in this order. With no word it matches the empty sequence
-alone. Words are read in upper or lower case. In a shell those with `<` are quoted, as
-in `'<any>'`.
+alone. Words are read in upper or lower case. In a shell those with `<` are quoted: each
+by itself, as in `'<any>'`, or several in one pair of quotes, as in `'<until> B'`.
 
   A              that one label: the name of a gate, or `exit` for successful
                  termination. For example, `A B` matches `A B`.
+  A,B            one label, which is one of these. No blank is beside a comma. `A,B C`
+                 matches `A C` and `B C`.
+  <not> A,B      one label, which is none of these. `A <not> A,B` matches `A C`.
   <any>          any one label. `A <any>` matches `A B`.
-  <until> A      any number of labels other than A, and then A. `<until> B` matches
-                 `B` and `A A B`.
-  <while> A      any number of labels A. `A <while> B` matches `A` and `A B B`.
+  <until> SET    any number of labels outside of the set, and then one of the set.
+                 `<until> B` matches `B` and `A A B`. SET is `A`, `A,B` or `<not> A,B`.
+  <while> SET    any number of labels, all of the set. `A <while> B` matches `A` and
+                 `A B B`.
   <while> <any>  any number of labels. `<while> <any> B` matches all that ends in `B`.
   <deadlock>     nothing, where the end is a deadlock. `A <deadlock>` matches `A`,
                  where nothing can follow.
   <until> <deadlock>
                  any number of labels, where the end is a deadlock.
 
-A deadlock is a term that has no step at all, not even an internal one. These last two
-may stand only at the end. `i` is a word of a pattern only with `--strong`, as the
-internal action cannot be observed. The name of a gate that the specification does not
-have is no fault, unless `--known` is given; it never matches.";
+Elements next to each other match labels next to each other: `A B` does not match
+`A C B`. An A and later a B, with no C between them, is `A <while> <not> C B`.
+
+A deadlock is a term that has no step at all, not even an internal one. The two elements
+that ask for one may come only at the end. `i` is a word of a pattern only with
+`--strong`, as the internal action cannot be observed; without it `<not> A` is no
+internal step either. The name of a gate that the specification does not have is no
+fault, unless `--known` is given; no sequence has that label.";
 
 pub(crate) const SEARCH_STATUSES: &str = "Statuses:
   0  the listing is complete and has lines
@@ -247,27 +255,34 @@ match it like other labels. For example, `i; i; a; stop` with `--strong i i A` g
 
 pub(crate) const EVER_WORDS_LONG_HELP: &str = "The words of the pattern
 
-A pattern is a row of at most 256 elements, and matches the sequences that are made of
+A pattern is a list of at most 256 elements, and matches the sequences that are made of
 one part for each of them, in this order. With no word it matches the empty sequence
-alone. Words are read in upper or lower case. In a shell those with `<` are quoted, as
-in `'<any>'`.
+alone. Words are read in upper or lower case. In a shell those with `<` are quoted: each
+by itself, as in `'<any>'`, or several in one pair of quotes, as in `'<until> B'`.
 
   A              that one label: the name of a gate, or `exit` for successful
                  termination. For example, `A B` matches `A B`.
+  A,B            one label, which is one of these. No blank is beside a comma. `A,B C`
+                 matches `A C` and `B C`.
+  <not> A,B      one label, which is none of these. `A <not> A,B` matches `A C`.
   <any>          any one label. `A <any>` matches `A B`.
-  <until> A      any number of labels other than A, and then A. `<until> B` matches
-                 `B` and `A A B`.
-  <while> A      any number of labels A. `A <while> B` matches `A` and `A B B`.
+  <until> SET    any number of labels outside of the set, and then one of the set.
+                 `<until> B` matches `B` and `A A B`. SET is `A`, `A,B` or `<not> A,B`.
+  <while> SET    any number of labels, all of the set. `A <while> B` matches `A` and
+                 `A B B`.
   <while> <any>  any number of labels. `<while> <any> B` matches all that ends in `B`.
   <deadlock>     nothing, where the end is a deadlock. `A <deadlock>` matches `A`,
                  where nothing can follow.
   <until> <deadlock>
                  any number of labels, where the end is a deadlock.
 
-A deadlock is a term that has no step at all, not even an internal one. These last two
-may stand only at the end. `i` is a word of a pattern only with `--strong`, as the
-internal action cannot be observed. A word that is neither an element nor `exit` nor `i`
-names a gate of the specification's own list. Where the list does not have it, the word
-is refused with E49 and status 2, as no sequence could show it. For example, `C` is
-refused for
+Elements next to each other match labels next to each other: `A B` does not match
+`A C B`. An A and later a B, with no C between them, is `A <while> <not> C B`.
+
+A deadlock is a term that has no step at all, not even an internal one. The two elements
+that ask for one may come only at the end. `i` is a word of a pattern only with
+`--strong`, as the internal action cannot be observed; without it `<not> A` is no
+internal step either. A name that is neither `exit` nor `i` is that of a gate of the
+specification's own list. Where the list does not have it, its word is refused with E49
+and status 2, as no sequence has that label. For example, `C` is refused for
   specification S [a,b] : noexit behaviour a; b; stop endspec";
