@@ -127,6 +127,33 @@ const REPETITION: &[(&str, &[Plain])] = &[(
     ],
 )];
 
+const SETS: &[(&str, &[Plain])] = &[(
+    "noexit behaviour a; (b; stop [] c; stop [] i; a; stop)",
+    &[
+        (3, &["A", "B,C"], "A B; A C; end"),
+        (3, &["A", "c,C,b"], "A B; A C; end"),
+        (3, &["A", "<not>", "B,C"], "A A : A i A; end"),
+        (3, &["<until>", "B,C"], "A B; A C; end"),
+        (3, &["<until>", "<not>", "A"], "A B; A C; end"),
+        (3, &["<while>", "A,C"], "<empty>; A; A A : A i A; A C; end"),
+        (
+            3,
+            &["<while>", "<not>", "B", "<deadlock>"],
+            "A A : A i A; A C; end",
+        ),
+    ],
+)];
+
+const OBSERVED_SETS: &[(&str, &[Plain])] = &[(
+    "noexit behaviour a; (b; stop [] c; stop [] i; a; stop)",
+    &[
+        (3, &["A", "i,B", "<any>"], "A i A; end"),
+        (3, &["A", "<not>", "i"], "A B; A C; end"),
+        (3, &["A", "<not>", "B"], "A C; A i; end"),
+        (3, &["<while>", "<not>", "B,C", "A"], "A; A i A; end"),
+    ],
+)];
+
 const OBSERVED: &[(&str, &[Plain])] = &[
     (
         "noexit behaviour i; i; a; stop",
@@ -176,6 +203,12 @@ fn lists_sequences(rt: HostRuntime) -> Result<(), Fail> {
     expect(&rt, rt.alloc(), COMPOSITIONS, false)?;
     expect(&rt, rt.alloc(), CALLS, false)?;
     expect(&rt, rt.alloc(), REPETITION, false)
+}
+
+#[test]
+fn lists_sequences_of_sets(rt: HostRuntime) -> Result<(), Fail> {
+    expect(&rt, rt.alloc(), SETS, false)?;
+    expect(&rt, rt.alloc(), OBSERVED_SETS, true)
 }
 
 #[test]

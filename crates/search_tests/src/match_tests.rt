@@ -251,6 +251,76 @@ const FIRST_MATCHES: &[Row] = &[
     },
 ];
 
+/// Matches of sets of labels.
+const SETS: &[Row] = &[
+    // One label of a set, and one outside of it.
+    Row {
+        behaviour: "noexit behaviour i; b; stop [] i; a; stop",
+        words: &["a,b"],
+        strong: false,
+        states: MANY,
+        answer: Answer::Found(&[I, A], &[A]),
+    },
+    Row {
+        behaviour: "exit behaviour i; b; stop [] exit [] a; stop",
+        words: &["<not>", "a"],
+        strong: false,
+        states: MANY,
+        answer: Answer::Found(&[EXIT], &[EXIT]),
+    },
+    Row {
+        behaviour: "noexit behaviour i; b; stop [] a; stop",
+        words: &["<not>", "a"],
+        strong: false,
+        states: MANY,
+        answer: Answer::Found(&[I, B], &[B]),
+    },
+    Row {
+        behaviour: "noexit behaviour i; b; stop [] a; stop",
+        words: &["<not>", "a"],
+        strong: true,
+        states: MANY,
+        answer: Answer::Found(&[I], &[I]),
+    },
+    // Repetition over a set.
+    Row {
+        behaviour: "noexit behaviour a; a; i; b; stop",
+        words: &["<until>", "<not>", "a"],
+        strong: false,
+        states: MANY,
+        answer: Answer::Found(&[A, A, I, B], &[A, A, B]),
+    },
+    Row {
+        behaviour: "noexit behaviour a; a; i; b; stop",
+        words: &["<until>", "b,i"],
+        strong: true,
+        states: MANY,
+        answer: Answer::Found(&[A, A, I], &[A, A, I]),
+    },
+    Row {
+        behaviour: "exit behaviour a; b; stop [] a; exit",
+        words: &["<while>", "a,exit", "<deadlock>"],
+        strong: false,
+        states: MANY,
+        answer: Answer::Found(&[A, EXIT], &[A, EXIT]),
+    },
+    // Twice one label, with no other one between.
+    Row {
+        behaviour: LOOP,
+        words: &["<while>", "<any>", "a", "<while>", "<not>", "b", "a"],
+        strong: false,
+        states: MANY,
+        answer: Answer::NoMatch,
+    },
+    Row {
+        behaviour: "noexit behaviour a; b; a; stop [] a; i; b; a; a; stop",
+        words: &["<while>", "<any>", "a", "<while>", "<not>", "b", "a"],
+        strong: false,
+        states: MANY,
+        answer: Answer::Found(&[A, I, B, A, A], &[A, B, A, A]),
+    },
+];
+
 /// Bounds on the states, and recursions.
 const STATES: &[Row] = &[
     // Too few states, and just enough.
@@ -439,6 +509,11 @@ fn answers_whether_there_is_a_match(rt: HostRuntime) -> Result<(), Fail> {
 #[test]
 fn answers_with_the_first_match(rt: HostRuntime) -> Result<(), Fail> {
     assert_answers(&rt, rt.alloc(), FIRST_MATCHES)
+}
+
+#[test]
+fn answers_with_sets_of_labels(rt: HostRuntime) -> Result<(), Fail> {
+    assert_answers(&rt, rt.alloc(), SETS)
 }
 
 #[test]

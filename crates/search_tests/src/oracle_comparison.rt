@@ -8,7 +8,7 @@ use super::listing_run::{
 };
 use super::samples::{
     CALLS, CHOICES, FIRST_PATTERNS, HIDING, INTERLEAVING, OPERATORS, PREFIXES, RECURSIONS,
-    SECOND_PATTERNS, SYNCHRONIZATION, THIRD_PATTERNS, Words,
+    SECOND_PATTERNS, SET_PATTERNS, SYNCHRONIZATION, THIRD_PATTERNS, Words,
 };
 use lotos_pattern::Pattern;
 use std::alloc::{AllocError, Global};
@@ -116,6 +116,7 @@ fn sample_of(
 fn compare_sample(rt: &impl Abort, alloc: Global, sample: &Sample) -> Result<(), Fail> {
     compare_patterns(rt, alloc, sample, FIRST_PATTERNS, &[false, true])?;
     compare_patterns(rt, alloc, sample, SECOND_PATTERNS, &[false, true])?;
+    compare_patterns(rt, alloc, sample, SET_PATTERNS, &[false, true])?;
     compare_patterns(rt, alloc, sample, THIRD_PATTERNS, &[true])
 }
 

@@ -138,6 +138,18 @@ pub const SECOND_PATTERNS: &[Words] = &[
     &["<while>", "B", "<until>", "<deadlock>"],
 ];
 
+/// Patterns with sets of labels.
+pub const SET_PATTERNS: &[Words] = &[
+    &["A,B"],
+    &["<not>", "A"],
+    &["<until>", "A,exit"],
+    &["<until>", "<not>", "A,C"],
+    &["<while>", "A,B"],
+    &["<while>", "<not>", "B", "B"],
+    &["A", "<while>", "<not>", "C,C", "B,exit"],
+    &["<while>", "<any>", "<not>", "A,B", "<deadlock>"],
+];
+
 /// Patterns with `i`, for searches in which internal steps are observed.
 pub const THIRD_PATTERNS: &[Words] = &[
     &["i"],
@@ -145,4 +157,7 @@ pub const THIRD_PATTERNS: &[Words] = &[
     &["<while>", "i", "A"],
     &["A", "<while>", "i", "<deadlock>"],
     &["<any>", "i", "<while>", "<any>"],
+    &["<not>", "A,i"],
+    &["<while>", "i,A", "B"],
+    &["<until>", "<not>", "i", "<deadlock>"],
 ];
