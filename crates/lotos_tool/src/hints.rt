@@ -1,25 +1,45 @@
-//! Hints for standard error: a word names a file, and a specification is read from standard input.
+//! Hints for standard error, after a refusal: a word names a file, though a specification is read from standard input,
+//! or a word is almost an element. A hint for which there is no memory is left out.
 
+use crate::messages::NumberText;
 use crate::outcome::{Ended, EverEnded};
 use crate::refusal::Refusal;
 use lotos_command::CommandFault;
 use lotos_pattern::PatternFault;
+use std::alloc::{AllocError, Global};
 use std::io::Write;
+use strsim::levenshtein;
 
 /// What the name of a file with a specification ends in.
 const EXTENSION: &str = ".lotos";
 
-/// Gives the hint if a search is refused for a word that names a file.
-pub(crate) fn hint_after_search<E: Write>(ended: &Ended, words: &[String], err: &mut E) {
+/// The words of elements that are not labels.
+const ELEMENT_WORDS: [&str; 5] = ["<any>", "<not>", "<until>", "<while>", "<deadlock>"];
+
+/// The most bytes of a word that may be almost an element.
+const LONGEST: usize = 16;
+
+/// Gives a hint if a search is refused for a word that names a file, or that is almost an element.
+pub(crate) fn hint_after_search<E: Write>(
+    alloc: Global,
+    ended: &Ended,
+    words: &[String],
+    err: &mut E,
+) {
     if let Ended::Refused(refusal) = ended {
-        hint_after_refusal("search ..", refusal, words, err);
+        hint_after_refusal(alloc, "search ..", refusal, words, err);
     }
 }
 
-/// Gives the hint if a search for a match is refused for a word that names a file.
-pub(crate) fn hint_after_ever<E: Write>(ended: &EverEnded, words: &[String], err: &mut E) {
+/// Gives a hint if a search for a match is refused for a word that names a file, or that is almost an element.
+pub(crate) fn hint_after_ever<E: Write>(
+    alloc: Global,
+    ended: &EverEnded,
+    words: &[String],
+    err: &mut E,
+) {
     if let EverEnded::Refused(refusal) = ended {
-        hint_after_refusal("ever ..", refusal, words, err);
+        hint_after_refusal(alloc, "ever ..", refusal, words, err);
     }
 }
 
@@ -31,20 +51,71 @@ pub(crate) fn hint_after_fault<E: Write>(fault: &CommandFault, words: &[&str], e
     }
 }
 
-fn hint_after_refusal<E: Write>(command: &str, refusal: &Refusal, words: &[String], err: &mut E) {
-    if let Refusal::Pattern(PatternFault::E41(number)) = refusal {
-        if names_file(words, *number) {
-            write_hint(command, err);
-        }
+fn hint_after_refusal<E: Write>(
+    alloc: Global,
+    command: &str,
+    refusal: &Refusal,
+    words: &[String],
+    err: &mut E,
+) {
+    let Some(number) = doubtful_word(refusal) else {
+        return;
+    };
+    let Some(word) = words.get(number.saturating_sub(1)) else {
+        return;
+    };
+    if word.as_str().ends_with(EXTENSION) {
+        write_hint(command, err);
+    } else if let Ok(Some(element)) = similar_element(alloc, word.as_str()) {
+        let number = NumberText(number);
+        let _ = writeln!(
+            err,
+            "lotosseq: word {number}, {word}, may be meant as {element}"
+        );
     }
 }
 
-/// Whether the word with this number, counted from 1, names a file with a specification.
-fn names_file(words: &[String], number: usize) -> bool {
-    match words.get(number.saturating_sub(1)) {
-        Some(word) => word.as_str().ends_with(EXTENSION),
-        None => false,
+/// The number, counted from 1, of the word that may be meant otherwise, if the refusal is for one: the word itself, or
+/// the one after a word that needs another.
+fn doubtful_word(refusal: &Refusal) -> Option<usize> {
+    match refusal {
+        Refusal::Pattern(PatternFault::E41(number)) | Refusal::E49(number) => Some(*number),
+        Refusal::Pattern(
+            PatternFault::E42(number) | PatternFault::E48(number) | PatternFault::E50(number),
+        ) => number.checked_add(1),
+        _ => None,
     }
+}
+
+/// The first element's word that this one almost is: between the signs, at most two bytes are wrong and at most half of
+/// them; at most a quarter if the word has no sign, since it may be a name. A word that is not printed as it is almost
+/// is none.
+fn similar_element(alloc: Global, word: &str) -> Result<Option<&'static str>, AllocError> {
+    let bytes = word.as_bytes();
+    if bytes.len() > LONGEST || !bytes.iter().all(|byte| byte.is_ascii_graphic()) {
+        return Ok(None);
+    }
+    let lower = word.to_ascii_lowercase(alloc)?;
+    let name = lower.as_str().trim_matches(is_sign);
+    for element in ELEMENT_WORDS {
+        if lower.as_str() == element {
+            return Ok(None);
+        }
+        let meant = element.trim_matches(is_sign);
+        let most = if name.len() < bytes.len() {
+            (meant.len() / 2).min(2)
+        } else {
+            meant.len() / 4
+        };
+        if levenshtein(alloc, name, meant)? <= most {
+            return Ok(Some(element));
+        }
+    }
+    Ok(None)
+}
+
+fn is_sign(letter: char) -> bool {
+    letter == '<' || letter == '>'
 }
 
 /// Whether the words name the command `check`, and one of the others is no option.

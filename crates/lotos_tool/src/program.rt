@@ -71,7 +71,7 @@ pub fn run_with_terminal<R: Source, W: Sink, E: Write>(
     }
 }
 
-/// Runs a search and reports it, with a hint if one of its words names a file. Returns its status.
+/// Runs a search and reports it, with a hint if one of its words names a file or is almost an element. Returns its status.
 fn run_search<R: Source, W: Sink, E: Write>(
     alloc: Global,
     request: &SearchRequest,
@@ -90,12 +90,12 @@ fn run_search<R: Source, W: Sink, E: Write>(
 {
     let ended = list_with_report(alloc, request, reader, out, err, terminal);
     let status = report_search(&ended, request.terms, err);
-    hint_after_search(&ended, request.words.as_slice(), err);
+    hint_after_search(alloc, &ended, request.words.as_slice(), err);
     status
 }
 
-/// Searches for a match of any length and reports the outcome, with a hint if one of the request's words names a file.
-/// Returns the status.
+/// Searches for a match of any length and reports the outcome, with a hint if one of the request's words names a file
+/// or is almost an element. Returns the status.
 fn run_ever<R: Source, W: Sink, E: Write>(
     alloc: Global,
     request: &EverRequest,
@@ -113,7 +113,7 @@ fn run_ever<R: Source, W: Sink, E: Write>(
 {
     let ended = ever_with_report(alloc, request, reader, out, err, terminal);
     let status = report_ever(&ended, request.states, err);
-    hint_after_ever(&ended, request.words.as_slice(), err);
+    hint_after_ever(alloc, &ended, request.words.as_slice(), err);
     status
 }
 

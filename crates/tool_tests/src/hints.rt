@@ -1,4 +1,4 @@
-//! Words that name a file, and the hint that a specification is read from standard input.
+//! Hints: a specification is read from standard input and no file is named among the words; a word is almost an element.
 
 use super::expected_output::expect_message;
 
@@ -73,6 +73,13 @@ fn a_file_among_the_words(rt: HostRuntime) {
 }
 
 #[test]
+fn a_word_that_is_almost_an_element(rt: HostRuntime) {
+    for (words, message) in ALMOST {
+        expect_message(&rt, rt.alloc(), *words, b"", *message, 2);
+    }
+}
+
+#[test]
 fn a_file_for_no_command(rt: HostRuntime) {
     expect_message(
         &rt,
@@ -80,6 +87,46 @@ fn a_file_for_no_command(rt: HostRuntime) {
         &["lotosseq", "ring.lotos"],
         b"",
         b"error: unrecognized subcommand 'ring.lotos'\n\nUsage: lotosseq <COMMAND>\n\nFor more information, try '--help'.\n",
+        2,
+    );
+}
+
+/// Words that are refused, some of them almost an element, and the message, after which the hint stands if there is one.
+const ALMOST: &[(&[&str], &[u8])] = &[
+    (
+        &["lotosseq", "ever", "<untill>", "A"],
+        b"lotosseq: E41 word 1 is neither a label nor an element\nlotosseq: word 1, <untill>, may be meant as <until>\n",
+    ),
+    (
+        &["lotosseq", "ever", "A", "<WHILE"],
+        b"lotosseq: E41 word 2 is neither a label nor an element\nlotosseq: word 2, <WHILE, may be meant as <while>\n",
+    ),
+    (
+        &["lotosseq", "ever", "<until>", "<dedlock>"],
+        b"lotosseq: E42 word 1 needs a label or <deadlock> after it\nlotosseq: word 2, <dedlock>, may be meant as <deadlock>\n",
+    ),
+    (
+        &["lotosseq", "ever", "<while>", "<al>"],
+        b"lotosseq: E48 word 1 needs a label or <any> after it\n",
+    ),
+    (
+        &["lotosseq", "search", "--depth", "1", "<an>"],
+        b"lotosseq: E41 word 1 is neither a label nor an element\nlotosseq: word 1, <an>, may be meant as <any>\n",
+    ),
+    (
+        &["lotosseq", "ever", "<until>", "<until>"],
+        b"lotosseq: E42 word 1 needs a label or <deadlock> after it\n",
+    ),
+];
+
+#[test]
+fn a_name_that_is_almost_an_element(rt: HostRuntime) {
+    expect_message(
+        &rt,
+        rt.alloc(),
+        &["lotosseq", "ever", "until", "a"],
+        b"specification S [a] : exit behaviour a; exit endspec",
+        b"lotosseq: E49 word 1 is no gate of the specification\nlotosseq: word 1, until, may be meant as <until>\n",
         2,
     );
 }
