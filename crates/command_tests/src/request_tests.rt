@@ -1,5 +1,5 @@
 //! Which requests and faults words make, as long as memory lasts.
-use lotos_command::{CommandFault, request};
+use lotos_command::{CommandFault, Request, request};
 use std::alloc::{AllocError, Global};
 use std::test::Fail;
 
@@ -76,6 +76,77 @@ fn answer(alloc: Global, words: &[&str]) -> Result<String, AllocError> {
 fn reads_requests(rt: HostRuntime) -> Result<(), Fail> {
     for (subject, words, expected) in REQUESTS {
         let found = answer(rt.alloc(), words)?;
+        assert_eq!(rt; found.as_str(), *expected, "{}", subject);
+    }
+    Ok(())
+}
+
+/// What is tested, words, and the words of their pattern as `Debug` writes them.
+const QUOTED: &[(&str, &[&str], &str)] = &[
+    (
+        "a question in one pair of quotes",
+        &[
+            "lotosseq",
+            "ever",
+            "<while> <any> R1_IN <while> <not> R1_OUT W_IN",
+        ],
+        "[\"<while>\", \"<any>\", \"R1_IN\", \"<while>\", \"<not>\", \"R1_OUT\", \"W_IN\"]",
+    ),
+    (
+        "words in quotes before, between and after words alone",
+        &["lotosseq", "ever", "A B", "C", "D E", "F"],
+        "[\"A\", \"B\", \"C\", \"D\", \"E\", \"F\"]",
+    ),
+    (
+        "blanks before, after and repeated",
+        &["lotosseq", "search", "--depth=1", "  A   B "],
+        "[\"A\", \"B\"]",
+    ),
+    (
+        "each blank",
+        &["lotosseq", "search", "--depth=1", "A B\tC\nD\r\u{c}E\n"],
+        "[\"A\", \"B\", \"C\", \"D\", \"E\"]",
+    ),
+    (
+        "white space that is no blank",
+        &["lotosseq", "ever", "A\u{b}B\u{a0}C\u{2003}D"],
+        "[\"A\\u{b}B\\u{a0}C\\u{2003}D\"]",
+    ),
+    (
+        "an empty word",
+        &["lotosseq", "ever", "A", "", "B"],
+        "[\"A\", \"\", \"B\"]",
+    ),
+    (
+        "words of blanks only",
+        &["lotosseq", "ever", " ", "A B", "\t \n"],
+        "[\" \", \"A\", \"B\", \"\\t \\n\"]",
+    ),
+    (
+        "what would be an option, after a word in quotes",
+        &["lotosseq", "ever", "A --strong --states 7"],
+        "[\"A\", \"--strong\", \"--states\", \"7\"]",
+    ),
+    (
+        "words in quotes after `--`",
+        &["lotosseq", "search", "--depth", "1", "--", "-x A"],
+        "[\"-x\", \"A\"]",
+    ),
+];
+
+/// The words of the pattern for which these words ask as `Debug` writes them, or `no pattern`.
+fn pattern_words(alloc: Global, words: &[&str]) -> Result<String, AllocError> {
+    match request(alloc, words) {
+        Ok(Request::Search(asked)) => format!(in alloc; "{:?}", asked.words),
+        Ok(Request::Ever(asked)) => format!(in alloc; "{:?}", asked.words),
+        _ => format!(in alloc; "no pattern"),
+    }
+}
+
+#[test]
+fn splits_words_at_blanks(rt: HostRuntime) -> Result<(), Fail> {
+    for (subject, words, expected) in QUOTED {
+        let found = pattern_words(rt.alloc(), words)?;
         assert_eq!(rt; found.as_str(), *expected, "{}", subject);
     }
     Ok(())

@@ -6,5 +6,6 @@ pub mod FaultlessFlags
 pub mod FaultlessLevels
 pub mod EntryReading
 pub mod RequestFits
+pub mod SplitWords
 pub mod CommandFacts
 pub mod CommandParts

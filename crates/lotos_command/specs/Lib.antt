@@ -1,4 +1,5 @@
 pub mod CommandRules
+pub mod PatternWords
 pub mod Request
 pub mod EntryRules
 pub mod CommandFaults

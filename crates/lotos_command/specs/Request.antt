@@ -6,6 +6,7 @@ use Rattle.std.specs.Str.Parse.{digits_value, without_leading_plus}
 use Rattle.std.specs.Borrow.{Bor}
 use Rattle.clap.specs.Words.{Row, Text, all_of, fault_of, first_of, one_of, subcommand_of}
 use Rattle.lotos_command.specs.CommandRules.{lotosseq}
+use Rattle.lotos_command.specs.PatternWords.{pattern_words}
 use Rattle.lotos_command.specs.declared.command.Request.{Request}
 use Rattle.lotos_command.specs.declared.command.Request.TheVariants as request
 use Rattle.lotos_command.specs.declared.command.DiagnoseRequest.{DiagnoseRequest}
@@ -93,7 +94,7 @@ search_from rows = option_map (λ depth. record {
   strong = flag (codes "strong") rows;
   known = flag (codes "known") rows;
   progress = flag (codes "progress") rows;
-  words = unwrap_or (all_of (codes "words") rows) [];
+  words = pattern_words (unwrap_or (all_of (codes "words") rows) []);
 }) (one_of (codes "depth") rows)
 
 -- the search for a match that the entries of the subcommand `ever` make
@@ -103,7 +104,7 @@ ever_from rows = record {
   explain = flag (codes "explain") rows;
   strong = flag (codes "strong") rows;
   progress = flag (codes "progress") rows;
-  words = unwrap_or (all_of (codes "words") rows) [];
+  words = pattern_words (unwrap_or (all_of (codes "words") rows) []);
 }
 
 -- the check with these diagnostics, or the plain one if it has none

@@ -24,7 +24,8 @@ pub struct DiagnoseRequest {
     pub warn: bool,
 }
 
-/// A request for a listing. Words and lines are as the command line has them, not yet read as a pattern and a mark.
+/// A request for a listing. The words are not yet read as a pattern, and the line is as the command line has it, not
+/// yet read as a mark.
 #[derive(Debug, Drop)]
 pub struct SearchRequest {
     /// The most steps of a derivation, internal ones included.
@@ -43,12 +44,11 @@ pub struct SearchRequest {
     pub known: bool,
     /// Whether standard error tells how far the search is.
     pub progress: bool,
-    /// The words of the pattern.
+    /// The words of the pattern. The command line may have several of them in one word, with blanks between.
     pub words: Vec<String>,
 }
 
-/// A request for a shortest match, of any length. The words are as the command line has them, not yet read as a
-/// pattern.
+/// A request for a shortest match, of any length. The words are not yet read as a pattern.
 #[derive(Debug, Drop)]
 pub struct EverRequest {
     /// The most product states that may be stored, at least 1. Each is the normal form of a term and a place in the
@@ -60,7 +60,7 @@ pub struct EverRequest {
     pub strong: bool,
     /// Whether standard error tells how far the search is.
     pub progress: bool,
-    /// The words of the pattern.
+    /// The words of the pattern, as those of a [`SearchRequest`].
     pub words: Vec<String>,
 }
 

@@ -1,9 +1,10 @@
 //! The request in the words of a command line, read by clap.
-ghost use Rattle.std.specs.Prelude.{◌≡◌, ◌≤◌, IfErr, IfOk, IfSome, IsSomeAnd, Some, map, [], codes, option_map, string_bytes, unwrap_or};
+ghost use Rattle.std.specs.Prelude.{◌≡◌, ◌≤◌, ◌++◌, IfErr, IfOk, IfSome, IsSomeAnd, Some, map, [], codes, option_map, string_bytes, unwrap_or};
 ghost use Rattle.std.specs.Option.{option_map_or};
 ghost use Rattle.clap.specs.Words.{all_of, first_of, found_of, kind_of, one_of, rows_of, subcommand_rows_of};
 ghost use Rattle.lotos_command.specs.CommandFaults.{AreAccepted, IsFaultOfKind, IsFaultOf};
 ghost use Rattle.lotos_command.specs.EntryRules.{FitsCheck, FitsEver, FitsRequest, FitsSearch, IsNumberIn, IsTruthText};
+ghost use Rattle.lotos_command.specs.PatternWords.{parts_between_blanks, pattern_words, pattern_words_in};
 ghost use Rattle.lotos_command.specs.Request.{HasBounds, HasSearchBounds, RequestOf, check_from, ever_from, ever_view, flag, number, request_from, request_view, search_from, search_view, texts_of};
 
 use crate::command::{CommandFault, DiagnoseRequest, EverRequest, Request, SearchRequest};
@@ -19,6 +20,11 @@ const DEFAULT_TERMS: usize = 100_000;
 const DEFAULT_STATES: usize = 1_000_000;
 
 /// The request that the words of a command line make. The first word is the program's own name.
+///
+/// A word that is read as part of a pattern may hold several words of it, with blanks between. They are the words of the
+/// pattern as if each had been given alone, and none of them is read as an option. A blank is ASCII white space: the
+/// space, the tab, the line feed, the form feed and the carriage return. An empty word, or one of blanks only, is one
+/// word of the pattern as it stands; no pattern has such a word.
 ///
 /// # Errors
 ///
@@ -177,22 +183,48 @@ fn read_warn(found: &ArgMatches<'_>) -> bool
 fn read_words(alloc: Global, found: &ArgMatches<'_>) -> Result<Vec<String>, AllocError>
     ensures { IfOk result
         (λ v. map string_bytes v.items
-        ≡ unwrap_or (all_of (codes "words") (rows_of (found_of found.now))) []) }
+        ≡ pattern_words (unwrap_or (all_of (codes "words") (rows_of (found_of found.now))) [])) }
 {
     match found.get_raw("words") {
-        Some(texts) => copy_texts(alloc, texts),
+        Some(texts) => split_texts(alloc, texts),
         None => Ok(Vec::new(alloc)),
     }
 }
 
-fn copy_texts(alloc: Global, texts: &[&str]) -> Result<Vec<String>, AllocError>
-    ensures { IfOk result (λ v. map string_bytes v.items ≡ texts_of texts.now) }
+/// The words of a pattern in words of the command line.
+fn split_texts(alloc: Global, texts: &[&str]) -> Result<Vec<String>, AllocError>
+    ensures { IfOk result (λ v. map string_bytes v.items ≡ pattern_words (texts_of texts.now)) }
 {
     let mut all = Vec::new(alloc);
     for text in texts {
-        all.push(String::from_str(alloc, text)?)?;
+        push_words(alloc, text, &mut all)?;
     }
     Ok(all)
+}
+
+/// Adds the words of a pattern in a word of the command line: its parts between blanks, or the word itself if it has
+/// none, so that it is refused with its number.
+fn push_words(alloc: Global, text: &str, all: &mut Vec<String>) -> Result<(), AllocError>
+    ensures { IfOk result
+        (λ _. map string_bytes all.new.items ≡ map string_bytes all.old.items ++ pattern_words_in text.now) }
+{
+    let before = all.len();
+    push_parts(alloc, text, all)?;
+    if all.len() == before {
+        all.push(String::from_str(alloc, text)?)?;
+    }
+    Ok(())
+}
+
+/// Adds the parts of a text between blanks.
+fn push_parts(alloc: Global, text: &str, all: &mut Vec<String>) -> Result<(), AllocError>
+    ensures { IfOk result
+        (λ _. map string_bytes all.new.items ≡ map string_bytes all.old.items ++ parts_between_blanks text.now) }
+{
+    for part in text.split_ascii_whitespace() {
+        all.push(String::from_str(alloc, part)?)?;
+    }
+    Ok(())
 }
 
 fn command_fault(alloc: Global, error: &Error) -> CommandFault
