@@ -56,6 +56,10 @@ const ROWS: &[(&[&str], &[u8])] = &[
         b"lotosseq: E41 word 1 is neither a label nor an element\nlotosseq: a specification is read from standard input: lotosseq ever .. <FILE\n",
     ),
     (
+        &["lotosseq", "ever", "A two rings.lotos"],
+        b"lotosseq: E41 word 3 is neither a label nor an element\nlotosseq: a specification is read from standard input: lotosseq ever .. <FILE\n",
+    ),
+    (
         &["lotosseq", "ever", "A", "B-C"],
         b"lotosseq: E41 word 2 is neither a label nor an element\n",
     ),

@@ -42,6 +42,8 @@ mod program_run;
 #[cfg(test)]
 mod progress_runs;
 #[cfg(test)]
+mod quoted_words;
+#[cfg(test)]
 mod runs;
 #[cfg(test)]
 mod search_runs;
