@@ -42,7 +42,8 @@ module _ (strong : Bool) where
     spelled_by_three second third e follows ends spelling =
         let there = slice_get_within words (index + 1 + 1) third ends in
         let two : take (index + 1 + 1) words ≡ take index words ++ first ∷ second ∷ [] =
-        take_at words (index + 1) second follows ∙ ap (λ front. front ++ second ∷ []) (take_at words index first stands) ∙ append_assoc (take index words) (first ∷ []) (second ∷ []) in
+        take_at words (index + 1) second follows ∙ ap (λ front. front ++ second ∷ []) (take_at words index first stands) ∙ append_assoc (take index words)
+        (first ∷ []) (second ∷ []) in
         let three : take (index + 1 + 1 + 1) words ≡ take index words ++ first ∷ second ∷ third ∷ [] =
         take_at words (index + 1 + 1) third ends ∙ ap (λ front. front ++ third ∷ []) two ∙ append_assoc (take index words) (first ∷ second ∷ []) (third ∷ []) in
         let same : index + 1 + 1 + 1 ≡ index + 1 + 2 = omega arith in

@@ -42,7 +42,8 @@ all_observable strong (name ∷ names) [] h = absurd h
 all_observable strong (name ∷ names) (l ∷ labels) h = All-cons (IsObservable strong) l labels h.0.observable (all_observable strong names labels h.1)
 
 -- and labels that can be observed are named
-named_as_observed : (strong : Bool) (names : List Text) (labels : List Label) → NamesEach true names labels → All (IsObservable strong) labels → NamesEach strong names labels
+named_as_observed : (strong : Bool) (names : List Text) (labels : List Label) → NamesEach true names labels → All (IsObservable strong) labels →
+    NamesEach strong names labels
 named_as_observed strong [] [] h seen = tt
 named_as_observed strong [] (l ∷ labels) h seen = absurd h
 named_as_observed strong (name ∷ names) [] h seen = absurd h
@@ -60,7 +61,8 @@ names_more strong (first ∷ names) [] name l h n = absurd h
 names_more strong (first ∷ names) (m ∷ labels) name l h n = (h.0, names_more strong names labels name l h.1 n)
 
 -- each name is a word
-pub each_is_word : (strong : Bool) (names : List Text) (labels : List Label) (i : ℕ) (name : Text) → slice_get names i ≡ Some name → NamesEach strong names labels → IsWord name
+pub each_is_word : (strong : Bool) (names : List Text) (labels : List Label) (i : ℕ) (name : Text) → slice_get names i ≡ Some name →
+    NamesEach strong names labels → IsWord name
 each_is_word strong [] labels i name here h = absurd (let below = slice_get_within {A = Text} [] i name here in omega arith)
 each_is_word strong (first ∷ names) [] i name here h = absurd h
 each_is_word strong (first ∷ names) (l ∷ labels) zero name here h = let same : first ≡ name = cc in subst IsWord same h.0.spelled
@@ -69,14 +71,16 @@ each_is_word strong (first ∷ names) (l ∷ labels) (suc i) name here h = each_
 -- only the internal action cannot be observed
 all_but_internal : (strong : Bool) (labels : List Label) → (Contains labels internal → ⊥) → All (IsObservable strong) labels
 all_but_internal strong labels none =
-    All-weaker (Contains labels) (IsObservable strong) (λ l has. other_observable strong l (λ e. none (subst (Contains labels) e has))) labels (All-contains_itself labels)
+    All-weaker (Contains labels) (IsObservable strong) (λ l has. other_observable strong l (λ e. none (subst (Contains labels) e has))) labels
+    (All-contains_itself labels)
 
 observed_all : (labels : List Label) → All (IsObservable true) labels
 observed_all [] = All-nil (IsObservable true)
 observed_all (l ∷ labels) = All-cons (IsObservable true) l labels tt (observed_all labels)
 
 -- what a word that names labels means, by whether the internal action is among them and is observed
-pub hidden_labels : (strong has : Bool) (labels : List Label) → MatchBool has (Contains labels internal) (Contains labels internal → ⊥) → not strong && has ≡ true →
+pub hidden_labels : (strong has : Bool) (labels : List Label) → MatchBool has (Contains labels internal) (Contains labels internal → ⊥) →
+    not strong && has ≡ true →
     (strong ≡ false) × Contains labels internal
 hidden_labels true has labels h e = absurd (let z : ⊥ = cc in z)
 hidden_labels false true labels h e = (refl, h)
@@ -93,7 +97,8 @@ pub internal_no_labels : (strong : Bool) (word : Text) → strong ≡ false → 
 internal_no_labels strong word hidden is (labels, n) =
     let same = same_labels true (parts_of word) labels is.labels (named_if_observed strong (parts_of word) labels n) is.named in
     let seen = all_observable strong (parts_of word) labels n in
-    let observable : IsObservable strong internal = All-contains (IsObservable strong) labels internal seen (subst (λ ls. Contains ls internal) (sym same) is.internal) in
+    let observable : IsObservable strong internal = All-contains (IsObservable strong) labels internal seen
+    (subst (λ ls. Contains ls internal) (sym same) is.internal) in
     let P = λ (b : Bool). IsObservable b internal in
     subst P hidden observable refl
 
@@ -137,7 +142,8 @@ all_shorter : (labels : List Label) → All (λ l. length l ≤ total labels) la
 all_shorter [] = All-nil (λ l. length l ≤ 0)
 all_shorter (l ∷ labels) =
     let bound = total (l ∷ labels) in
-    All-cons (λ m. length m ≤ bound) l labels (omega arith) (All-weaker (λ m. length m ≤ total labels) (λ m. length m ≤ bound) (λ m h. omega arith) labels (all_shorter labels))
+    All-cons (λ m. length m ≤ bound) l labels (omega arith)
+    (All-weaker (λ m. length m ≤ total labels) (λ m. length m ≤ bound) (λ m h. omega arith) labels (all_shorter labels))
 
 -- a label that is longer is none of them
 other_label : (strong : Bool) (labels : List Label) → (l : Label) × IsIn l (others labels) × IsObservable strong l
@@ -149,7 +155,8 @@ other_label strong labels =
       other_observable strong l (λ e. let one : length l ≡ 1 = ap length e in absurd (omega arith)),
     )
 
-named_label : (strong : Bool) (names : List Text) (labels : List Label) → 0 < length names → NamesEach strong names labels → (l : Label) × IsIn l (these labels) × IsObservable strong l
+named_label : (strong : Bool) (names : List Text) (labels : List Label) → 0 < length names → NamesEach strong names labels →
+    (l : Label) × IsIn l (these labels) × IsObservable strong l
 named_label strong [] labels some h = absurd (omega arith)
 named_label strong (name ∷ names) [] some h = absurd h
 named_label strong (name ∷ names) (l ∷ labels) some h = (l, Contains-append_left (l ∷ []) labels l (Contains-push [] l), h.0.observable)

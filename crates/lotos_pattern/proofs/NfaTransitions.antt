@@ -112,7 +112,8 @@ module _ (strong : Bool) (p : List Element) (from : Place) (l : Label) (k : ℕ)
   leaves : (t : Transition) (end n : ℕ) (old new : Place) → IsTransition e l t → HasTransition t k old new → IsNextState e from k end n → (m : ℕ) → Led p l e k m →
       HasState new m ⊎ Leads p l n m
   leaves t end n old new takes marks next m (advanced ends same) = inl (subst (HasState new) (sym same) (to_next t old new marks (only_advance t e l takes ends)))
-  leaves t end n old new takes marks next m (stayed goes_on same) = inl (subst (HasState new) (sym same) (to_same t old new marks (only_stay strong t e l occurs takes goes_on)))
+  leaves t end n old new takes marks next m (stayed goes_on same) = inl
+      (subst (HasState new) (sym same) (to_same t old new marks (only_stay strong t e l occurs takes goes_on)))
   leaves t end n old new takes marks next m (skipped empty rest) = inr (subst (λ i. Leads p l i m) (sym (next.passes empty)) rest)
 
   -- a reached element takes the label or is skipped

@@ -27,7 +27,8 @@ module _ (set : LabelSet) (l : Label) where
   until_ends s [] x has h e = cc
   until_ends s (y ∷ before) x has h e = absurd (let same : l ≡ y = cc in All-head (IsOutside set) y before h (subst (λ v. IsIn v set) same has))
 
-  until_goes_on : (s before : List Label) (x : Label) → (IsIn l set → ⊥) → All (IsOutside set) before → IsIn x set → l ∷ s ≡ before ++ x ∷ [] → Segment (until set) s
+  until_goes_on : (s before : List Label) (x : Label) → (IsIn l set → ⊥) → All (IsOutside set) before → IsIn x set → l ∷ s ≡ before ++ x ∷ [] →
+      Segment (until set) s
   until_goes_on s [] x none h is e = absurd (let same : x ≡ l = cc in none (subst (λ v. IsIn v set) same is))
   until_goes_on s (y ∷ before) x none h is e = (before, x, All-tail (IsOutside set) y before h, is, let rest : s ≡ before ++ x ∷ [] = cc in rest)
 

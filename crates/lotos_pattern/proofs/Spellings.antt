@@ -85,9 +85,11 @@ module _ (strong : Bool) where
       let same : t ≡ u = cc in record { set = ap others (labels_of_one t u l m same n k); rest = cc }
 
   -- a set begins with no word in angle brackets but `<not>`
-  set_no_word : (s : LabelSet) (a x y : List Text) (v tail : Text) → SetSpelling strong s a → a ++ x ≡ v ∷ y → Differ (codes "<not>") (60 ∷ tail) → EqualsIgnoringCase v (60 ∷ tail) → ⊥
+  set_no_word : (s : LabelSet) (a x y : List Text) (v tail : Text) → SetSpelling strong s a → a ++ x ≡ v ∷ y → Differ (codes "<not>") (60 ∷ tail) →
+      EqualsIgnoringCase v (60 ∷ tail) → ⊥
   set_no_word _ _ x y v tail (named {word = w} {labels = l} n) e differ i = labels_no_word w v tail l (cc) n i
-  set_no_word _ _ x y v tail (complement {first = w} j n) e differ i = let same : w ≡ v = cc in apart v (codes "<not>") (60 ∷ tail) (subst IsNot same j) i differ
+  set_no_word _ _ x y v tail (complement {first = w} j n) e differ i = let same : w ≡ v = cc in apart v (codes "<not>") (60 ∷ tail) (subst IsNot same j) i
+      differ
 
   -- the same element begins both, and the same words follow it
   record Once (e f : Element) (x y : List Text) : Type 0 where
@@ -146,7 +148,8 @@ module _ (strong : Bool) where
       let empty : front ++ (remainder ++ rest) ≡ [] = sym (append_assoc front remainder rest) ∙ ap (λ l. l ++ rest) (sym joined) ∙ sym cut ∙ none in
       absurd (spelled_some e front (remainder ++ rest) spelling empty)
   goes_on (e ∷ p) (f ∷ q) own rest words cut (front, remainder, spelling, more_spelled, joined) (start, after, spelling_too, more_too, joined_too) =
-      let both : front ++ (remainder ++ rest) ≡ start ++ after = sym (append_assoc front remainder rest) ∙ ap (λ l. l ++ rest) (sym joined) ∙ sym cut ∙ joined_too in
+      let both : front ++ (remainder ++ rest) ≡ start ++ after = sym (append_assoc front remainder rest) ∙ ap (λ l. l ++ rest) (sym joined) ∙ sym
+      cut ∙ joined_too in
       let h = once e f front start (remainder ++ rest) after spelling spelling_too both in
       let further = goes_on p q remainder rest after (sym h.rest) more_spelled more_too in
       record {

@@ -13,8 +13,9 @@ abbrev pub Yields : Split ℕ → List Text → Type 0
 Yields iterator rest = YieldsList (split_steps FindsChar (λ a b. b ≡ a)) (λ x. x.now) iterator rest
 
 -- one part more is taken
-pub one_more_split : {iterator later : Split ℕ} (parts : List (Bor Text)) (part : Bor Text) (more : List (Bor Text)) (all rest : List Text) → Yields iterator rest →
-    texts_of parts ++ rest ≡ all → split_steps FindsChar (λ a b. b ≡ a) iterator (Some part) later → more ≡ parts ++ part ∷ [] → (left : List Text) × Yields later left × (texts_of more ++ left ≡ all)
+pub one_more_split : {iterator later : Split ℕ} (parts : List (Bor Text)) (part : Bor Text) (more : List (Bor Text)) (all rest : List Text) →
+    Yields iterator rest → texts_of parts ++ rest ≡ all → split_steps FindsChar (λ a b. b ≡ a) iterator (Some part) later →
+    more ≡ parts ++ part ∷ [] → (left : List Text) × Yields later left × (texts_of more ++ left ≡ all)
 one_more_split {later = later} parts part more all [] yields whole step pushed = absurd (yields.runs part later step)
 one_more_split {later = later} parts part more all (text ∷ rest) yields whole step pushed =
     let next = yields.runs.1 part later step in
@@ -25,6 +26,7 @@ one_more_split {later = later} parts part more all (text ∷ rest) yields whole 
     )
 
 -- no part is left
-pub all_split : {iterator later : Split ℕ} (parts : List (Bor Text)) (all rest : List Text) → Yields iterator rest → texts_of parts ++ rest ≡ all → split_steps FindsChar (λ a b. b ≡ a) iterator None later → texts_of parts ≡ all
+pub all_split : {iterator later : Split ℕ} (parts : List (Bor Text)) (all rest : List Text) → Yields iterator rest → texts_of parts ++ rest ≡ all →
+    split_steps FindsChar (λ a b. b ≡ a) iterator None later → texts_of parts ≡ all
 all_split {later = later} parts all [] yields whole step = sym (append-nil (texts_of parts)) ∙ whole
 all_split {later = later} parts all (text ∷ rest) yields whole step = absurd (yields.runs.0 later step)

@@ -46,7 +46,8 @@ names_exit word spelled reads = record { spelled = spelled; named = exits reads;
 pub names_internal : (word : Text) → IsWord word → EqualsIgnoringCase word internal → Names true word internal
 names_internal word spelled reads = record { spelled = spelled; named = inside reads; observable = tt }
 
-pub names_gate : (word : Text) → IsWord word → (EqualsIgnoringCase word termination → ⊥) → (EqualsIgnoringCase word internal → ⊥) → Names true word (map to_ascii_uppercase word)
+pub names_gate : (word : Text) → IsWord word → (EqualsIgnoringCase word termination → ⊥) → (EqualsIgnoringCase word internal → ⊥) →
+    Names true word (map to_ascii_uppercase word)
 names_gate word spelled no_exit no_internal = record { spelled = spelled; named = gate no_exit no_internal; observable = tt }
 
 -- the text of the word at an index

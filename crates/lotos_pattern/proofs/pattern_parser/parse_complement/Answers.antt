@@ -24,41 +24,48 @@ returns-in-Labels-clause-set c =
 pub returns-in-Internal-clause-fault : goal.returns-in-Internal-clause-fault
 returns-in-Internal-clause-fault c =
     let is = rw c.in-Internal.is at c.in_ok-labels.ensures in
-    fault_not_internal c.args.strong (texts_of c.args.words.now) c.args.index _ (numbered _ _ IsNot c.requires.complement) _ (word_at c.args.words.now (c.args.index + 1) _ (omega arith)) is.1
+    fault_not_internal c.args.strong (texts_of c.args.words.now) c.args.index _ (numbered _ _ IsNot c.requires.complement) _
+    (word_at c.args.words.now (c.args.index + 1) _ (omega arith)) is.1
     c.requires.complement.such is.0
 
 pub returns-in-Any-clause-fault : goal.returns-in-Any-clause-fault
 returns-in-Any-clause-fault c =
     let is = rw c.in-Any.is at c.in_ok-labels.ensures in
-    fault_not_none c.args.strong (texts_of c.args.words.now) c.args.index _ (numbered _ _ IsNot c.requires.complement) _ (word_at c.args.words.now (c.args.index + 1) _ (omega arith))
+    fault_not_none c.args.strong (texts_of c.args.words.now) c.args.index _ (numbered _ _ IsNot c.requires.complement) _
+    (word_at c.args.words.now (c.args.index + 1) _ (omega arith))
     c.requires.complement.such (angle_names_none _ _ _ is)
 
 pub returns-in-Not-clause-fault : goal.returns-in-Not-clause-fault
 returns-in-Not-clause-fault c =
     let is = rw c.in-Not.is at c.in_ok-labels.ensures in
-    fault_not_none c.args.strong (texts_of c.args.words.now) c.args.index _ (numbered _ _ IsNot c.requires.complement) _ (word_at c.args.words.now (c.args.index + 1) _ (omega arith))
+    fault_not_none c.args.strong (texts_of c.args.words.now) c.args.index _ (numbered _ _ IsNot c.requires.complement) _
+    (word_at c.args.words.now (c.args.index + 1) _ (omega arith))
     c.requires.complement.such (angle_names_none _ _ _ is)
 
 pub returns-in-Until-clause-fault : goal.returns-in-Until-clause-fault
 returns-in-Until-clause-fault c =
     let is = rw c.in-Until.is at c.in_ok-labels.ensures in
-    fault_not_none c.args.strong (texts_of c.args.words.now) c.args.index _ (numbered _ _ IsNot c.requires.complement) _ (word_at c.args.words.now (c.args.index + 1) _ (omega arith))
+    fault_not_none c.args.strong (texts_of c.args.words.now) c.args.index _ (numbered _ _ IsNot c.requires.complement) _
+    (word_at c.args.words.now (c.args.index + 1) _ (omega arith))
     c.requires.complement.such (angle_names_none _ _ _ is)
 
 pub returns-in-While-clause-fault : goal.returns-in-While-clause-fault
 returns-in-While-clause-fault c =
     let is = rw c.in-While.is at c.in_ok-labels.ensures in
-    fault_not_none c.args.strong (texts_of c.args.words.now) c.args.index _ (numbered _ _ IsNot c.requires.complement) _ (word_at c.args.words.now (c.args.index + 1) _ (omega arith))
+    fault_not_none c.args.strong (texts_of c.args.words.now) c.args.index _ (numbered _ _ IsNot c.requires.complement) _
+    (word_at c.args.words.now (c.args.index + 1) _ (omega arith))
     c.requires.complement.such (angle_names_none _ _ _ is)
 
 pub returns-in-Deadlock-clause-fault : goal.returns-in-Deadlock-clause-fault
 returns-in-Deadlock-clause-fault c =
     let is = rw c.in-Deadlock.is at c.in_ok-labels.ensures in
-    fault_not_none c.args.strong (texts_of c.args.words.now) c.args.index _ (numbered _ _ IsNot c.requires.complement) _ (word_at c.args.words.now (c.args.index + 1) _ (omega arith))
+    fault_not_none c.args.strong (texts_of c.args.words.now) c.args.index _ (numbered _ _ IsNot c.requires.complement) _
+    (word_at c.args.words.now (c.args.index + 1) _ (omega arith))
     c.requires.complement.such (angle_names_none _ _ _ is)
 
 pub returns-in-Unknown-clause-fault : goal.returns-in-Unknown-clause-fault
 returns-in-Unknown-clause-fault c =
     let is = rw c.in-Unknown.is at c.in_ok-labels.ensures in
-    fault_not_none c.args.strong (texts_of c.args.words.now) c.args.index _ (numbered _ _ IsNot c.requires.complement) _ (word_at c.args.words.now (c.args.index + 1) _ (omega arith))
+    fault_not_none c.args.strong (texts_of c.args.words.now) c.args.index _ (numbered _ _ IsNot c.requires.complement) _
+    (word_at c.args.words.now (c.args.index + 1) _ (omega arith))
     c.requires.complement.such (nothing_names_none _ _ is)

@@ -15,7 +15,8 @@ returns-in-Labels-clause-element c =
 pub returns-in-Any-clause-element : goal.returns-in-Any-clause-element
 returns-in-Any-clause-element c =
     let reads = rw c.in-Any.is at c.in_ok-labels.ensures in
-    rw c.new.ensures.items (spelled_by_one c.args.strong (texts_of c.args.words.now) c.args.index _ (word_at c.args.words.now c.args.index _ c.requires) _ (one_any reads))
+    rw c.new.ensures.items (spelled_by_one c.args.strong (texts_of c.args.words.now) c.args.index _ (word_at c.args.words.now c.args.index _ c.requires) _
+    (one_any reads))
 
 pub returns-in-Deadlock-clause-element : goal.returns-in-Deadlock-clause-element
 returns-in-Deadlock-clause-element c =

@@ -15,13 +15,15 @@ returns-then-second-words-clause-fault c =
 pub returns-in-Labels-clause-element : goal.returns-in-Labels-clause-element
 returns-in-Labels-clause-element c =
     let names = rw c.in-Labels.is at c.in_ok-labels.ensures in
-    spelled_by_two c.args.strong (texts_of c.args.words.now) c.args.index _ (numbered _ _ IsUntil c.requires.until) _ _ (word_at c.args.words.now (c.args.index + 1) _ (omega arith))
+    spelled_by_two c.args.strong (texts_of c.args.words.now) c.args.index _ (numbered _ _ IsUntil c.requires.until) _ _
+    (word_at c.args.words.now (c.args.index + 1) _ (omega arith))
     (until_set c.requires.until.such (named names))
 
 pub returns-in-Deadlock-clause-element : goal.returns-in-Deadlock-clause-element
 returns-in-Deadlock-clause-element c =
     let reads = rw c.in-Deadlock.is at c.in_ok-labels.ensures in
-    spelled_by_two c.args.strong (texts_of c.args.words.now) c.args.index _ (numbered _ _ IsUntil c.requires.until) _ _ (word_at c.args.words.now (c.args.index + 1) _ (omega arith))
+    spelled_by_two c.args.strong (texts_of c.args.words.now) c.args.index _ (numbered _ _ IsUntil c.requires.until) _ _
+    (word_at c.args.words.now (c.args.index + 1) _ (omega arith))
     (until_end c.requires.until.such reads)
 
 pub returns-in-Internal-clause-fault : goal.returns-in-Internal-clause-fault
@@ -57,10 +59,12 @@ returns-in-Unknown-clause-fault c =
 pub returns-in_ok-set-in-Not-clause-element : goal.returns-in_ok-set-in-Not-clause-element
 returns-in_ok-set-in-Not-clause-element c =
     let at = c.in_ok-set-in-Not.ensures.set in
-    spelled_by_three c.args.strong (texts_of c.args.words.now) c.args.index _ (numbered _ _ IsUntil c.requires.until) at.first at.second _ at.first_at at.second_at
+    spelled_by_three c.args.strong (texts_of c.args.words.now) c.args.index _ (numbered _ _ IsUntil c.requires.until) at.first at.second _ at.first_at
+    at.second_at
     (until_set c.requires.until.such at.spelling)
 
 pub returns-in_err-set-in-Not-clause-fault : goal.returns-in_err-set-in-Not-clause-fault
 returns-in_err-set-in-Not-clause-fault c =
     let p = err_from_is_err_and c.from_residual-in_err-set-in-Not.result c.from_residual-in_err-set-in-Not.ensures.1 in
-    rw (p.1, p.2) (λ begins. c.in_err-set-in-Not.ensures.fault (awaits_after_until c.args.strong (texts_of c.args.words.now) c.args.index _ (numbered _ _ IsUntil c.requires.until) c.requires.until.such begins))
+    rw (p.1, p.2) (λ begins. c.in_err-set-in-Not.ensures.fault
+    (awaits_after_until c.args.strong (texts_of c.args.words.now) c.args.index _ (numbered _ _ IsUntil c.requires.until) c.requires.until.such begins))

@@ -21,7 +21,8 @@ loop-name-preserved c =
     let word : Text = (get_or c.args.names.now i (record { ref_ptr = (0, 0); now = [] })).now in
     let here : slice_get names i ≡ Some word = word_at c.args.names.now i _ c.loop-name-test.true in
     let spelled : IsWord word = subst IsWord c.as_bytes.ensures.value (c.if-not-is_word.ensures.0 refl) in
-    let more = names_more true (take i names) (map string_bytes c.loop-name.labels.items) word (string_bytes c.in_ok-printed_label.field-0) c.loop-name.invariant (c.in_ok-printed_label.ensures spelled) in
+    let more = names_more true (take i names) (map string_bytes c.loop-name.labels.items) word (string_bytes c.in_ok-printed_label.field-0)
+    c.loop-name.invariant (c.in_ok-printed_label.ensures spelled) in
     let labels : map string_bytes c.push.new.self.items ≡ map string_bytes c.loop-name.labels.items ++ string_bytes c.in_ok-printed_label.field-0 ∷ [] =
     ap (map string_bytes) c.in_ok-push.ensures.items ∙ map-append string_bytes c.loop-name.labels.items (c.in_ok-printed_label.field-0 ∷ []) in
     subst (λ (ns : List Text). NamesEach true ns (map string_bytes c.push.new.self.items)) (sym (take_at names i word here))

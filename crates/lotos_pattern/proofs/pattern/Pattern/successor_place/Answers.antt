@@ -26,7 +26,9 @@ loop-state-preserved c =
     let element = element_at p kept c.loop-state.state c.index-elements-state.result shown (omega arith) c.index-elements-state.is in (
       passed p c.args.place.now c.args.label.now c.loop-state.state _ here c.transition_on.result _ _ _ _ (omega arith) (omega arith) c.loop-state.invariant.0 c.transition_on.ensures
           c.apply_transition.ensures.states c.skip_empty_elements-state.ensures,
-      walked c.args.self.now.strong p c.args.place.now c.args.label.now c.loop-state.state _ element (all_at (CanOccur c.args.self.now.strong) p c.loop-state.state _ occur element) c.transition_on.result _ _ _ _ (omega arith) (omega arith) c.loop-state.invariant.1 c.transition_on.ensures
+      walked c.args.self.now.strong p c.args.place.now c.args.label.now c.loop-state.state _ element
+          (all_at (CanOccur c.args.self.now.strong) p c.loop-state.state _ occur element) c.transition_on.result _ _ _ _ (omega arith) (omega arith)
+          c.loop-state.invariant.1 c.transition_on.ensures
           c.apply_transition.ensures.states c.skip_empty_elements-state.ensures,
       c.apply_transition.ensures.place_value c.loop-state.invariant.2,
     )
