@@ -168,6 +168,8 @@ WORDS = [
     "search --depth 3 --after B\xa0:\xa0i\xa0B <while> A",
     "search --depth 3 --strong --after i\xa0A <any> <while> B <deadlock>",
     "search --depth 3 --after <empty> <while> B <until> A",
+    "search --depth 3 --explain A,B <while> <not> B,exit <until> A,exit",
+    "search --depth 3 --strong <not> i,A <until> <not> B",
     "search --depth=2 --limit=1000000000 --terms=1000000 <any>",
     "search --depth 255 --terms 40 --limit 5 A A A",
     "search --depth 255 --terms 40 --limit 5 <while> <any>",
@@ -185,10 +187,10 @@ WORDS = [
 OTHERS = (
     "search check help --help -h --depth --limit --terms --after --explain --strong --known -- - --depth=1 --depth= 0 1 3 4 255 256 -1 "
     "+2 007 99999999999999999999 1e3 0x1 1000000 1000001 1000000000 1000000001 A B a exit EXIT i I <any> <until> <while> "
-    "<deadlock> <ANY> <empty> <foo> A-B A_1 1A _A <any <any>> "
+    "<deadlock> <ANY> <empty> <foo> A-B A_1 1A _A <any <any>> <not> A,B A,A i,A A, ,A A,,B , A,<any> "
     "\u00e4 \u017f \u212a A\xa0B A\xa0\xa0B i\xa0A A\xa0:\xa0A : <empty>\xa0:\xa0i"
 ).split(" ") + [""]
-ELEMENTS = "A B a exit EXIT i I C <any> <until> <while> <deadlock> <ANY> <Until> <WHILE>".split(" ")
+ELEMENTS = "A B a exit EXIT i I C A,B b,exit,b <any> <not> <until> <while> <deadlock> <ANY> <Not> <Until> <WHILE>".split(" ")
 
 
 def row_of(words):
