@@ -116,8 +116,12 @@ fn sample_of(
 fn compare_sample(rt: &impl Abort, alloc: Global, sample: &Sample) -> Result<(), Fail> {
     compare_patterns(rt, alloc, sample, FIRST_PATTERNS, &[false, true])?;
     compare_patterns(rt, alloc, sample, SECOND_PATTERNS, &[false, true])?;
-    compare_patterns(rt, alloc, sample, SET_PATTERNS, &[false, true])?;
-    compare_patterns(rt, alloc, sample, THIRD_PATTERNS, &[true])
+    compare_patterns(rt, alloc, sample, THIRD_PATTERNS, &[true])?;
+    compare_sets(rt, alloc, sample)
+}
+
+fn compare_sets(rt: &impl Abort, alloc: Global, sample: &Sample) -> Result<(), Fail> {
+    compare_patterns(rt, alloc, sample, SET_PATTERNS, &[false, true])
 }
 
 fn compare_patterns(

@@ -45,6 +45,11 @@ const ROWS: &[Row] = &[
         last: &["B"],
         message: b"lotosseq: E49 word 301 is no gate of the specification\n",
     },
+    Row {
+        count: 150,
+        last: &["<not>"],
+        message: b"lotosseq: E50 word 301 needs a label after it\n",
+    },
 ];
 
 #[test]

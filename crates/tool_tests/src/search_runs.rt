@@ -4,6 +4,7 @@ mod bounds;
 mod deadlocks_and_elements;
 mod enabling_and_parallel;
 mod known_gates;
+mod label_sets;
 mod limits;
 mod marks;
 mod operator_rows;

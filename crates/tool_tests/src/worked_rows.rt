@@ -305,6 +305,62 @@ fn patterns_that_are_refused_before_anything_is_read(rt: HostRuntime) {
     }
 }
 
+/// The same with sets of labels: the words of the pattern.
+const SETS: &[(&[&str], &[u8])] = &[
+    (
+        &["A,,B"],
+        b"lotosseq: E41 word 1 is neither a label nor an element\n",
+    ),
+    (
+        &["A", "B,<any>"],
+        b"lotosseq: E41 word 2 is neither a label nor an element\n",
+    ),
+    (
+        &["<until>", "A,"],
+        b"lotosseq: E42 word 1 needs a label or <deadlock> after it\n",
+    ),
+    (
+        &["<while>", ",A"],
+        b"lotosseq: E48 word 1 needs a label or <any> after it\n",
+    ),
+    (
+        &["A,i"],
+        b"lotosseq: E45 word 1 is i, which cannot be observed\n",
+    ),
+    (
+        &["<until>", "<not>", "I,A"],
+        b"lotosseq: E45 word 3 is i, which cannot be observed\n",
+    ),
+    (
+        &["A", "<not>"],
+        b"lotosseq: E50 word 2 needs a label after it\n",
+    ),
+    (
+        &["<while>", "<not>", "<any>"],
+        b"lotosseq: E50 word 2 needs a label after it\n",
+    ),
+];
+
+/// Expects that a search for the pattern of these words is refused before anything is read.
+fn expect_refused_pattern(
+    rt: &impl Abort,
+    alloc: Global,
+    pattern: &[&'static str],
+    message: &[u8],
+) -> Result<(), AllocError> {
+    let words = repeated_words(alloc, &["lotosseq", "search", "--depth", "1"], pattern, 1)?;
+    expect_refused_words(rt, alloc, "a set", words.as_slice(), message);
+    Ok(())
+}
+
+#[test]
+fn sets_that_are_refused_before_anything_is_read(rt: HostRuntime) -> Result<(), AllocError> {
+    for (pattern, message) in SETS {
+        expect_refused_pattern(&rt, rt.alloc(), *pattern, *message)?;
+    }
+    Ok(())
+}
+
 /// Values of `--after` that are not lines of a listing.
 const NO_LINES: &[&str] = &[
     "",

@@ -30,6 +30,16 @@ const MISSPELT: &[Row] = &[
         status: 2,
     },
     Row {
+        name: "a misspelt gate in a set",
+        text: TWO_STEPS,
+        words: &[
+            "lotosseq", "search", "--depth", "3", "--known", "A", "<not>", "A,C",
+        ],
+        output: b"",
+        message: b"lotosseq: E49 word 3 is no gate of the specification\n",
+        status: 2,
+    },
+    Row {
         name: "a misspelt gate without the option",
         text: TWO_STEPS,
         words: &["lotosseq", "search", "--depth", "3", "A", "C", "exit"],
