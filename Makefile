@@ -12,8 +12,14 @@ help: ## lists these targets
 build: ## proves and builds the program if a source has changed
 	./lotosseq --help >/dev/null
 
-test: ## runs the gate, rt ci
-	rt ci
+try: ## runs the tests without a proof, in minutes
+	tools/try-tests
+
+test: ## runs the gate: tools/edits-fit and rt ci
+	.ci/run
+
+edits: ## tries the edits that make code wrong, those of the gate and all others, in hours
+	tools/try-edits
 
 install: build ## installs programs, manual page, completion and syntax files below PREFIX (/usr/local)
 	install -D -m 755 crates/lotosseq/out/lotosseq $(BIN)/lotosseq
@@ -49,4 +55,4 @@ bench: build ## measures time and memory
 extra: build ## runs every tool that is not part of the gate
 	tools/extra
 
-.PHONY: help build test install uninstall clean docs examples bench extra
+.PHONY: help build try test edits install uninstall clean docs examples bench extra
