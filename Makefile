@@ -15,10 +15,10 @@ build: ## proves and builds the program if a source has changed
 try: ## runs the tests without a proof, in minutes
 	tools/try-tests
 
-test: ## runs the gate: tools/edits-fit and rt ci
+test: ## runs the gate, tools/edits-fit and rt ci
 	.ci/run
 
-edits: ## tries the edits that make code wrong, those of the gate and all others, in hours
+edits: ## tries every edit that makes code wrong, not only those of the gate
 	tools/try-edits
 
 install: build ## installs programs, manual page, completion and syntax files below PREFIX (/usr/local)
