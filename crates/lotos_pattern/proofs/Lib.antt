@@ -12,3 +12,7 @@ pub mod Ends
 pub mod AcceptingPlaces
 pub mod SpellingFaults
 pub mod Growth
+pub mod Copies
+pub mod StepRows
+pub mod PlaceNumbering
+pub mod CompiledPatterns

@@ -9,3 +9,7 @@ pub mod Transitions
 pub mod NfaTransitions
 pub mod PlaceTransitions
 pub mod WordKinds
+pub mod CompiledPatterns
+pub mod StepRows
+pub mod PlaceNumbering
+pub mod CompiledCode

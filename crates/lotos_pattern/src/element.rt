@@ -1,10 +1,11 @@
 //! Elements of a pattern, and their transitions on labels.
-ghost use Rattle.std.specs.Prelude.{◌↔◌, ◌≤◌, ℕ, MatchBool, [], drop};
+ghost use Rattle.std.specs.Prelude.{◌≡◌, ◌↔◌, ◌≤◌, ℕ, IfOk, MatchBool, [], drop};
 ghost use Rattle.lotos_pattern.specs.Patterns.{LastDemandsDeadlock, ElementDemandsDeadlock, IsJoin, Segment};
 ghost use Rattle.lotos_pattern.specs.ElementView.{element_of, elements_of};
 ghost use Rattle.lotos_pattern.specs.Transitions.{IsTransition};
 
 use crate::label_set::LabelSet;
+use std::alloc::{AllocError, Global};
 
 /// An element of a pattern.
 #[derive(Debug, Drop)]
@@ -83,6 +84,42 @@ impl Element {
     {
         matches!(self, Element::Deadlock | Element::UntilDeadlock)
     }
+
+    /// A copy of the element.
+    fn copied(&self, alloc: Global) -> Result<Element, AllocError>
+        ensures { IfOk result (λ copy. element_of copy ≡ element_of self.now) }
+    {
+        match self {
+            Element::One(labels) => {
+                let set = labels.copied(alloc)?;
+                Ok(Element::One(set))
+            }
+            Element::Until(labels) => {
+                let set = labels.copied(alloc)?;
+                Ok(Element::Until(set))
+            }
+            Element::While(labels) => {
+                let set = labels.copied(alloc)?;
+                Ok(Element::While(set))
+            }
+            Element::Deadlock => Ok(Element::Deadlock),
+            Element::UntilDeadlock => Ok(Element::UntilDeadlock),
+        }
+    }
+}
+
+/// A copy of the elements.
+pub(crate) fn copied_elements(
+    alloc: Global,
+    elements: &[Element],
+) -> Result<Vec<Element>, AllocError>
+    ensures { IfOk result (λ copy. elements_of copy.items ≡ elements_of elements.now) }
+{
+    let mut copy = Vec::new(alloc);
+    for element in elements {
+        copy.push(element.copied(alloc)?)?;
+    }
+    Ok(copy)
 }
 
 /// Whether the last of the elements demands a deadlock at the end.

@@ -1,7 +1,9 @@
 //! Sets of labels.
-ghost use Rattle.std.specs.Prelude.{Contains, MatchBool, map, string_bytes};
+ghost use Rattle.std.specs.Prelude.{◌≡◌, Contains, IfOk, MatchBool, map, string_bytes};
 ghost use Rattle.lotos_pattern.specs.Patterns.{IsIn};
 ghost use Rattle.lotos_pattern.specs.ElementView.{set_of};
+
+use std::alloc::{AllocError, Global};
 
 /// A set of labels, which are given by their printed texts.
 #[derive(Debug, Drop)]
@@ -22,6 +24,22 @@ impl LabelSet {
             LabelSet::Others(labels) => !has_label(labels.as_slice(), label),
         }
     }
+
+    /// A copy of the set.
+    pub(crate) fn copied(&self, alloc: Global) -> Result<LabelSet, AllocError>
+        ensures { IfOk result (λ copy. set_of copy ≡ set_of self.now) }
+    {
+        match self {
+            LabelSet::These(labels) => {
+                let copy = copied_labels(alloc, labels.as_slice())?;
+                Ok(LabelSet::These(copy))
+            }
+            LabelSet::Others(labels) => {
+                let copy = copied_labels(alloc, labels.as_slice())?;
+                Ok(LabelSet::Others(copy))
+            }
+        }
+    }
 }
 
 /// Whether the label is one of these.
@@ -35,4 +53,15 @@ pub(crate) fn has_label(labels: &[String], label: &str) -> bool
         }
     }
     false
+}
+
+/// A copy of the labels.
+fn copied_labels(alloc: Global, labels: &[String]) -> Result<Vec<String>, AllocError>
+    ensures { IfOk result (λ copy. map string_bytes copy.items ≡ map string_bytes labels.now) }
+{
+    let mut copy = Vec::new(alloc);
+    for label in labels {
+        copy.push(String::from_str(alloc, label.as_str())?)?;
+    }
+    Ok(copy)
 }

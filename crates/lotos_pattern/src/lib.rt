@@ -5,6 +5,7 @@
 //! contracts cite are in `specs/`, the laws over them in [`laws`].
 #![tactic(auto)]
 
+mod compiled_pattern;
 mod element;
 mod fault;
 mod label_names;
@@ -13,8 +14,13 @@ pub mod laws;
 mod pattern;
 mod pattern_parser;
 mod place;
+mod place_number;
+mod place_numbering;
+mod step_rows;
 
+pub use compiled_pattern::CompiledPattern;
 pub use fault::PatternFault;
 pub use label_names::split_names;
 pub use pattern::Pattern;
 pub use place::{End, Place};
+pub use place_number::PlaceNumber;

@@ -10,11 +10,11 @@ ghost use Rattle.lotos_pattern.specs.Places.{Accepts, IsPlaceOf};
 ghost use Rattle.lotos_pattern.specs.PlaceTransitions.{HasTransition, IsNextState, CanContinue, IsSuccessorPlace};
 ghost use Rattle.lotos_pattern.specs.NfaTransitions.{HasStatesAfter, Leads};
 
-use crate::element::{Element, Transition, demands_deadlock, min_accepting_state};
+use crate::element::{Element, Transition, copied_elements, demands_deadlock, min_accepting_state};
 use crate::fault::PatternFault;
 use crate::pattern_parser::parse_elements;
 use crate::place::{End, Place};
-use std::alloc::Global;
+use std::alloc::{AllocError, Global};
 use std::marker::Model;
 
 /// A pattern matches the sequences of labels that are made of one segment for each of its elements in turn. Unless it
@@ -60,6 +60,15 @@ impl Pattern {
         ensures { result ≡ self.now.strong }
     {
         self.strong
+    }
+
+    /// A copy of the pattern.
+    pub fn copied(&self, alloc: Global) -> Result<Pattern, AllocError>
+        ensures { IfOk result (λ p. p ≡ self.now) }
+    {
+        let elements = copied_elements(alloc, self.elements.as_slice())?;
+        let strong = self.strong;
+        Ok(Pattern { elements, strong })
     }
 
     /// Does nothing. Its clause says what is true of every pattern: each of its elements can occur.

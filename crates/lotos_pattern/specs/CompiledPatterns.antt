@@ -1,0 +1,75 @@
+-- Compiled patterns: the places that have come up, each with a number, and where a label leads from a place.
+use Rattle.std.specs.Prelude.{◌≡◌, ℕ, ◌<◌, ◌≤◌, List, [], ◌∷◌, ◌++◌, Option, None, Some, IfSome, MatchOption, length, slice_get}
+use Rattle.lotos_pattern.specs.PatternLabels.{Label}
+use Rattle.lotos_pattern.specs.Patterns.{Pattern, Viable}
+use Rattle.lotos_pattern.specs.NfaStates.{IsPlaceValue, Place}
+use Rattle.lotos_pattern.specs.NfaTransitions.{HasStatesAfter}
+use Rattle.lotos_pattern.specs.Places.{Accepts, IsPlaceOf}
+use Rattle.lotos_pattern.specs.StepRows.{HasEntry}
+use Rattle.lotos_pattern.specs.declared.place.End.{End}
+
+-- the place that the label leads to from a place; none if no sequence that the pattern matches goes on like this
+pub record IsPlaceAfter (p : Pattern) (from : Place) (label : Label) (to : Option Place) : Type 0 where
+  pub goes_on : (r : List Label) → IsPlaceOf p r from → MatchOption to (Viable p (r ++ label ∷ []) → ⊥)
+      (λ q. Viable p (r ++ label ∷ []) × IsPlaceOf p (r ++ label ∷ []) q)
+  pub states : (r : List Label) → HasStatesAfter p r from → IfSome to (HasStatesAfter p (r ++ label ∷ []))
+  pub place_value : IfSome to IsPlaceValue
+
+-- the place of the empty sequence, with which some sequence can go on
+pub record IsFirstPlace (p : Pattern) (place : Place) : Type 0 where
+  pub begins : IsPlaceOf p [] place
+  pub viable : Viable p []
+  pub states : HasStatesAfter p [] place
+
+-- a compiled pattern: the pattern, and the labels and the places that it knows, by their numbers
+pub record CompiledView : Type 0 where
+  pub pattern : Pattern
+  pub labels : List Label
+  pub places : List Place
+
+-- the compiled pattern of these
+abbrev pub view_of : Pattern → List Label → List Place → CompiledView
+view_of p labels places = record { pattern = p; labels = labels; places = places }
+
+-- the place has this number
+abbrev pub IsPlaceAt : CompiledView → ℕ → Place → Type 0
+IsPlaceAt c n place = slice_get c.places n ≡ Some place
+
+-- the label has this number
+abbrev pub IsLabelAt : CompiledView → ℕ → Label → Type 0
+IsLabelAt c n label = slice_get c.labels n ≡ Some label
+
+-- there may be more places; the pattern, the labels and the places of old numbers are the same
+pub record KeepsPlaces (old new : CompiledView) : Type 0 where
+  pub pattern : new.pattern ≡ old.pattern
+  pub labels : new.labels ≡ old.labels
+  pub places : (n : ℕ) (place : Place) → IsPlaceAt old n place → IsPlaceAt new n place
+  pub more : length old.places ≤ length new.places
+
+-- the label leads from the place to the one with this number, or, if there is no number, to none
+abbrev pub LeadsTo : CompiledView → Place → Label → Option ℕ → Type 0
+LeadsTo c from label None = IsPlaceAfter c.pattern from label None
+LeadsTo c from label (Some n) = (to : Place) × IsPlaceAt c n to × IsPlaceAfter c.pattern from label (Some to)
+
+-- no place has two numbers, and each is a value that the program has
+pub record ArePlaces (places : List Place) : Type 0 where
+  pub distinct : (j k : ℕ) (place : Place) → slice_get places j ≡ Some place → slice_get places k ≡ Some place → j ≡ k
+  pub values : (n : ℕ) (place : Place) → slice_get places n ≡ Some place → IsPlaceValue place
+
+-- whether the pattern matches the sequences that have this place
+abbrev pub EndsAs : Pattern → Place → End → Type 0
+EndsAs p place end = (r : List Label) → IsPlaceOf p r place → Accepts p r end
+
+-- the invariant of compiled patterns, with the ends of the places and the rows of entries
+pub record IsCompiled (c : CompiledView) (ends : List End) (rows : List (List ℕ)) : Type 0 where
+  -- the place of the empty sequence has the number 0
+  pub first : (place : Place) × IsPlaceAt c 0 place × IsFirstPlace c.pattern place
+  pub places : ArePlaces c.places
+  -- each place has its end
+  pub enough_ends : length c.places ≤ length ends
+  pub ended : (n : ℕ) (place : Place) → IsPlaceAt c n place →
+      (end : End) × (slice_get ends n ≡ Some end) × EndsAs c.pattern place end
+  -- entries are those of places, and what they say is true
+  pub placed : (n k : ℕ) (to : Option ℕ) → HasEntry rows n k to → n < length c.places
+  pub known : (n k : ℕ) (to : Option ℕ) → HasEntry rows n k to → (from : Place) (label : Label) →
+      IsPlaceAt c n from → IsLabelAt c k label → LeadsTo c from label to
