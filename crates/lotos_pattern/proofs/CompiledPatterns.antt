@@ -9,7 +9,8 @@ use Rattle.lotos_pattern.specs.Places.{Accepts, IsPlaceOf}
 use Rattle.lotos_pattern.specs.declared.place.End.{End}
 use Rattle.lotos_pattern.specs.StepRows.{AddsOnly, HasEntry}
 use Rattle.lotos_pattern.specs.PlaceNumbering.{IsNumbered, added, present}
-use Rattle.lotos_pattern.specs.CompiledPatterns.{ArePlaces, CompiledView, EndsAs, IsCompiled, IsFirstPlace, IsLabelAt, IsPlaceAfter, IsPlaceAt, KeepsPlaces, LeadsTo}
+use Rattle.lotos_pattern.specs.CompiledPatterns.{ArePlaces, CompiledView, IsFirstPlace, IsLabelAt, IsPlaceAfter, IsPlaceAt, KeepsPlaces, LeadsTo}
+use Rattle.lotos_pattern.specs.CompiledInvariant.{EndsAs, IsCompiled}
 use Rattle.lotos_pattern.proofs.StepRows.{get_added}
 
 module _ {X : Type 0} where

@@ -12,4 +12,5 @@ pub mod WordKinds
 pub mod CompiledPatterns
 pub mod StepRows
 pub mod PlaceNumbering
+pub mod CompiledInvariant
 pub mod CompiledCode

@@ -29,7 +29,8 @@ pub struct CompiledPattern {
 
 impl Model for CompiledPattern {
     ghost use Rattle.std.specs.Prelude.{map, string_bytes};
-    ghost use Rattle.lotos_pattern.specs.CompiledPatterns.{CompiledView, IsCompiled, view_of};
+    ghost use Rattle.lotos_pattern.specs.CompiledPatterns.{CompiledView, view_of};
+    ghost use Rattle.lotos_pattern.specs.CompiledInvariant.{IsCompiled};
     ghost use Rattle.lotos_pattern.specs.CompiledCode.{compiled_view_code};
 
     ghost Value = { CompiledView };

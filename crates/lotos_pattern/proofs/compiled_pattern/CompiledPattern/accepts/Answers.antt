@@ -1,5 +1,5 @@
 use Rattle.std.proofs.Common.{arith, get_or, subst, ◌≡◌}
-use Rattle.lotos_pattern.specs.CompiledPatterns.{IsCompiled}
+use Rattle.lotos_pattern.specs.CompiledInvariant.{IsCompiled}
 use Rattle.lotos_pattern.proofs.CompiledPatterns.{end_read}
 use Rattle.lotos_pattern.proofs.compiled_pattern.CompiledPattern.accepts.Goals as goal
 

@@ -1,6 +1,6 @@
 use Rattle.std.proofs.Common.{subst, sym}
 use Rattle.lotos_pattern.specs.StepRows.{AddsOnly}
-use Rattle.lotos_pattern.specs.CompiledPatterns.{IsCompiled}
+use Rattle.lotos_pattern.specs.CompiledInvariant.{IsCompiled}
 use Rattle.lotos_pattern.proofs.CompiledPatterns.{entry_added}
 use Rattle.lotos_pattern.proofs.compiled_pattern.CompiledPattern.store_step.Goals as goal
 
