@@ -1,4 +1,6 @@
 //! The steps of a compiled pattern that are known.
+ghost use Rattle.std.specs.Prelude.{◌≡◌, ℕ, [], IfOk, IfSome, None, Option, Some, slice_get};
+ghost use Rattle.lotos_pattern.specs.StepRows.{AddsNone, AddsOnly, HasEntry, known_by, plain_rows};
 
 use crate::place_number::PlaceNumber;
 use std::alloc::{AllocError, Global};
@@ -22,9 +24,6 @@ impl Model for StepRows {
 }
 
 impl StepRows {
-    ghost use Rattle.std.specs.Prelude.{◌≡◌, [], IfSome};
-    ghost use Rattle.lotos_pattern.specs.StepRows.{AddsOnly, HasEntry};
-
     /// No rows.
     pub fn new(alloc: Global) -> StepRows
         ensures { result ≡ [] }
@@ -63,9 +62,6 @@ impl StepRows {
         Ok(())
     }
 }
-
-ghost use Rattle.std.specs.Prelude.{◌≡◌, ℕ, IfOk, IfSome, None, Option, Some, slice_get};
-ghost use Rattle.lotos_pattern.specs.StepRows.{AddsNone, AddsOnly, HasEntry, known_by, plain_rows};
 
 /// The entry that says where a label leads, if it fits.
 fn encode(next: Option<PlaceNumber>) -> Option<u32>
