@@ -250,7 +250,7 @@ const INTERNAL_STEPS: &[Row] = &[
     ),
 ];
 
-const LABELS: [&str; 4] = ["A", "B", "exit", "i"];
+pub const LABELS: [&str; 4] = ["A", "B", "exit", "i"];
 
 /// Lengths, with the number of sequences of that length.
 const COUNTS: [(usize, usize); 5] = [(0, 1), (1, 4), (2, 16), (3, 64), (4, 256)];
@@ -348,7 +348,7 @@ fn is_segment(part: &Part, labels: &[&str]) -> bool {
 }
 
 /// The sequences of up to four labels.
-fn sequences(alloc: Global) -> Result<Vec<Vec<&'static str>>, AllocError> {
+pub fn sequences(alloc: Global) -> Result<Vec<Vec<&'static str>>, AllocError> {
     let mut all = Vec::new(alloc);
     for (length, count) in COUNTS {
         for number in 0..count {

@@ -3,6 +3,12 @@
 #![tactic(auto)]
 
 #[cfg(test)]
+mod compiled_long_tests;
+#[cfg(test)]
+mod compiled_tests;
+#[cfg(test)]
+mod compiled_walks;
+#[cfg(test)]
 mod language_tests;
 #[cfg(test)]
 mod long_tests;
