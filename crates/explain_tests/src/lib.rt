@@ -4,4 +4,6 @@
 #[cfg(test)]
 mod mistakes;
 #[cfg(test)]
+mod names;
+#[cfg(test)]
 mod places;

@@ -4,3 +4,4 @@ mod SimilarNames
 mod DefinitionParts
 mod DefinitionScopes
 mod FunctionalityCauses
+mod InnerGates

@@ -3,3 +3,4 @@ pub mod Descriptions
 pub mod ExpectedTokens
 pub mod SimilarNames
 pub mod FunctionalityCauses
+pub mod InnerGates

@@ -1,5 +1,7 @@
 -- Names that could be meant where a name that is not declared occurs.
-use Rattle.std.specs.Prelude.{◌≡◌, ◌⊎◌, ℕ, List, Option, Some}
+use Rattle.std.specs.Prelude.{◌≡◌, ◌⊎◌, ℕ, ◌<◌, ◌≤◌, List, Option, Some, length, nat_eq}
+use Rattle.std.specs.Str.{chars}
+use Rattle.strsim.specs.Edits.{levenshtein_row}
 use Rattle.lotos_text.specs.AstView.{BehaviourView, DefinitionView, call, body_of, formals_of}
 use Rattle.lotos_text.specs.declared.ast.Placed.{Placed}
 use Rattle.lotos_check.specs.NameLists.{Name, In, texts}
@@ -10,6 +12,15 @@ use Rattle.lotos_check.specs.Subexpressions.{IsSubexpression, UsesGate}
 -- the name is this one, if there is one, or in the list
 abbrev pub IsFrom : Option Name → List Name → Name → Type 0
 IsFrom best names n = (best ≡ Some n) ⊎ In n names
+
+-- the number of edits of a character that lead from the first name to the second: the Levenshtein distance
+abbrev pub edits : Name → Name → ℕ
+edits name other = levenshtein_row nat_eq (chars name) (chars other) (length (chars other))
+
+-- at most two edits lead from the first name to the second, and fewer than the first has bytes
+pub record IsSimilar (name other : Name) : Type 0 where
+  pub few : edits name other ≤ 2
+  pub fewer : edits name other < length name
 
 -- one of the gates has this offset
 pub record IsAmongAt (gates : List Placed) (at : ℕ) : Type 0 where

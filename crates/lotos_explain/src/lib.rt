@@ -1,9 +1,10 @@
-//! Explanations of refused specifications, for people.
+//! Explanations of refused specifications, and of names that are no gates, for people.
 //!
 //! [`explain_text_fault`] and [`explain_check_fault`] write the line of the text with a mark under the place of the
 //! fault, what is there, which words, signs and names could be there, and what to do. What they say of the text is what
 //! [`line_of`], [`describe_token`], [`expected_tokens`], [`close_gate`], [`close_process`] and [`functionality_cause`]
-//! return, whose contracts cite the definitions in `specs/`.
+//! return, whose contracts cite the definitions in `specs/`. [`similar_name`], [`hidden_gate`] and [`formal_gate`] find
+//! what could be meant by a name that is no gate of a specification.
 #![tactic(auto)]
 
 mod advice;
@@ -11,6 +12,7 @@ mod continuations;
 mod expectations;
 mod explanation;
 mod functionality_causes;
+mod inner_gates;
 mod line_bounds;
 mod similar_gates;
 mod similar_names;
@@ -20,7 +22,9 @@ mod token_description;
 pub use expectations::expected_tokens;
 pub use explanation::{explain_check_fault, explain_text_fault};
 pub use functionality_causes::{Cause, Leaf, functionality_cause};
+pub use inner_gates::{formal_gate, hidden_gate};
 pub use line_bounds::{LineBounds, line_of};
 pub use similar_gates::close_gate;
+pub use similar_names::similar_name;
 pub use similar_processes::close_process;
 pub use token_description::{Description, describe_token};

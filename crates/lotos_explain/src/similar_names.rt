@@ -1,9 +1,9 @@
 //! The most similar of several names.
-ghost use Rattle.std.specs.Prelude.{◌≡◌, ◌∷◌, [], IfOk, IfSome, option_map};
+ghost use Rattle.std.specs.Prelude.{◌≡◌, ◌∷◌, ◌≤◌, [], IfOk, IfSome, option_map};
 ghost use Rattle.lotos_text.specs.AstOf.{definitions_view};
-ghost use Rattle.lotos_check.specs.NameLists.{texts};
+ghost use Rattle.lotos_check.specs.NameLists.{In, texts};
 ghost use Rattle.lotos_check.specs.Scope.{declared_names};
-ghost use Rattle.lotos_explain.specs.SimilarNames.{IsFrom};
+ghost use Rattle.lotos_explain.specs.SimilarNames.{IsFrom, IsSimilar, edits};
 
 use lotos_text::{Definition, Name, Placed};
 use std::alloc::{AllocError, Global};
@@ -14,6 +14,28 @@ const MOST_EDITS: usize = 2;
 
 /// The most bytes of a name for which a similar one is looked for.
 const LONGEST: usize = 64;
+
+/// Of the names, one that is similar to this one: at most two edits of a byte lead to it, and fewer than this one has
+/// bytes. It is the most similar one, of equally similar ones the first. None is returned for a name of more than 64
+/// bytes.
+///
+/// # Errors
+///
+/// If an allocation fails.
+pub fn similar_name<'a>(
+    alloc: Global,
+    name: &str,
+    names: &'a [Name],
+) -> Result<Option<&'a Name>, AllocError>
+    ensures among { IfOk result (λ found. IfSome found (λ n. In n.now names.now)) }
+    ensures similar { IfOk result (λ found. IfSome found (λ n. IsSimilar name.now n.now)) }
+{
+    let mut closest = None;
+    for other in names {
+        closest = more_similar(alloc, name, closest, other)?;
+    }
+    Ok(closest)
+}
 
 /// Of `best` and the gates, the one that is most similar to the name; of equally similar ones the first. All are similar
 /// enough, `best` included.
@@ -59,13 +81,16 @@ fn more_similar<'a>(
     best: Option<&'a Name>,
     other: &'a Name,
 ) -> Result<Option<&'a Name>, AllocError>
-    ensures { IfOk result (λ found. IfSome found
+    ensures from { IfOk result (λ found. IfSome found
         (λ n. IsFrom (option_map (λ m. m.now) best.entry) (other.now ∷ []) n.now)) }
+    ensures similar { IfSome best.entry (λ n. IsSimilar name.now n.now) →
+        IfOk result (λ found. IfSome found (λ n. IsSimilar name.now n.now)) }
 {
     let edits = edits_to(alloc, name, other)?;
+    let most = (MOST_EDITS + 1).min(name.len());
     let bound = match best {
-        Some(best) => edits_to(alloc, name, best)?,
-        None => (MOST_EDITS + 1).min(name.len()),
+        Some(best) => edits_to(alloc, name, best)?.min(most),
+        None => most,
     };
     if edits < bound {
         Ok(Some(other))
@@ -76,7 +101,9 @@ fn more_similar<'a>(
 
 /// The number of edits of one byte that lead from one name to the other; the largest number if it is too large, or if
 /// the name is too long.
-fn edits_to(alloc: Global, name: &str, other: &Name) -> Result<usize, AllocError> {
+fn edits_to(alloc: Global, name: &str, other: &Name) -> Result<usize, AllocError>
+    ensures { IfOk result (λ n. n ≤ 2 → n ≡ edits name.now other.now) }
+{
     let text = other.text();
     if name.len() > LONGEST || name.len().abs_diff(text.len()) > MOST_EDITS {
         return Ok(usize::MAX);

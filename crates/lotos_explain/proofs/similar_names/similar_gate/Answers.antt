@@ -6,4 +6,4 @@ pub loop-gate-preserved : goal.loop-gate-preserved
 loop-gate-preserved c =
     from_more (λ k. k.now) c.args.best c.loop-gate.closest c.in_ok-closest.closest (texts c.args.gates.now) c.gate-item.result.name
     (text_of_item c.args.gates.now c.loop-gate.gate-index c.gate-item.result c.loop-gate-test.true c.gate-item.is)
-    c.loop-gate.invariant c.in_ok-closest.ensures
+    c.loop-gate.invariant c.in_ok-closest.ensures.from

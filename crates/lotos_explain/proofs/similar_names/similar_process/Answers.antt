@@ -11,4 +11,4 @@ loop-definition-preserved c =
     from_more (λ k. k.now) c.args.best c.loop-definition.closest c.in_ok-closest.closest
     (texts (declared_names (definitions_view c.args.definitions.now))) (out-Definition c.definition-item.result).name.name
     (declared_item c.args.definitions.now c.loop-definition.definition-index c.definition-item.result c.loop-definition-test.true c.definition-item.is)
-    c.loop-definition.invariant c.in_ok-closest.ensures
+    c.loop-definition.invariant c.in_ok-closest.ensures.from

@@ -1,0 +1,38 @@
+use Rattle.std.proofs.Common.{◌∙◌, ap}
+use Rattle.lotos_text.specs.AstView.{inner_of}
+use Rattle.lotos_text.specs.AstOf.{definition_view, definitions_view}
+use Rattle.lotos_check.specs.Scope.{within}
+use Rattle.lotos_explain.proofs.DefinitionParts.{formals_shown, inner_shown, name_shown}
+use Rattle.lotos_explain.proofs.DefinitionScopes.{continues_all, continues_next, continues_here}
+use Rattle.lotos_explain.proofs.InnerGates.{formal_here, formal_inside, named_text}
+use Rattle.lotos_explain.proofs.inner_gates.+formal_in_definition.Goals as goal
+
+pub returns-in-Some : goal.returns-in-Some
+returns-in-Some t c = λ scope first.
+    let of = c.args.definition.now in
+    let n = c.args.name.now in
+    let listed = rw (c.as_slice.ensures.value, formals_shown of) at (rw c.in-Some.is at c.offset_of.ensures) in
+    formal_here scope first (definition_view of) n _ (named_text _ n c.in-Some.field-0 listed) (ap (λ p. p.name) (name_shown of))
+
+pub loop-inner-init : goal.loop-inner-init
+loop-inner-init t c = λ scope first.
+    let of = c.args.definition.now in
+    continues_all scope first (inner_of (definition_view of)) (definitions_view c.deref-inner-items.result.now)
+    (ap definitions_view c.deref-inner-items.ensures.value ∙ inner_shown of)
+
+pub returns-in-Some-formal_in_definition : goal.returns-in-Some-formal_in_definition
+returns-in-Some-formal_in_definition t c = λ scope first.
+    let d = definition_view c.args.definition.now in
+    let w = within d first scope in
+    let items = c.deref-inner-items.result.now in
+    let item = c.inner-item.result in
+    let (k, f) = continues_here items c.loop-inner.inner-index item c.loop-inner-test.true c.inner-item.is w first (inner_of d)
+    (c.loop-inner.invariant w first) in
+    formal_inside scope first k d (definition_view item) c.args.name.now c.in-Some-formal_in_definition.found.now f
+    (rw c.in-Some-formal_in_definition.is at (c.formal_in_definition.ensures w k))
+
+pub loop-inner-preserved : goal.loop-inner-preserved
+loop-inner-preserved t c = λ scope first.
+    let d = definition_view c.args.definition.now in
+    continues_next c.deref-inner-items.result.now c.loop-inner.inner-index c.inner-item.result c.loop-inner-test.true c.inner-item.is
+    scope first (inner_of d) (c.loop-inner.invariant scope first)

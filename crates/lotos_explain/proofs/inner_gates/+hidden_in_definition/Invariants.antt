@@ -1,0 +1,13 @@
+use Rattle.std.specs.Prelude.{ℕ, drop}
+use Rattle.lotos_text.specs.AstView.{inner_of}
+use Rattle.lotos_text.specs.AstOf.{definition_view, definitions_view}
+use Rattle.lotos_check.specs.Scope.{Scope}
+use Rattle.lotos_explain.proofs.DefinitionScopes.{Continues}
+use Rattle.lotos_explain.proofs.inner_gates.+hidden_in_definition.Given as goal
+
+abbrev pub decreases-hidden_in_definition : goal.decreases-hidden_in_definition
+decreases-hidden_in_definition l = goal.size-hidden_in_definition l
+
+abbrev pub invariant-loop-inner : goal.invariant-loop-inner
+invariant-loop-inner l = (scope : Scope) (first : ℕ) →
+    Continues scope first (inner_of (definition_view l.definition)) (definitions_view (drop l.inner-index l.inner-items))
