@@ -11,6 +11,7 @@ use crate::output_lines::format_processes;
 use crate::specification_input::{end_of, read_specification};
 use lotos_check::Checked;
 use lotos_device::{DeviceFailed, Sink, Source, write_bytes};
+use lotos_search::NoProgress;
 use std::alloc::Global;
 
 /// Reads a specification, checks it, and writes a line for each of its processes: its name, the number of its formal
@@ -30,7 +31,7 @@ pub fn check_text<R: Source, W: Sink>(alloc: Global, reader: &mut R, writer: &mu
     ensures input { R.has_failed reader.new ≡ is_input_fault result }
     ensures output { W.has_failed writer.new ≡ is_output_fault result }
 {
-    let found = match read_specification(alloc, reader) {
+    let found = match read_specification(alloc, reader, &mut NoProgress) {
         Ok(found) => found,
         Err(rejection) => return end_of(rejection),
     };

@@ -11,11 +11,13 @@ ghost use Rattle.lotos_tool.specs.OutputLines.{Item, line_of};
 use crate::outcome::{EverEnded, EverWhy};
 use crate::output_flush::write_and_flush;
 use crate::output_lines::{format_line, format_sequence};
-use crate::progress_report::{OutputProgress, ProgressReport, Visited};
+use crate::progress_report::{OutputProgress, Visited};
 use crate::refusal::Refusal;
 use crate::request_pattern::read_pattern;
+use crate::search_observer::{Observed, SearchObserver};
 use crate::specification_input::{Rejection, read_specification};
 use crate::unknown_gates::first_unknown_gate_of;
+use crate::unknown_names::NameHint;
 use lotos_check::Checked;
 use lotos_command::EverRequest;
 use lotos_device::{DeviceFailed, Sink, Source};
@@ -75,7 +77,7 @@ pub fn ever_with_progress<R: Source, W: Sink, P: OutputProgress>(
         Ok(pattern) => pattern,
         Err(fault) => return words_refusal(fault),
     };
-    let found = match read_specification(alloc, reader) {
+    let found = match read_specification(alloc, reader, progress) {
         Ok(found) => found,
         Err(Rejection::Refused(refusal)) => return EverEnded::Refused(refusal),
         Err(Rejection::Memory) => return EverEnded::Stopped(EverWhy::Memory),
@@ -88,7 +90,7 @@ pub fn ever_with_progress<R: Source, W: Sink, P: OutputProgress>(
 }
 
 /// As [`ever`]. If the request asks for it, the progress of the search is reported to `err`; `terminal` says whether
-/// that is a terminal.
+/// that is a terminal. If a word is refused because it names no gate, what could be meant by it is left in `hint`.
 pub(crate) fn ever_with_report<R: Source, W: Sink, E: Write>(
     alloc: Global,
     request: &EverRequest,
@@ -96,6 +98,7 @@ pub(crate) fn ever_with_report<R: Source, W: Sink, E: Write>(
     writer: &mut W,
     err: &mut E,
     terminal: bool,
+    hint: &mut Option<NameHint>,
 ) -> EverEnded
     requires reader { R.has_failed reader.old ≡ false }
     requires writer { W.has_failed writer.old ≡ false }
@@ -105,12 +108,15 @@ pub(crate) fn ever_with_report<R: Source, W: Sink, E: Write>(
     ensures input { R.has_failed reader.new ≡ is_ever_input_fault result }
     ensures output { W.has_failed writer.new ≡ is_ever_output_fault result }
 {
-    if !request.progress {
-        return ever(alloc, request, reader, writer);
-    }
-    let mut report = ProgressReport::new(err, terminal, Visited::States);
-    let ended = ever_with_progress(alloc, request, reader, writer, &mut report);
-    report.clear();
+    let observed = Observed {
+        words: request.words.as_slice(),
+        refuses_unknown: true,
+        reports_progress: request.progress,
+        visited: Visited::States,
+    };
+    let mut observer = SearchObserver::new(alloc, observed, err, terminal);
+    let ended = ever_with_progress(alloc, request, reader, writer, &mut observer);
+    *hint = observer.finish();
     ended
 }
 

@@ -1,9 +1,10 @@
 //! Hints for standard error, after a refusal: a word names a file, though a specification is read from standard input,
-//! or a word is almost an element. A hint for which there is no memory is left out.
+//! a word is almost an element, or a name is no gate. A hint for which there is no memory is left out.
 
 use crate::messages::NumberText;
 use crate::outcome::{Ended, EverEnded};
 use crate::refusal::Refusal;
+use crate::unknown_names::{NameHint, write_name_hint};
 use lotos_command::CommandFault;
 use lotos_pattern::PatternFault;
 use std::alloc::{AllocError, Global};
@@ -19,27 +20,33 @@ const ELEMENT_WORDS: [&str; 5] = ["<any>", "<not>", "<until>", "<while>", "<dead
 /// The most bytes of a word that may be almost an element.
 const LONGEST: usize = 16;
 
-/// Gives a hint if a search is refused for a word that names a file, or that is almost an element.
+/// Gives a hint if a search is refused for a word that names a file, that is almost an element, or that names no gate:
+/// for the last `hint` is what could be meant.
 pub(crate) fn hint_after_search<E: Write>(
     alloc: Global,
     ended: &Ended,
     words: &[String],
+    hint: &Option<NameHint>,
     err: &mut E,
 ) {
     if let Ended::Refused(refusal) = ended {
         hint_after_refusal(alloc, "search ..", refusal, words, err);
+        hint_after_unknown_gate(refusal, hint, err);
     }
 }
 
-/// Gives a hint if a search for a match is refused for a word that names a file, or that is almost an element.
+/// Gives a hint if a search for a match is refused for a word that names a file, that is almost an element, or that names
+/// no gate: for the last `hint` is what could be meant.
 pub(crate) fn hint_after_ever<E: Write>(
     alloc: Global,
     ended: &EverEnded,
     words: &[String],
+    hint: &Option<NameHint>,
     err: &mut E,
 ) {
     if let EverEnded::Refused(refusal) = ended {
         hint_after_refusal(alloc, "ever ..", refusal, words, err);
+        hint_after_unknown_gate(refusal, hint, err);
     }
 }
 
@@ -72,6 +79,13 @@ fn hint_after_refusal<E: Write>(
             err,
             "lotosseq: word {number}, {word}, may be meant as {element}"
         );
+    }
+}
+
+/// Says what could be meant if a word is refused because it names no gate.
+fn hint_after_unknown_gate<E: Write>(refusal: &Refusal, hint: &Option<NameHint>, err: &mut E) {
+    if let (Refusal::E49(_), Some(hint)) = (refusal, hint) {
+        write_name_hint(hint, err);
     }
 }
 

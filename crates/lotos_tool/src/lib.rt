@@ -24,8 +24,10 @@ mod progress_report;
 mod refusal;
 mod request_pattern;
 mod search_command;
+mod search_observer;
 mod specification_input;
 mod unknown_gates;
+mod unknown_names;
 mod warning_lines;
 
 pub use arguments::{run_args, run_args_with_terminal};

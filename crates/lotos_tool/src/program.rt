@@ -71,7 +71,8 @@ pub fn run_with_terminal<R: Source, W: Sink, E: Write>(
     }
 }
 
-/// Runs a search and reports it, with a hint if one of its words names a file or is almost an element. Returns its status.
+/// Runs a search and reports it, with a hint if one of its words names a file, is almost an element or is refused because
+/// it names no gate. Returns its status.
 fn run_search<R: Source, W: Sink, E: Write>(
     alloc: Global,
     request: &SearchRequest,
@@ -88,14 +89,15 @@ fn run_search<R: Source, W: Sink, E: Write>(
     ensures given { R.given reader.new ≤ R.given reader.old + (max_text_length + 1) }
     ensures output { W.has_failed out.new ≡ (result == 6) }
 {
-    let ended = list_with_report(alloc, request, reader, out, err, terminal);
+    let mut hint = None;
+    let ended = list_with_report(alloc, request, reader, out, err, terminal, &mut hint);
     let status = report_search(&ended, request.terms, err);
-    hint_after_search(alloc, &ended, request.words.as_slice(), err);
+    hint_after_search(alloc, &ended, request.words.as_slice(), &hint, err);
     status
 }
 
-/// Searches for a match of any length and reports the outcome, with a hint if one of the request's words names a file
-/// or is almost an element. Returns the status.
+/// Searches for a match of any length and reports the outcome, with a hint if one of the request's words names a file,
+/// is almost an element or is refused because it names no gate. Returns the status.
 fn run_ever<R: Source, W: Sink, E: Write>(
     alloc: Global,
     request: &EverRequest,
@@ -111,9 +113,10 @@ fn run_ever<R: Source, W: Sink, E: Write>(
     ensures given { R.given reader.new ≤ R.given reader.old + (max_text_length + 1) }
     ensures output { W.has_failed out.new ≡ (result == 6) }
 {
-    let ended = ever_with_report(alloc, request, reader, out, err, terminal);
+    let mut hint = None;
+    let ended = ever_with_report(alloc, request, reader, out, err, terminal, &mut hint);
     let status = report_ever(&ended, request.states, err);
-    hint_after_ever(alloc, &ended, request.words.as_slice(), err);
+    hint_after_ever(alloc, &ended, request.words.as_slice(), &hint, err);
     status
 }
 

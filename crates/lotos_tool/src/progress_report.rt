@@ -1,17 +1,24 @@
 //! The progress of a search, as it is reported on standard error. Errors of the error stream are ignored.
 
 use crate::messages::NumberText;
+use lotos_check::Checked;
 use lotos_search::{NoProgress, Progress};
 use std::fmt;
 use std::io::Write;
 
-/// An observer of a command that searches. It is told what the search visits, and when a line is written.
+/// An observer of a command that searches. It is told when a specification is accepted, what the search visits, and
+/// when a line is written.
 pub trait OutputProgress: Progress {
+    /// Is told that the text is accepted, and its specification.
+    fn accepted(&mut self, text: &[u8], found: &Checked);
+
     /// Is told that a line of the output is written next.
     fn before_line(&mut self);
 }
 
 impl OutputProgress for NoProgress {
+    fn accepted(&mut self, _text: &[u8], _found: &Checked) {}
+
     fn before_line(&mut self) {}
 }
 
@@ -28,7 +35,7 @@ const FIRST_REPORT: usize = 1 << 10;
 /// The greatest number of visits between two reports.
 const MAX_INTERVAL: usize = 1 << 20;
 
-/// An observer that reports to an error stream how far a search is. A terminal has one line, which is renewed, and
+/// Reports to an error stream how far a search is. A terminal has one line, which is renewed, and
 /// which is cleared before a line of the output; another stream has a line for each report.
 #[derive(Drop)]
 pub(crate) struct ProgressReport<'a, E> {
@@ -59,6 +66,27 @@ impl<'a, E: Write> ProgressReport<'a, E> {
         }
     }
 
+    /// The error stream.
+    pub fn stream(&mut self) -> &mut E {
+        self.err
+    }
+
+    /// Notes a visit of a prefix or a state of this length, and reports when it is time to.
+    pub fn visit(&mut self, length: usize) {
+        self.counts.visits = self.counts.visits.saturating_add(1);
+        self.counts.length = self.counts.length.max(length);
+        if self.counts.visits == self.next {
+            self.report();
+            self.next = next_report(self.next);
+        }
+    }
+
+    /// Notes that a line of the output is written next, and clears the line that a terminal shows.
+    pub fn before_line(&mut self) {
+        self.counts.lines = self.counts.lines.saturating_add(1);
+        self.clear();
+    }
+
     /// Clears the line that a terminal shows.
     pub fn clear(&mut self) {
         if self.shown {
@@ -75,24 +103,6 @@ impl<'a, E: Write> ProgressReport<'a, E> {
             writeln!(self.err, "lotosseq: {}", self.counts)
         };
         self.shown = self.terminal;
-    }
-}
-
-impl<E: Write> Progress for ProgressReport<'_, E> {
-    fn visit(&mut self, length: usize) {
-        self.counts.visits = self.counts.visits.saturating_add(1);
-        self.counts.length = self.counts.length.max(length);
-        if self.counts.visits == self.next {
-            self.report();
-            self.next = next_report(self.next);
-        }
-    }
-}
-
-impl<E: Write> OutputProgress for ProgressReport<'_, E> {
-    fn before_line(&mut self) {
-        self.counts.lines = self.counts.lines.saturating_add(1);
-        self.clear();
     }
 }
 

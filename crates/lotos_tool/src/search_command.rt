@@ -13,11 +13,13 @@ ghost use Rattle.lotos_tool.specs.declared.outcome.Why.TheVariants.{Memory};
 
 use crate::listing_output::write_listing;
 use crate::outcome::{Ended, Why};
-use crate::progress_report::{OutputProgress, ProgressReport, Visited};
+use crate::progress_report::{OutputProgress, Visited};
 use crate::refusal::Refusal;
 use crate::request_pattern::read_pattern;
+use crate::search_observer::{Observed, SearchObserver};
 use crate::specification_input::{Rejection, read_specification};
 use crate::unknown_gates::first_unknown_gate_of;
+use crate::unknown_names::NameHint;
 use lotos_check::Checked;
 use lotos_command::SearchRequest;
 use lotos_device::{Sink, Source};
@@ -107,7 +109,7 @@ fn list_text<R: Source, W: Sink, P: OutputProgress>(
     ensures input { R.has_failed reader.new ≡ is_input_fault result }
     ensures output { W.has_failed writer.new ≡ is_output_fault result }
 {
-    let found = match read_specification(alloc, reader) {
+    let found = match read_specification(alloc, reader, progress) {
         Ok(found) => found,
         Err(Rejection::Refused(refusal)) => return Ended::Refused(refusal),
         Err(Rejection::Memory) => return out_of_memory(),
@@ -141,8 +143,9 @@ fn list_system<W: Sink, P: OutputProgress>(
     }
 }
 
-/// As [`list`]. If the request asks for it, the progress of the search is reported to `err`; `terminal` says whether
-/// that is a terminal.
+/// As [`list`]. Unless the request refuses them, each name that is no gate of the specification is reported to `err`, and if it
+/// asks for it, the progress of the search; `terminal` says whether that is a terminal. If a word is refused because it
+/// names no gate, what could be meant by it is left in `hint`.
 pub(crate) fn list_with_report<R: Source, W: Sink, E: Write>(
     alloc: Global,
     request: &SearchRequest,
@@ -150,6 +153,7 @@ pub(crate) fn list_with_report<R: Source, W: Sink, E: Write>(
     writer: &mut W,
     err: &mut E,
     terminal: bool,
+    hint: &mut Option<NameHint>,
 ) -> Ended
     requires bounds { HasSearchBounds request.now }
     requires reader { R.has_failed reader.old ≡ false }
@@ -160,12 +164,15 @@ pub(crate) fn list_with_report<R: Source, W: Sink, E: Write>(
     ensures input { R.has_failed reader.new ≡ is_input_fault result }
     ensures output { W.has_failed writer.new ≡ is_output_fault result }
 {
-    if !request.progress {
-        return list(alloc, request, reader, writer);
-    }
-    let mut report = ProgressReport::new(err, terminal, Visited::Prefixes);
-    let ended = list_with_progress(alloc, request, reader, writer, &mut report);
-    report.clear();
+    let observed = Observed {
+        words: request.words.as_slice(),
+        refuses_unknown: request.known,
+        reports_progress: request.progress,
+        visited: Visited::Prefixes,
+    };
+    let mut observer = SearchObserver::new(alloc, observed, err, terminal);
+    let ended = list_with_progress(alloc, request, reader, writer, &mut observer);
+    *hint = observer.finish();
     ended
 }
 

@@ -10,6 +10,7 @@ ghost use Rattle.lotos_device.specs.TextInput.{ReadsAll};
 ghost use Rattle.lotos_tool.specs.RejectedText.{IsRejection, IsInputRejection, end_of, is_input_failure};
 
 use crate::outcome::{Ended, Why};
+use crate::progress_report::OutputProgress;
 use crate::refusal::Refusal;
 use lotos_check::{AcceptFault, CheckFault, Checked, accept};
 use lotos_device::{ReadFault, Source, read_text};
@@ -25,8 +26,12 @@ pub enum Rejection {
 
 /// Reads a whole text and returns its specification if it is accepted. At most one byte more than a text may have is
 /// taken from the reader, whatever it returns. The text is refused with E47 if the reader fails, with E03 if it is too
-/// long, and otherwise with the fault of the parser or of the static check.
-pub fn read_specification<R: Source>(alloc: Global, reader: &mut R) -> Result<Checked, Rejection>
+/// long, and otherwise with the fault of the parser or of the static check. The observer is told of an accepted text.
+pub fn read_specification<R: Source, P: OutputProgress>(
+    alloc: Global,
+    reader: &mut R,
+    progress: &mut P,
+) -> Result<Checked, Rejection>
     requires { R.has_failed reader.old ≡ false }
     ensures accepted { IfOk result (λ found.
         ReadsAccepted (R.left reader.old) (R.left reader.new) (system_of found)) }
@@ -35,7 +40,20 @@ pub fn read_specification<R: Source>(alloc: Global, reader: &mut R) -> Result<Ch
     ensures failed { R.has_failed reader.new ≡ is_input_failure result }
 {
     let text = read_input(alloc, reader)?;
-    accept_text(alloc, text.as_slice())
+    let found = accept_text(alloc, text.as_slice());
+    report_accepted(text.as_slice(), &found, progress);
+    found
+}
+
+/// Tells the observer of a text if it is accepted.
+fn report_accepted<P: OutputProgress>(
+    text: &[u8],
+    found: &Result<Checked, Rejection>,
+    progress: &mut P,
+) {
+    if let Ok(found) = found {
+        progress.accepted(text, found);
+    }
 }
 
 /// Reads a whole text. At most one byte more than a text may have is taken from the reader, whatever it returns. The

@@ -1,0 +1,85 @@
+//! The observer of a command that searches. What it writes to the error stream changes neither output nor status.
+
+use crate::progress_report::{OutputProgress, ProgressReport, Visited};
+use crate::unknown_names::{NameHint, first_name_hint, warn_of_names};
+use lotos_check::Checked;
+use lotos_search::Progress;
+use std::alloc::Global;
+use std::io::Write;
+
+/// What an observer has to know of a request.
+#[derive(Clone, Copy, Debug)]
+pub(crate) struct Observed<'a> {
+    /// The words of the pattern.
+    pub words: &'a [String],
+    /// Whether words that name no gate of the specification are refused.
+    pub refuses_unknown: bool,
+    /// Whether reports of progress are asked for.
+    pub reports_progress: bool,
+    pub visited: Visited,
+}
+
+/// An observer that writes to an error stream: when a specification is accepted, which names in the words are none of
+/// its gates, if such words are not refused; and how far the search is, if that is asked for.
+#[derive(Drop)]
+pub(crate) struct SearchObserver<'a, E> {
+    alloc: Global,
+    observed: Observed<'a>,
+    progress: ProgressReport<'a, E>,
+    /// What is to be said if a word is refused because it names no gate.
+    hint: Option<NameHint>,
+}
+
+impl<'a, E: Write> SearchObserver<'a, E> {
+    /// An observer of a command that has read nothing. `terminal` says whether the error stream is one.
+    pub fn new(
+        alloc: Global,
+        observed: Observed<'a>,
+        err: &'a mut E,
+        terminal: bool,
+    ) -> SearchObserver<'a, E> {
+        SearchObserver {
+            alloc,
+            observed,
+            progress: ProgressReport::new(err, terminal, observed.visited),
+            hint: None,
+        }
+    }
+
+    /// Clears the line that a terminal shows, and returns what is to be said after the message of a refused word.
+    pub fn finish(&mut self) -> Option<NameHint> {
+        self.progress.clear();
+        self.hint.take()
+    }
+}
+
+impl<E: Write> Progress for SearchObserver<'_, E> {
+    fn visit(&mut self, length: usize) {
+        if self.observed.reports_progress {
+            self.progress.visit(length);
+        }
+    }
+}
+
+impl<E: Write> OutputProgress for SearchObserver<'_, E> {
+    fn accepted(&mut self, text: &[u8], found: &Checked) {
+        let words = self.observed.words;
+        if self.observed.refuses_unknown {
+            self.hint = first_name_hint(self.alloc, words, found.gates(), text);
+        } else {
+            warn_of_names(
+                self.alloc,
+                words,
+                found.gates(),
+                text,
+                self.progress.stream(),
+            );
+        }
+    }
+
+    fn before_line(&mut self) {
+        if self.observed.reports_progress {
+            self.progress.before_line();
+        }
+    }
+}
