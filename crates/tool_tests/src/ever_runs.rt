@@ -245,7 +245,7 @@ const REFUSALS: &[Row] = &[
         text: b"specification S [a] : noexit behaviour a; stop endspec",
         words: &["lotosseq", "ever", "a", "<while>", "Ab"],
         output: b"",
-        message: b"lotosseq: E49 word 3 is no gate of the specification\n",
+        message: b"lotosseq: E49 word 3 is no gate of the specification\nlotosseq: a gate of the specification has a similar name: A\n",
         status: 2,
     },
     Row {
@@ -271,7 +271,7 @@ const REFUSALS: &[Row] = &[
         text: b"specification S [a] : noexit behaviour hide b in b; a; stop endspec",
         words: &["lotosseq", "ever", "b", "a"],
         output: b"",
-        message: b"lotosseq: E49 word 1 is no gate of the specification\n",
+        message: b"lotosseq: E49 word 1 is no gate of the specification\nlotosseq: B is hidden at 1:45, so it is not observed\n",
         status: 2,
     },
     Row {

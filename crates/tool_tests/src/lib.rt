@@ -50,6 +50,8 @@ mod search_runs;
 #[cfg(test)]
 mod text_input_tests;
 #[cfg(test)]
+mod unknown_names;
+#[cfg(test)]
 mod worked_rows;
 #[cfg(test)]
 mod wrapped_device_tests;

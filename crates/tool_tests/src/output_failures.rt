@@ -81,7 +81,9 @@ const FLUSHED: &[Row] = &[
     Row {
         name: "a listing without lines",
         text: TEXT,
-        words: &["lotosseq", "search", "--depth", "2", "C"],
+        words: &[
+            "lotosseq", "search", "--depth", "2", "<any>", "<any>", "<any>",
+        ],
         output: b"",
         status: 1,
         broken: b"lotosseq: stopped before the first line: output cannot be written\n",

@@ -3,6 +3,7 @@
 use super::expected_output::{repeated, repeated_words};
 use super::memory_devices::{ArrayWriter, SliceReader};
 use super::runs::{RUN, Ran, Run, Taken, WHOLE};
+use lotos_check::Checked;
 use lotos_device::{FromRead, FromWrite};
 use lotos_tool::{
     EverRequest, OutputProgress, Progress, Request, ever_with_progress, list_with_progress,
@@ -233,6 +234,7 @@ fn an_error_stream_that_fails_changes_nothing(rt: HostRuntime) {
 /// An observer that counts.
 #[derive(Clone, Copy, Debug)]
 struct Counter {
+    accepted: usize,
     visits: usize,
     lines: usize,
 }
@@ -244,6 +246,10 @@ impl Progress for Counter {
 }
 
 impl OutputProgress for Counter {
+    fn accepted(&mut self, _text: &[u8], _found: &Checked) {
+        self.accepted = self.accepted.saturating_add(1);
+    }
+
     fn before_line(&mut self) {
         self.lines = self.lines.saturating_add(1);
     }
@@ -270,6 +276,7 @@ fn ever_observed_in(alloc: Global, question: &EverRequest, text: &[u8], counter:
 /// What an observer of the command is told.
 fn observe(alloc: Global, words: &[&str]) -> Result<Counter, AllocError> {
     let mut counter = Counter {
+        accepted: 0,
         visits: 0,
         lines: 0,
     };
@@ -296,6 +303,7 @@ fn assert_told(
     lines: usize,
 ) -> Result<(), AllocError> {
     let told = observe(alloc, words)?;
+    assert_eq!(rt; told.accepted, 1);
     assert_eq!(rt; told.visits, visits);
     assert_eq!(rt; told.lines, lines);
     Ok(())

@@ -75,7 +75,7 @@ const UNKNOWN_GATES: &[Row] = &[
         text: TWO_STEPS,
         words: &["lotosseq", "ever", "a <while>", "Ab"],
         output: b"",
-        message: b"lotosseq: E49 word 3 is no gate of the specification\n",
+        message: b"lotosseq: E49 word 3 is no gate of the specification\nlotosseq: a gate of the specification has a similar name: A\n",
         status: 2,
     },
     Row {

@@ -106,7 +106,7 @@ const LISTINGS: &[Row] = &[
         text: b"specification S [a] : noexit behaviour a; stop endspec",
         words: &["lotosseq", "search", "--depth", "9", "C"],
         output: b"",
-        message: b"",
+        message: b"lotosseq: word 1, C, is no gate of the specification and never matches\n",
         status: 1,
     },
 ];

@@ -44,7 +44,7 @@ const MISSPELT: &[Row] = &[
         text: TWO_STEPS,
         words: &["lotosseq", "search", "--depth", "3", "A", "C", "exit"],
         output: b"",
-        message: b"",
+        message: b"lotosseq: word 2, C, is no gate of the specification and never matches\n",
         status: 1,
     },
     Row {
@@ -54,7 +54,7 @@ const MISSPELT: &[Row] = &[
             "lotosseq", "search", "--depth", "3", "--known", "until", "B",
         ],
         output: b"",
-        message: b"lotosseq: E49 word 1 is no gate of the specification\n",
+        message: b"lotosseq: E49 word 1 is no gate of the specification\nlotosseq: word 1, until, may be meant as <until>\n",
         status: 2,
     },
     Row {
@@ -62,7 +62,7 @@ const MISSPELT: &[Row] = &[
         text: TWO_STEPS,
         words: &["lotosseq", "search", "--depth", "3", "until", "B"],
         output: b"",
-        message: b"",
+        message: b"lotosseq: word 1, until, is no gate of the specification and never matches\n",
         status: 1,
     },
     Row {
@@ -104,7 +104,7 @@ const SCOPES: &[Row] = &[
         text: b"specification S [a] : noexit behaviour hide b in b; a; stop endspec",
         words: &["lotosseq", "search", "--depth", "2", "--known", "b"],
         output: b"",
-        message: b"lotosseq: E49 word 1 is no gate of the specification\n",
+        message: b"lotosseq: E49 word 1 is no gate of the specification\nlotosseq: B is hidden at 1:45, so it is not observed\n",
         status: 2,
     },
     Row {
@@ -112,7 +112,7 @@ const SCOPES: &[Row] = &[
         text: b"specification S [a] : noexit behaviour P[a] where process P [x] : noexit := x; stop endproc endspec",
         words: &["lotosseq", "search", "--depth", "1", "--known", "x"],
         output: b"",
-        message: b"lotosseq: E49 word 1 is no gate of the specification\n",
+        message: b"lotosseq: E49 word 1 is no gate of the specification\nlotosseq: X is a formal gate of the process P, and stands for the gate that a call gives\n",
         status: 2,
     },
     Row {
