@@ -7,6 +7,7 @@
 
 mod ast_lines;
 mod check_calls;
+mod compiled_calls;
 mod front_end;
 mod lexing_calls;
 mod lines;
@@ -42,6 +43,7 @@ fn all(rt: &impl Print, heap: &mut Heap) -> Result<(), Stop> {
     lexing_calls::rows(rt, heap)?;
     check_calls::rows(rt, heap)?;
     pattern_calls::rows(rt, heap)?;
+    compiled_calls::rows(rt, heap)?;
     mark_calls::rows(rt, heap)?;
     search_calls::rows(rt, heap)?;
     match_calls::rows(rt, heap)?;
