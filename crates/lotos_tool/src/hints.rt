@@ -35,8 +35,8 @@ pub(crate) fn hint_after_search<E: Write>(
     }
 }
 
-/// Gives a hint if a search for a match is refused for a word that names a file, that is almost an element, or that names
-/// no gate: for the last `hint` is what could be meant.
+/// Gives a hint if a search for a match is refused for a word that names a file, that is almost an element, or that
+/// names no gate: for the last `hint` is what could be meant.
 pub(crate) fn hint_after_ever<E: Write>(
     alloc: Global,
     ended: &EverEnded,

@@ -71,8 +71,8 @@ pub fn run_with_terminal<R: Source, W: Sink, E: Write>(
     }
 }
 
-/// Runs a search and reports it, with a hint if one of its words names a file, is almost an element or is refused because
-/// it names no gate. Returns its status.
+/// Runs a search and reports it, with a hint if one of its words names a file, is almost an element or is refused
+/// because it names no gate. Returns its status.
 fn run_search<R: Source, W: Sink, E: Write>(
     alloc: Global,
     request: &SearchRequest,
