@@ -1,12 +1,16 @@
-use Rattle.std.proofs.Common.{◌≡◌, ◌++◌, ◌∷◌, List, drop, string_bytes}
+use Rattle.std.proofs.Common.{◌≡◌, ◌++◌, ◌∷◌, IsUtf8, List, drop}
 use Rattle.std.specs.List.{flat_map}
 use Rattle.lotos_search.specs.Order.{Label}
 use Rattle.lotos_search.specs.Question.{ArePrinted}
 use Rattle.lotos_tool.specs.OutputLines.{sequence_text}
 use Rattle.lotos_tool.proofs.output_lines.format_sequence.Given as goal
 
--- the text so far, with a blank and the printed text of each label that is left, makes up the text of the sequence
+-- the bytes so far are text, and with a blank and the printed text of each label that is left they make up the text of
+-- the sequence
 abbrev pub invariant-loop-label : goal.invariant-loop-label
-invariant-loop-label g l = (s : List Label) → ArePrinted (g.T.LabelTexts.names l.texts) l.labels s →
-    (left : List Label) × ArePrinted (g.T.LabelTexts.names l.texts) (drop l.label-index l.rest) left
-    × (string_bytes l.text ++ flat_map (λ m. 32 ∷ m) left ≡ sequence_text s)
+invariant-loop-label g l = record {
+  utf8 : IsUtf8 l.bytes.items;
+  left : (s : List Label) → ArePrinted (g.T.LabelTexts.names l.texts) l.labels s →
+      (left : List Label) × ArePrinted (g.T.LabelTexts.names l.texts) (drop l.label-index l.rest) left
+      × (l.bytes.items ++ flat_map (λ m. 32 ∷ m) left ≡ sequence_text s);
+}
