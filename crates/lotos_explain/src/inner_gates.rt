@@ -57,7 +57,8 @@ fn formal_in_definition<'a>(definition: &'a Definition, name: &str) -> Option<&'
 
 /// Such an offset in the behaviour.
 fn hidden_in_behaviour(behaviour: &Behaviour, name: &str) -> Option<usize>
-    ensures { (around : List AnyName) → IfSome result (HidesAt around (behaviour_view behaviour.now) name.now) }
+    ensures { (around : List AnyName) →
+        IfSome result (HidesAt around (behaviour_view behaviour.now) name.now) }
 {
     match behaviour {
         Behaviour::Stop | Behaviour::Exit | Behaviour::Call { .. } => None,
