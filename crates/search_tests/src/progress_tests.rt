@@ -112,8 +112,8 @@ const LISTINGS: &[(Question, Visits)] = &[
             longest: 1,
         },
     ),
-    // A and B; A, A C, B and B C; A, A C, A C C and B, below which no more is looked for, as B reaches what A does; and
-    // the same once more.
+    // A and B; A, A C, and B, below which no more is looked for, as B reaches what A does; A, A C, A C C and B; and the
+    // same once more.
     (
         Question {
             behaviour: "noexit behaviour a; c; c; stop [] b; c; c; stop",
@@ -124,8 +124,8 @@ const LISTINGS: &[(Question, Visits)] = &[
             terms: 10,
         },
         Visits {
-            count: 14,
-            lengths: 22,
+            count: 13,
+            lengths: 20,
             longest: 3,
         },
     ),
