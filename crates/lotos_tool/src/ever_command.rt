@@ -23,9 +23,9 @@ use lotos_command::EverRequest;
 use lotos_device::{DeviceFailed, Sink, Source};
 use lotos_ever::laws::table_has_match_question;
 use lotos_ever::{Found, Halt, find_shortest_match_with_progress};
+use lotos_normal::NormalTable;
 use lotos_pattern::{Pattern, PatternFault};
 use lotos_search::{NoProgress, Progress};
-use lotos_terms::Table;
 use std::alloc::{AllocError, Global};
 use std::io::Write;
 
@@ -157,7 +157,7 @@ fn find_match_line<P: Progress>(
     ensures line { IfOk result (HasLine request.now (system_of found) pattern.now) }
     ensures none { IfErr result (HasNoLine request.now (system_of found) pattern.now) }
 {
-    let mut table = Table::new(alloc, found)?;
+    let mut table = NormalTable::new(alloc, found)?;
     find_line_in(alloc, request, &mut table, pattern, progress)
 }
 
@@ -165,7 +165,7 @@ fn find_match_line<P: Progress>(
 fn find_line_in<P: Progress>(
     alloc: Global,
     request: &EverRequest,
-    table: &mut Table,
+    table: &mut NormalTable,
     pattern: &Pattern,
     progress: &mut P,
 ) -> Result<Option<Vec<u8>>, Halt>
@@ -185,7 +185,7 @@ fn find_line_in<P: Progress>(
 /// The line of a match: its sequence, with `explain` its run, and a line feed. Its labels must be labels of the table.
 fn format_match(
     alloc: Global,
-    table: &Table,
+    table: &NormalTable,
     found: &Found,
     explain: bool,
 ) -> Result<Vec<u8>, AllocError>
