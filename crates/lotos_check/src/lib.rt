@@ -28,6 +28,7 @@ mod static_check;
 
 pub use accepted_text::{AcceptFault, accept};
 pub use checked::Checked;
+pub use definition_order::add_definitions;
 pub use fault::CheckFault;
 pub use resolved::{Code, Process};
 pub use static_check::check;

@@ -10,7 +10,7 @@ use crate::body_resolution::resolve_specification;
 use crate::checked::Checked;
 use crate::definition_order::add_definitions;
 use crate::duplicates::check_distinct;
-use crate::fault::{CheckFault, copy_placed};
+use crate::fault::CheckFault;
 use crate::functionality_check::check_functionality;
 use crate::guardedness::{Ranking, rank_processes};
 use crate::name_lists::copy_names;
@@ -60,7 +60,7 @@ fn check_definition(alloc: Global, whole: &Definition) -> Result<Checked, CheckF
             ranks,
         }),
         Ranking::Unguarded(set) => Err(CheckFault::E27 {
-            name: copy_placed(alloc, &definitions[set[0] + 1].name)?,
+            name: definitions[set[0] + 1].name.copy(alloc)?,
             set,
         }),
     }

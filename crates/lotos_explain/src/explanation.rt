@@ -35,7 +35,7 @@ const SHOWN_OF_TOKEN: usize = 40;
 ///
 /// The text of E03 is not looked at.
 pub fn explain_text_fault<E: Write>(alloc: Global, text: &[u8], fault: &TextFault, err: &mut E) {
-    let Some(at) = offset_of(fault) else {
+    let Some(at) = fault.at() else {
         let _ = writeln!(err, "  {}", text_advice(fault, &Description::Nothing, &[]));
         return;
     };
@@ -115,18 +115,6 @@ fn write_cause<E: Write>(text: &[u8], cause: &Cause, err: &mut E) {
         }
         Leaf::Call(_) => Ok(()),
     };
-}
-
-fn offset_of(fault: &TextFault) -> Option<usize> {
-    match fault {
-        TextFault::E01(at)
-        | TextFault::E02(at)
-        | TextFault::E04(at)
-        | TextFault::E05(at)
-        | TextFault::E06(at)
-        | TextFault::E07(at) => Some(*at),
-        TextFault::E03 | TextFault::E99(_) => None,
-    }
 }
 
 /// Writes the line of the offset, or a part of a long one, and a mark under the offset.

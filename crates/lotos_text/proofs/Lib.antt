@@ -33,3 +33,5 @@ pub mod DefinitionLists
 pub mod WholeSpecification
 pub mod ParseOutcome
 pub mod AstViews
+pub mod DefinitionParts
+pub mod TwoOperands

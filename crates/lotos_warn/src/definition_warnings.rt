@@ -5,7 +5,7 @@ ghost use Rattle.lotos_warn.specs.Additions.{Adds, IsGateWarning, IsGateWarningO
 
 use crate::offered_gates::check_lists;
 use crate::used_gates::add_used;
-use crate::warning::{Warning, copy_placed};
+use crate::warning::Warning;
 use indexmap::IndexSet;
 use lotos_text::{Definition, Name, Placed};
 use std::alloc::{AllocError, Global};
@@ -87,7 +87,7 @@ fn check_formal(
         (IsUnusedAmong (map (λ k. k.now) used.now.keys) definition.now (gate.now ∷ []))) }
 {
     if !used.contains(gate.name.text()) {
-        let gate = copy_placed(alloc, gate)?;
+        let gate = gate.copy(alloc)?;
         let definition = definition.copy(alloc)?;
         found.push(Warning::UnusedGate { gate, definition })?;
     }
@@ -122,7 +122,7 @@ fn check_calls_of(
         (IsUncalledAt called.now.keys number (definition_view process.now))) }
 {
     if !called.contains(&number) {
-        let process = copy_placed(alloc, &process.name)?;
+        let process = process.name.copy(alloc)?;
         found.push(Warning::UncalledProcess(process))?;
     }
     Ok(())

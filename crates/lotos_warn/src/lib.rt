@@ -5,7 +5,6 @@
 //! parallel composition that one side never offers. The definitions that the contracts cite are in `specs/`.
 #![tactic(auto)]
 
-mod definition_order;
 mod definition_warnings;
 mod gate_names;
 mod offered_gates;

@@ -6,7 +6,7 @@ ghost use Rattle.lotos_warn.specs.Additions.{Adds, AddsNames, IsMissing, IsMissi
 ghost use Rattle.lotos_warn.specs.Warnings.{IsListWarning, OffersFree};
 
 use crate::gate_names::{insert_action, insert_both, insert_names, insert_visible};
-use crate::warning::{Side, Warning, copy_placed};
+use crate::warning::{Side, Warning};
 use indexmap::IndexSet;
 use lotos_text::{Behaviour, Placed, SyncSet};
 use std::alloc::{AllocError, Global};
@@ -115,7 +115,7 @@ fn check_side(
         (IsMissingOn (map (λ k. k.now) offered.now.keys) side gate.now)) }
 {
     if !offered.contains(gate.name.text()) {
-        let gate = copy_placed(alloc, gate)?;
+        let gate = gate.copy(alloc)?;
         found.push(Warning::UnofferedGate { gate, side })?;
     }
     Ok(())

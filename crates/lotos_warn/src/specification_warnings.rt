@@ -13,12 +13,11 @@ ghost use Rattle.lotos_warn.specs.Warnings.{IsWarning};
 ghost use Rattle.lotos_warn.specs.WarningOrder.{warning_cmp};
 ghost use Rattle.lotos_warn.specs.declared.warning.Warning.{Warning as AnyWarning};
 
-use crate::definition_order::add_definitions;
 use crate::definition_warnings::{check_calls_of_all, check_gates_of_all};
 use crate::process_calls::called_processes;
 use crate::warning::Warning;
-use lotos_check::Checked;
 use lotos_check::laws::{binding_is_unique, calls_fit};
+use lotos_check::{Checked, add_definitions};
 use lotos_text::{Definition, TextFault, parse};
 use std::alloc::{AllocError, Global};
 

@@ -5,8 +5,10 @@ use Rattle.lotos_text.specs.AstView.{inner_of}
 use Rattle.lotos_text.specs.AstOf.{definition_view, definitions_view}
 use Rattle.lotos_check.specs.Scope.{count, within, definitions_in_scope, definition_in_scope}
 use Rattle.lotos_check.specs.Resolution.{AddsBodies, IsNameFaultIn}
-use Rattle.lotos_check.proofs.DefinitionParts.{inner_shown}
-use Rattle.lotos_check.proofs.BodyResolutions.{adds_append, adds_none, adds_first, listed_more, count_more, misnamed_left, misnamed_right, misnamed_here, misnamed_inside, carried_on, no_memory, rest_at, shows_inside}
+use Rattle.lotos_text.proofs.DefinitionParts.{inner_shown}
+use Rattle.lotos_check.proofs.BodyResolutions.{adds_append, adds_none, adds_first, misnamed_left, misnamed_right, misnamed_here, misnamed_inside, carried_on, no_memory, shows_inside}
+use Rattle.lotos_check.proofs.Pairs.{drop_at}
+use Rattle.lotos_check.proofs.ScopedDefinitions.{count_more, listed_more}
 use Rattle.lotos_check.proofs.body_resolution.+resolve_bodies.Goals as goal
 
 pub returns-in_err-own-clause-name_fault : goal.returns-in_err-own-clause-name_fault
@@ -46,7 +48,7 @@ returns-in_err-number-clause-name_fault t c =
     let items = c.deref-inner-items.result.now in
     let index = c.loop-inner.inner-index in
     let below : index < length items = omega arith in
-    let left = rest_at items index c.inner-item.result below c.inner-item.is in
+    let left = drop_at items index _ c.inner-item.result below c.inner-item.is in
     let one = definition_view c.inner-item.result in
     let rest = definitions_view (drop (index + 1) items) in
     let fault = c.in_err-number.field-0.0 in
@@ -73,7 +75,7 @@ loop-inner-preserved t c =
     let items = c.deref-inner-items.result.now in
     let index = c.loop-inner.inner-index in
     let below : index < length items = omega arith in
-    let left = rest_at items index c.inner-item.result below c.inner-item.is in
+    let left = drop_at items index _ c.inner-item.result below c.inner-item.is in
     let one = definition_view c.inner-item.result in
     let rest = definitions_view (drop (index + 1) items) in
     let more = count_more one rest in

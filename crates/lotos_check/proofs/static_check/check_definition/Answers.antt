@@ -10,7 +10,7 @@ use Rattle.lotos_check.specs.FaultOffsets.{IsOffsetWithin}
 use Rattle.lotos_check.specs.Resolution.{AddsBodies}
 use Rattle.lotos_check.specs.CheckedView.{flat_of, process_of}
 use Rattle.lotos_check.specs.declared.fault.CheckFault.TheVariants.{E27}
-use Rattle.lotos_check.proofs.DefinitionParts.{formals_shown, name_shown}
+use Rattle.lotos_text.proofs.DefinitionParts.{formals_shown, name_shown}
 use Rattle.lotos_check.proofs.SameFault.{passed_on}
 use Rattle.lotos_check.proofs.Faults.{repeat_faulty, misnamed_faulty, untyped_faulty, faulty_refused}
 use Rattle.lotos_check.proofs.FaultOffsets.{faulty_inside}
@@ -160,8 +160,8 @@ returns c =
     let at = goal.at.returns c in
     let set = c.in-Unguarded.set in
     let one = c.index-in-Unguarded.result.now in
-    let name = c.in_ok-copy_placed-in-Unguarded.field-0 in
-    let named = c.in_ok-copy_placed-in-Unguarded.ensures ∙ name_shown one.now in
+    let name = c.in_ok-copy-in-Unguarded.field-0 in
+    let named = c.in_ok-copy-in-Unguarded.ensures ∙ name_shown one.now in
     let unguarded = rw (c.in-Unguarded.is, c.as_slice-5.ensures.value) at c.in_ok-ranks.ensures in
     let faulty = unguarded_joined (λ d. definition_view d.now) c.add_definitions.new.into.items whole (listed at.In_ok-add_definitions) _ set.items
     c.index.result.now one name (flat at.After-as_slice-5) unguarded c.index.ensures c.index-in-Unguarded.ensures named in

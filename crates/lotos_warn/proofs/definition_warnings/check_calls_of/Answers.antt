@@ -6,7 +6,7 @@ use Rattle.lotos_warn.specs.Additions.{Adds, IsUncalledAt}
 use Rattle.lotos_warn.proofs.Additions.{adds_as, adds_nothing}
 use Rattle.lotos_warn.proofs.NameTests.{number_found, number_missing, adds_end}
 use Rattle.lotos_warn.proofs.DefinitionWarnings.{uncalled_one, uncalled_never}
-use Rattle.lotos_warn.proofs.DefinitionParts.{name_shown}
+use Rattle.lotos_text.proofs.DefinitionParts.{name_shown}
 use Rattle.lotos_warn.proofs.definition_warnings.check_calls_of.Goals as goal
 
 pub returns-in_ok-push : goal.returns-in_ok-push

@@ -7,7 +7,7 @@ use Rattle.lotos_check.specs.NameLists.{Name, In}
 use Rattle.lotos_warn.specs.Warnings.{UsesFree}
 use Rattle.lotos_warn.specs.Additions.{Adds, IsUnusedAmong, IsUnusedIn}
 use Rattle.lotos_warn.proofs.Additions.{adds_as, adds_alone}
-use Rattle.lotos_warn.proofs.DefinitionParts.{name_shown, formals_shown, body_shown}
+use Rattle.lotos_text.proofs.DefinitionParts.{name_shown, formals_shown, body_shown}
 use Rattle.lotos_warn.proofs.DefinitionWarnings.{unused_in}
 use Rattle.lotos_warn.proofs.definition_warnings.check_formals_of.Goals as goal
 

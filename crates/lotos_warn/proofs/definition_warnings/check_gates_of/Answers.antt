@@ -5,7 +5,7 @@ use Rattle.lotos_text.specs.AstOf.{definition_view}
 use Rattle.lotos_warn.specs.Warnings.{IsListWarning}
 use Rattle.lotos_warn.specs.Additions.{Adds, IsUnusedIn}
 use Rattle.lotos_warn.proofs.Additions.{adds_both}
-use Rattle.lotos_warn.proofs.DefinitionParts.{body_shown}
+use Rattle.lotos_text.proofs.DefinitionParts.{body_shown}
 use Rattle.lotos_warn.proofs.definition_warnings.check_gates_of.Goals as goal
 
 pub returns : goal.returns

@@ -3,7 +3,7 @@ use Rattle.std.proofs.lemmas.Result.{on_ok_weaker}
 use Rattle.lotos_text.specs.AstOf.{behaviour_view, sync_view}
 use Rattle.lotos_warn.specs.Additions.{Adds, AddsNames}
 use Rattle.lotos_warn.specs.Warnings.{IsListWarning, OffersFree}
-use Rattle.lotos_warn.proofs.Operands.{by_operands}
+use Rattle.lotos_text.proofs.TwoOperands.{by_operands}
 use Rattle.lotos_warn.proofs.GateAdditions.{offers_prefix, offers_choice, offers_par, offers_hide, offers_enable, offers_disable, offers_call}
 use Rattle.lotos_warn.proofs.ListWarnings.{lists_prefix, lists_choice, lists_par, lists_hide, lists_enable, lists_disable}
 use Rattle.lotos_warn.proofs.offered_gates.+lists.Goals as goal
