@@ -21,9 +21,9 @@ pub fn accepted(heap: &mut Heap, text: &str) -> Result<Checked, AcceptFault> {
     match accept(heap.alloc, text.as_bytes()) {
         Err(AcceptFault::Memory) => {
             heap.count_failure();
-            accept(heap.alloc, text.as_bytes())
+            Ok(accept(heap.alloc, text.as_bytes())?.system)
         }
-        answer => answer,
+        answer => Ok(answer?.system),
     }
 }
 

@@ -10,7 +10,7 @@ use crate::similar_processes::close_process;
 use crate::token_description::{Description, describe_token};
 use lotos_check::CheckFault;
 use lotos_text::{
-    Functionality, Placed, TEXT_LIMIT, TextFault, Token, TokenKind, line_column, parse,
+    Functionality, Placed, Specification, TEXT_LIMIT, TextFault, Token, TokenKind, line_column,
 };
 use std::alloc::{AllocError, Global};
 use std::fmt;
@@ -47,53 +47,69 @@ pub fn explain_text_fault<E: Write>(alloc: Global, text: &[u8], fault: &TextFaul
 
 /// Explains a static rule that the specification of a text breaks: the line of its place, a name that could be meant
 /// where one is not declared, what makes a functionality that is not the declared one, and what to do.
-pub fn explain_check_fault<E: Write>(alloc: Global, text: &[u8], fault: &CheckFault, err: &mut E) {
+pub fn explain_check_fault<E: Write>(
+    alloc: Global,
+    text: &[u8],
+    specification: &Specification,
+    fault: &CheckFault,
+    err: &mut E,
+) {
     if let Some(at) = fault.at() {
         show_line(text, at, err);
     }
     match fault {
-        CheckFault::E21(gate) => report_close_gate(alloc, text, gate, err),
-        CheckFault::E22(name) => report_close_process(alloc, text, name, err),
-        CheckFault::E25 { name, .. } => report_cause(alloc, text, name.at, err),
+        CheckFault::E21(gate) => report_close_gate(alloc, specification, gate, err),
+        CheckFault::E22(name) => report_close_process(alloc, specification, name, err),
+        CheckFault::E25 { name, .. } => report_cause(alloc, text, specification, name.at, err),
         _ => {}
     }
     let _ = writeln!(err, "  {}", check_advice(fault));
 }
 
 /// Writes the name of a gate that could be meant, if one is found.
-fn report_close_gate<E: Write>(alloc: Global, text: &[u8], gate: &Placed, err: &mut E) {
-    if let Ok(specification) = parse(alloc, text) {
-        let found = close_gate(alloc, &specification, gate.at, gate.name.text());
-        if let Ok(Some(name)) = found {
-            let _ = writeln!(err, "  a gate in scope has a similar name: {}", name.text());
-        }
+fn report_close_gate<E: Write>(
+    alloc: Global,
+    specification: &Specification,
+    gate: &Placed,
+    err: &mut E,
+) {
+    let found = close_gate(alloc, specification, gate.at, gate.name.text());
+    if let Ok(Some(name)) = found {
+        let _ = writeln!(err, "  a gate in scope has a similar name: {}", name.text());
     }
 }
 
 /// Writes the name of a process that could be meant, if one is found.
-fn report_close_process<E: Write>(alloc: Global, text: &[u8], called: &Placed, err: &mut E) {
-    if let Ok(specification) = parse(alloc, text) {
-        let found = close_process(alloc, &specification, called.at, called.name.text());
-        if let Ok(Some(name)) = found {
-            let _ = writeln!(
-                err,
-                "  a process that is visible here has a similar name: {}",
-                name.text()
-            );
-        }
+fn report_close_process<E: Write>(
+    alloc: Global,
+    specification: &Specification,
+    called: &Placed,
+    err: &mut E,
+) {
+    let found = close_process(alloc, specification, called.at, called.name.text());
+    if let Ok(Some(name)) = found {
+        let _ = writeln!(
+            err,
+            "  a process that is visible here has a similar name: {}",
+            name.text()
+        );
     }
 }
 
 /// Writes what makes the functionality of the definition whose name has the offset, if it is found and the text is not
 /// too long.
-fn report_cause<E: Write>(alloc: Global, text: &[u8], at: usize, err: &mut E) {
+fn report_cause<E: Write>(
+    alloc: Global,
+    text: &[u8],
+    specification: &Specification,
+    at: usize,
+    err: &mut E,
+) {
     if text.len() > CAUSE_LIMIT {
         return;
     }
-    if let Ok(specification) = parse(alloc, text) {
-        if let Ok(Some(cause)) = functionality_cause(alloc, &specification, at) {
-            write_cause(text, &cause, err);
-        }
+    if let Ok(Some(cause)) = functionality_cause(alloc, specification, at) {
+        write_cause(text, &cause, err);
     }
 }
 

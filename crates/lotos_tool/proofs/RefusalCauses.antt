@@ -1,5 +1,5 @@
 -- What rejections of texts mean.
-use Rattle.std.proofs.Common.{◌≡◌, ℕ, List, Option, Result, Ok, Err, IfErr, subst, arith}
+use Rattle.std.proofs.Common.{ℕ, List, Option, arith}
 use Rattle.lotos_text.specs.Limits.{max_text_length}
 use Rattle.lotos_text.specs.declared.fault.TextFault.{TextFault}
 use Rattle.lotos_text.specs.declared.fault.TextFault.TheVariants as text_fault
@@ -40,8 +40,3 @@ unread left left' text (rejection.Refused (refusal.Text fault place)) r h = go f
     go (text_fault.E06 at) h = record { text = text; read = r; cause = h.cause; placed = h.placed; never = h.never }
     go (text_fault.E07 at) h = record { text = text; read = r; cause = h.cause; placed = h.placed; never = h.never }
     go (text_fault.E99 e) h = absurd (let m = h.no_memory in cc)
-
-pub unread_answer : {T : Type 0} (left left' : Option (List ℕ)) (text slice : List ℕ) (r : Result T Rejection) → slice ≡ text → ReadsAll left left' max_text_length text →
-    IfErr r (IsRejection slice) → IfErr r (IsInputRejection left left')
-unread_answer left left' text slice (Ok x) e read h = tt
-unread_answer left left' text slice (Err u) e read h = unread left left' text u read (subst (λ t. IsRejection t u) e h)

@@ -1,7 +1,7 @@
 //! The progress of a search, as it is reported on standard error. Errors of the error stream are ignored.
 
 use crate::messages::NumberText;
-use lotos_check::Checked;
+use lotos_check::AcceptedText;
 use lotos_search::{NoProgress, Progress};
 use std::fmt;
 use std::io::Write;
@@ -10,14 +10,14 @@ use std::io::Write;
 /// when a line is written.
 pub trait OutputProgress: Progress {
     /// Is told that the text is accepted, and its specification.
-    fn accepted(&mut self, text: &[u8], found: &Checked);
+    fn accepted(&mut self, text: &[u8], found: &AcceptedText);
 
     /// Is told that a line of the output is written next.
     fn before_line(&mut self);
 }
 
 impl OutputProgress for NoProgress {
-    fn accepted(&mut self, _text: &[u8], _found: &Checked) {}
+    fn accepted(&mut self, _text: &[u8], _found: &AcceptedText) {}
 
     fn before_line(&mut self) {}
 }

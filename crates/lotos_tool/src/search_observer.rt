@@ -2,7 +2,7 @@
 
 use crate::progress_report::{OutputProgress, ProgressReport, Visited};
 use crate::unknown_names::{NameHint, first_name_hint, warn_of_names};
-use lotos_check::Checked;
+use lotos_check::AcceptedText;
 use lotos_search::Progress;
 use std::alloc::Global;
 use std::io::Write;
@@ -62,18 +62,12 @@ impl<E: Write> Progress for SearchObserver<'_, E> {
 }
 
 impl<E: Write> OutputProgress for SearchObserver<'_, E> {
-    fn accepted(&mut self, text: &[u8], found: &Checked) {
+    fn accepted(&mut self, text: &[u8], found: &AcceptedText) {
         let words = self.observed.words;
         if self.observed.refuses_unknown {
-            self.hint = first_name_hint(self.alloc, words, found.gates(), text);
+            self.hint = first_name_hint(self.alloc, words, text, found);
         } else {
-            warn_of_names(
-                self.alloc,
-                words,
-                found.gates(),
-                text,
-                self.progress.stream(),
-            );
+            warn_of_names(self.alloc, words, text, found, self.progress.stream());
         }
     }
 

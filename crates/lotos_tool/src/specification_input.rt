@@ -12,7 +12,7 @@ ghost use Rattle.lotos_tool.specs.RejectedText.{IsRejection, IsInputRejection, e
 use crate::outcome::{Ended, Why};
 use crate::progress_report::OutputProgress;
 use crate::refusal::Refusal;
-use lotos_check::{AcceptFault, CheckFault, Checked, accept};
+use lotos_check::{AcceptFault, AcceptedText, CheckFault, Checked, accept};
 use lotos_device::{ReadFault, Source, read_text};
 use lotos_text::{TEXT_LIMIT, TextFault, line_column};
 use std::alloc::Global;
@@ -40,20 +40,9 @@ pub fn read_specification<R: Source, P: OutputProgress>(
     ensures failed { R.has_failed reader.new ≡ is_input_failure result }
 {
     let text = read_input(alloc, reader)?;
-    let found = accept_text(alloc, text.as_slice());
-    report_accepted(text.as_slice(), &found, progress);
-    found
-}
-
-/// Tells the observer of a text if it is accepted.
-fn report_accepted<P: OutputProgress>(
-    text: &[u8],
-    found: &Result<Checked, Rejection>,
-    progress: &mut P,
-) {
-    if let Ok(found) = found {
-        progress.accepted(text, found);
-    }
+    let found = accept_text(alloc, text.as_slice())?;
+    progress.accepted(text.as_slice(), &found);
+    Ok(found.system)
 }
 
 /// Reads a whole text. At most one byte more than a text may have is taken from the reader, whatever it returns. The
@@ -78,9 +67,9 @@ pub fn read_input<R: Source>(alloc: Global, reader: &mut R) -> Result<Vec<u8>, R
 }
 
 /// The specification of a text, if it is accepted.
-pub fn accept_text(alloc: Global, text: &[u8]) -> Result<Checked, Rejection>
+fn accept_text(alloc: Global, text: &[u8]) -> Result<AcceptedText, Rejection>
     requires { length text.now ≤ max_text_length }
-    ensures accepted { IfOk result (λ found. Accepted text.now (system_of found)) }
+    ensures accepted { IfOk result (λ found. Accepted text.now (system_of found.system)) }
     ensures refused { IfErr result (IsRejection text.now) }
 {
     match accept(alloc, text) {
@@ -103,7 +92,7 @@ pub fn end_of(rejection: Rejection) -> Ended
 }
 
 /// The rejection for a fault of a text, at the fault's position if it has one.
-fn reject(text: &[u8], fault: AcceptFault) -> Rejection
+pub fn reject(text: &[u8], fault: AcceptFault) -> Rejection
     requires fault { IsRejectedFor text.now fault }
     requires inside { IfSome (accept_offset fault) (λ at. at ≤ length text.now) }
     ensures { IsRejection text.now result }

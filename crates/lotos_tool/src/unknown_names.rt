@@ -4,8 +4,9 @@
 use crate::messages::NumberText;
 use crate::unknown_gates::is_unknown_gate;
 use indexmap::IndexSet;
+use lotos_check::AcceptedText;
 use lotos_explain::{formal_gate, hidden_gate, similar_name};
-use lotos_text::{Name, Specification, line_column, parse};
+use lotos_text::{Name, Specification, line_column};
 use std::alloc::{AllocError, Global};
 use std::fmt;
 use std::io::Write;
@@ -45,21 +46,17 @@ enum Inside {
 pub(crate) fn warn_of_names<E: Write>(
     alloc: Global,
     words: &[String],
-    gates: &[Name],
     text: &[u8],
+    accepted: &AcceptedText,
     err: &mut E,
 ) {
-    let Ok(found) = unknown_names(alloc, words, gates) else {
+    let Ok(found) = unknown_names(alloc, words, accepted.system.gates()) else {
         return;
     };
-    if found.is_empty() {
-        return;
-    }
-    let specification = parse(alloc, text).ok();
     for k in 0..found.len() {
         warn_of_name(&found[k], err);
         if k < MOST_HINTS {
-            if let Ok(hint) = hint_for(alloc, found[k].name, gates, text, &specification) {
+            if let Ok(hint) = hint_for(alloc, found[k].name, text, accepted) {
                 write_name_hint(&hint, err);
             }
         }
@@ -70,13 +67,12 @@ pub(crate) fn warn_of_names<E: Write>(
 pub(crate) fn first_name_hint(
     alloc: Global,
     words: &[String],
-    gates: &[Name],
     text: &[u8],
+    accepted: &AcceptedText,
 ) -> Option<NameHint> {
-    let found = unknown_names(alloc, words, gates).ok()?;
+    let found = unknown_names(alloc, words, accepted.system.gates()).ok()?;
     let first = found.as_slice().first()?;
-    let specification = parse(alloc, text).ok();
-    hint_for(alloc, first.name, gates, text, &specification).ok()
+    hint_for(alloc, first.name, text, accepted).ok()
 }
 
 /// Writes a line for each thing that could be meant.
@@ -140,23 +136,19 @@ fn is_gate(name: &str, gates: &[Name]) -> bool {
         .any(|gate| gate.text().eq_ignore_ascii_case(name))
 }
 
-/// What could be meant by a name that is no gate. Without the specification nothing inside it is found.
+/// What could be meant by a name that is no gate.
 fn hint_for(
     alloc: Global,
     name: &str,
-    gates: &[Name],
     text: &[u8],
-    specification: &Option<Specification>,
+    accepted: &AcceptedText,
 ) -> Result<NameHint, AllocError> {
     let name = name.to_ascii_uppercase(alloc)?;
-    let similar = match similar_name(alloc, name.as_str(), gates)? {
+    let similar = match similar_name(alloc, name.as_str(), accepted.system.gates())? {
         Some(gate) => Some(gate.copy(alloc)?),
         None => None,
     };
-    let inside = match specification {
-        Some(specification) => find_inside(alloc, name.as_str(), text, specification)?,
-        None => None,
-    };
+    let inside = find_inside(alloc, name.as_str(), text, &accepted.specification)?;
     Ok(NameHint {
         name,
         similar,

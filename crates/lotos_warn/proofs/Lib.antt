@@ -8,4 +8,3 @@ pub mod SortedWarnings
 pub mod CalledNames
 pub mod WholeWarnings
 pub mod DefinitionWarnings
-pub mod SpelledTexts

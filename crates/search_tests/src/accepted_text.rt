@@ -14,7 +14,7 @@ pub fn joined(alloc: Global, parts: &[&str]) -> Result<String, AllocError> {
 }
 
 fn checked(alloc: Global, text: &str) -> Result<Checked, Fail> {
-    Ok(accept(alloc, text.as_bytes())?)
+    Ok(accept(alloc, text.as_bytes())?.system)
 }
 
 /// The table of a text.

@@ -3,7 +3,7 @@
 use super::expected_output::{repeated, repeated_words};
 use super::memory_devices::{ArrayWriter, SliceReader};
 use super::runs::{RUN, Ran, Run, Taken, WHOLE};
-use lotos_check::Checked;
+use lotos_check::AcceptedText;
 use lotos_device::{FromRead, FromWrite};
 use lotos_tool::{
     EverRequest, OutputProgress, Progress, Request, ever_with_progress, list_with_progress,
@@ -246,7 +246,7 @@ impl Progress for Counter {
 }
 
 impl OutputProgress for Counter {
-    fn accepted(&mut self, _text: &[u8], _found: &Checked) {
+    fn accepted(&mut self, _text: &[u8], _found: &AcceptedText) {
         self.accepted = self.accepted.saturating_add(1);
     }
 

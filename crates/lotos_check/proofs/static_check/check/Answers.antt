@@ -16,19 +16,19 @@ use Rattle.lotos_check.proofs.Faults.{repeat_faulty, misnamed_faulty, untyped_fa
 use Rattle.lotos_check.proofs.FaultOffsets.{faulty_inside}
 use Rattle.lotos_check.proofs.Rules.{walked, well_typed}
 use Rattle.lotos_check.proofs.PassResults.{inner_below, found_length, unguarded_below, unguarded_joined, flat_joined, calls_below, guarded_by}
-use Rattle.lotos_check.proofs.static_check.check_definition.Goals.{In_ok-add_definitions, In-Guarded, After-as_slice-2, After-as_slice-5}
-use Rattle.lotos_check.proofs.static_check.check_definition.Goals as goal
+use Rattle.lotos_check.proofs.static_check.check.Goals.{In_ok-add_definitions, In-Guarded, After-as_slice-2, After-as_slice-5}
+use Rattle.lotos_check.proofs.static_check.check.Goals as goal
 
 -- the list has all definitions of the specification
-listed : (c : In_ok-add_definitions) → map (λ d. definition_view d.now) c.add_definitions.new.into.items ≡ definitions_in (definition_view c.args.whole.now)
+listed : (c : In_ok-add_definitions) → map (λ d. definition_view d.now) c.add_definitions.new.into.items ≡ definitions_in (definition_view c.args.specification.now.whole)
 listed c = rw c.new-definitions.ensures.items at c.in_ok-add_definitions.ensures
 
 -- something was found of each definition
-adds : (c : After-as_slice-2) → AddsBodies (all_definitions (definition_view c.args.whole.now)) [] c.in_ok-found.found.items
+adds : (c : After-as_slice-2) → AddsBodies (all_definitions (definition_view c.args.specification.now.whole)) [] c.in_ok-found.found.items
 adds c = c.in_ok-found.ensures.adds
 
 -- the code is the flat system
-flat : (c : After-as_slice-5) → IsFlat (definition_view c.args.whole.now) (record {
+flat : (c : After-as_slice-5) → IsFlat (definition_view c.args.specification.now.whole) (record {
   formals = c.in_ok-gates.gates.items;
   start = flat_of c.in_ok-start.start.value;
   processes = map process_of c.in_ok-start.processes.items;
@@ -36,27 +36,27 @@ flat : (c : After-as_slice-5) → IsFlat (definition_view c.args.whole.now) (rec
 flat c =
     let at = goal.at.rank_processes-requires c in
     let flattened = rw (c.as_slice-4.ensures.value, listed at.In_ok-add_definitions) at c.in_ok-start.ensures in
-    let named = c.in_ok-gates.ensures ∙ ap texts (c.as_slice-3.ensures.value ∙ formals_shown c.args.whole.now) in
-    flat_joined (definition_view c.args.whole.now) c.in_ok-found.found.items c.in_ok-gates.gates.items c.in_ok-start.start.value c.in_ok-start.processes.items
+    let named = c.in_ok-gates.ensures ∙ ap texts (c.as_slice-3.ensures.value ∙ formals_shown c.args.specification.now.whole) in
+    flat_joined (definition_view c.args.specification.now.whole) c.in_ok-found.found.items c.in_ok-gates.gates.items c.in_ok-start.start.value c.in_ok-start.processes.items
     (adds at.After-as_slice-2) flattened named
 
 pub resolve_specification-requires : goal.resolve_specification-requires
 resolve_specification-requires c =
     let all = c.add_definitions.new.into in
     let below : length all.items < 9223372036854775808 = omega (arith, all.ok.0, all.ok.1, all.small) in
-    inner_below (λ d. definition_view d.now) all.items (definition_view c.args.whole.now) (listed (goal.at.resolve_specification-requires c).In_ok-add_definitions)
+    inner_below (λ d. definition_view d.now) all.items (definition_view c.args.specification.now.whole) (listed (goal.at.resolve_specification-requires c).In_ok-add_definitions)
     9223372036854775808 below
 
 pub returns-in_err-check_distinct-clause-inside : goal.returns-in_err-check_distinct-clause-inside
 returns-in_err-check_distinct-clause-inside c =
-    let whole = definition_view c.args.whole.now in
+    let whole = definition_view c.args.specification.now.whole in
     let fault = c.in_err-check_distinct.field-0.0 in
     passed_on (λ f. (n : ℕ) → IsInside n whole → IsOffsetWithin n f) c.from_residual.result fault c.from_residual.ensures.1
     (λ n. faulty_inside whole fault n (repeat_faulty whole fault c.in_err-check_distinct.ensures.fails))
 
 pub returns-in_err-found : goal.returns-in_err-found
 returns-in_err-found c =
-    let whole = definition_view c.args.whole.now in
+    let whole = definition_view c.args.specification.now.whole in
     let fault = c.in_err-found.field-0.0 in
     let faulty = misnamed_faulty whole fault c.in_err-found.ensures.name_fault in
     let result = c.from_residual-in_err-found.result in
@@ -73,11 +73,11 @@ pub check_functionality-requires : goal.check_functionality-requires
 check_functionality-requires c =
     let all = listed (goal.at.check_functionality-requires c).In_ok-add_definitions in
     rw (c.as_slice.ensures.value, c.as_slice-2.ensures.value)
-    (found_length (λ d. definition_view d.now) c.add_definitions.new.into.items (definition_view c.args.whole.now) all c.in_ok-found.found.items (adds c))
+    (found_length (λ d. definition_view d.now) c.add_definitions.new.into.items (definition_view c.args.specification.now.whole) all c.in_ok-found.found.items (adds c))
 
 pub returns-in_err-check_functionality : goal.returns-in_err-check_functionality
 returns-in_err-check_functionality c =
-    let whole = definition_view c.args.whole.now in
+    let whole = definition_view c.args.specification.now.whole in
     let at = goal.at.returns-in_err-check_functionality c in
     let fault = c.in_err-check_functionality.field-0.0 in
     let found = c.in_ok-found.found.items in
@@ -97,22 +97,22 @@ pub flatten-requires-clause-sized : goal.flatten-requires-clause-sized
 flatten-requires-clause-sized c =
     let at = goal.at.flatten-requires-clause-sized c in
     rw c.as_slice-4.ensures.value
-    (found_length (λ d. definition_view d.now) c.add_definitions.new.into.items (definition_view c.args.whole.now) (listed at.In_ok-add_definitions)
+    (found_length (λ d. definition_view d.now) c.add_definitions.new.into.items (definition_view c.args.specification.now.whole) (listed at.In_ok-add_definitions)
     c.in_ok-found.found.items (adds at.After-as_slice-2))
 
 pub rank_processes-requires : goal.rank_processes-requires
 rank_processes-requires c =
     rw c.as_slice-5.ensures.value
-    (calls_below (definition_view c.args.whole.now) c.in_ok-gates.gates.items c.in_ok-start.start.value c.in_ok-start.processes.items (flat c))
+    (calls_below (definition_view c.args.specification.now.whole) c.in_ok-gates.gates.items c.in_ok-start.start.value c.in_ok-start.processes.items (flat c))
 
 -- the specification is accepted, with that code
-accepted : (c : In-Guarded) → IsAccepted (definition_view c.args.whole.now) (record {
+accepted : (c : In-Guarded) → IsAccepted (definition_view c.args.specification.now.whole) (record {
   formals = c.in_ok-gates.gates.items;
   start = flat_of c.in_ok-start.start.value;
   processes = map process_of c.in_ok-start.processes.items;
 })
 accepted c =
-    let whole = definition_view c.args.whole.now in
+    let whole = definition_view c.args.specification.now.whole in
     let at = goal.at.In-Guarded c in
     let found = c.in_ok-found.found.items in
     let system = flat at.After-as_slice-5 in
@@ -127,7 +127,7 @@ accepted c =
 pub invariant_of-result : goal.invariant_of-result
 invariant_of-result c = record {
   kept = merely (record {
-    whole = definition_view c.args.whole.now;
+    whole = definition_view c.args.specification.now.whole;
     accepted = accepted (goal.at.invariant_of-result c).In-Guarded;
     ranked = rw (c.in-Guarded.is, c.as_slice-5.ensures.value) at c.in_ok-ranks.ensures;
   });
@@ -141,7 +141,7 @@ overflow_add-index c =
     let at = goal.at.overflow_add-index c in
     let all = c.add_definitions.new.into in
     let unguarded = rw (c.in-Unguarded.is, c.as_slice-5.ensures.value) at c.in_ok-ranks.ensures in
-    let below = unguarded_below (λ d. definition_view d.now) all.items (definition_view c.args.whole.now) (listed at.In_ok-add_definitions) _ c.in-Unguarded.set.items
+    let below = unguarded_below (λ d. definition_view d.now) all.items (definition_view c.args.specification.now.whole) (listed at.In_ok-add_definitions) _ c.in-Unguarded.set.items
     c.index.result.now (flat at.After-as_slice-5) unguarded c.index.ensures in
     omega (arith, all.ok.0, all.ok.1, all.small)
 
@@ -150,13 +150,13 @@ index-requires-in-Unguarded c =
     let at = goal.at.index-requires-in-Unguarded c in
     let all = c.add_definitions.new.into in
     let unguarded = rw (c.in-Unguarded.is, c.as_slice-5.ensures.value) at c.in_ok-ranks.ensures in
-    let below = unguarded_below (λ d. definition_view d.now) all.items (definition_view c.args.whole.now) (listed at.In_ok-add_definitions) _ c.in-Unguarded.set.items
+    let below = unguarded_below (λ d. definition_view d.now) all.items (definition_view c.args.specification.now.whole) (listed at.In_ok-add_definitions) _ c.in-Unguarded.set.items
     c.index.result.now (flat at.After-as_slice-5) unguarded c.index.ensures in
     omega (arith, all.ok.0)
 
 pub returns : goal.returns
 returns c =
-    let whole = definition_view c.args.whole.now in
+    let whole = definition_view c.args.specification.now.whole in
     let at = goal.at.returns c in
     let set = c.in-Unguarded.set in
     let one = c.index-in-Unguarded.result.now in
