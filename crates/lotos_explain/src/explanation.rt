@@ -5,8 +5,8 @@ use crate::continuations::NAME;
 use crate::expectations::expected_tokens;
 use crate::functionality_causes::{Cause, Leaf, functionality_cause};
 use crate::line_bounds::line_of;
-use crate::similar_gates::close_gate;
-use crate::similar_processes::close_process;
+use crate::similar_gates::similar_gate_in_scope;
+use crate::similar_processes::similar_process_in_scope;
 use crate::token_description::{Description, describe_token};
 use lotos_check::CheckFault;
 use lotos_text::{
@@ -16,11 +16,10 @@ use std::alloc::{AllocError, Global};
 use std::fmt;
 use std::io::Write;
 
-/// The most bytes before a fault for which it is tried what could be there: each trial parses all of them.
+/// The most bytes before a fault at whose place completions are tried: each trial parses all of them.
 const EXPECTED_LIMIT: usize = 1 << 16;
 
-/// The most bytes of a text in which it is looked for what makes a functionality: each call is looked up among all
-/// visible processes.
+/// The most bytes of a text of which a functionality is explained: each call is looked up among all visible processes.
 const CAUSE_LIMIT: usize = 1 << 16;
 
 /// The most bytes of a line that are shown before the place, and in all.
@@ -58,8 +57,8 @@ pub fn explain_check_fault<E: Write>(
         show_line(text, at, err);
     }
     match fault {
-        CheckFault::E21(gate) => report_close_gate(alloc, specification, gate, err),
-        CheckFault::E22(name) => report_close_process(alloc, specification, name, err),
+        CheckFault::E21(gate) => report_similar_gate(alloc, specification, gate, err),
+        CheckFault::E22(name) => report_similar_process(alloc, specification, name, err),
         CheckFault::E25 { name, .. } => report_cause(alloc, text, specification, name.at, err),
         _ => {}
     }
@@ -67,26 +66,26 @@ pub fn explain_check_fault<E: Write>(
 }
 
 /// Writes the name of a gate that could be meant, if one is found.
-fn report_close_gate<E: Write>(
+fn report_similar_gate<E: Write>(
     alloc: Global,
     specification: &Specification,
     gate: &Placed,
     err: &mut E,
 ) {
-    let found = close_gate(alloc, specification, gate.at, gate.name.text());
+    let found = similar_gate_in_scope(alloc, specification, gate.at, gate.name.text());
     if let Ok(Some(name)) = found {
         let _ = writeln!(err, "  a gate in scope has a similar name: {}", name.text());
     }
 }
 
 /// Writes the name of a process that could be meant, if one is found.
-fn report_close_process<E: Write>(
+fn report_similar_process<E: Write>(
     alloc: Global,
     specification: &Specification,
     called: &Placed,
     err: &mut E,
 ) {
-    let found = close_process(alloc, specification, called.at, called.name.text());
+    let found = similar_process_in_scope(alloc, specification, called.at, called.name.text());
     if let Ok(Some(name)) = found {
         let _ = writeln!(
             err,
@@ -169,6 +168,7 @@ fn explain_token<E: Write>(
     Ok(())
 }
 
+/// What is at the offset; of a text that is too long nothing.
 fn description_of(alloc: Global, text: &[u8], at: usize) -> Result<Description, AllocError> {
     if text.len() > TEXT_LIMIT {
         return Ok(Description::Nothing);

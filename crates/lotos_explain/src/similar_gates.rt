@@ -16,7 +16,7 @@ use std::alloc::{AllocError, Global};
 /// # Errors
 ///
 /// If an allocation fails.
-pub fn close_gate<'a>(
+pub fn similar_gate_in_scope<'a>(
     alloc: Global,
     specification: &'a Specification,
     at: usize,

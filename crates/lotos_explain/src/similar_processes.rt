@@ -15,7 +15,7 @@ use std::alloc::{AllocError, Global};
 /// # Errors
 ///
 /// If an allocation fails.
-pub fn close_process<'a>(
+pub fn similar_process_in_scope<'a>(
     alloc: Global,
     specification: &'a Specification,
     at: usize,

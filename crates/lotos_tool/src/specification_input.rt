@@ -66,7 +66,7 @@ pub fn read_input<R: Source>(alloc: Global, reader: &mut R) -> Result<Vec<u8>, R
     }
 }
 
-/// The specification of a text, if it is accepted.
+/// Accepts a text; the rejection of one that is not accepted has the line and the column of its fault.
 fn accept_text(alloc: Global, text: &[u8]) -> Result<AcceptedText, Rejection>
     requires { length text.now ≤ max_text_length }
     ensures accepted { IfOk result (λ found. Accepted text.now (system_of found.system)) }

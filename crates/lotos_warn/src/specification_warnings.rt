@@ -9,7 +9,7 @@ ghost use Rattle.lotos_warn.specs.Warnings.{IsWarning};
 ghost use Rattle.lotos_warn.specs.WarningOrder.{warning_cmp};
 ghost use Rattle.lotos_warn.specs.declared.warning.Warning.{Warning as AnyWarning};
 
-use crate::definition_warnings::{check_calls_of_all, check_gates_of_all};
+use crate::definition_warnings::{warn_of_gates, warn_of_uncalled};
 use crate::process_calls::called_processes;
 use crate::warning::Warning;
 use lotos_check::laws::{binding_is_unique, calls_fit};
@@ -33,10 +33,10 @@ pub fn warnings(
         In w found.items ↔ IsWarning (definition_view specification.now.whole) w) }
     ensures ascending { IfOk result (λ found. IsStrictlySortedBy warning_cmp found.items) }
 {
-    let mut found = unsorted_warnings(alloc, &specification.whole, system)?;
-    found.sort_unstable();
-    found.dedup();
-    Ok(found)
+    let mut warnings = unsorted_warnings(alloc, &specification.whole, system)?;
+    warnings.sort_unstable();
+    warnings.dedup();
+    Ok(warnings)
 }
 
 fn unsorted_warnings(
@@ -53,8 +53,8 @@ fn unsorted_warnings(
     let mut definitions = Vec::new(alloc);
     add_definitions(whole, &mut definitions)?;
     let called = called_processes(alloc, system)?;
-    let mut found = Vec::new(alloc);
-    check_gates_of_all(alloc, definitions.as_slice(), &mut found)?;
-    check_calls_of_all(alloc, &definitions[1..], &called, &mut found)?;
-    Ok(found)
+    let mut warnings = Vec::new(alloc);
+    warn_of_gates(alloc, definitions.as_slice(), &mut warnings)?;
+    warn_of_uncalled(alloc, &definitions[1..], &called, &mut warnings)?;
+    Ok(warnings)
 }

@@ -3,7 +3,7 @@ use Rattle.std.proofs.lemmas.Result.{IfOk-weaker}
 use Rattle.lotos_text.specs.AstOf.{definition_view}
 use Rattle.lotos_explain.proofs.DefinitionScopes.{gate_in_whole}
 use Rattle.lotos_explain.proofs.SimilarNames.{some_weaker}
-use Rattle.lotos_explain.proofs.similar_gates.close_gate.Goals as goal
+use Rattle.lotos_explain.proofs.similar_gates.similar_gate_in_scope.Goals as goal
 
 pub returns : goal.returns
 returns c =
