@@ -1,5 +1,5 @@
 -- The resolution of many bodies, one by one.
-use Rattle.std.specs.Prelude.{◌≡◌, ℕ, List, [], ◌∷◌, ◌++◌, IfErr, IsErrAnd, Result, Ok, Err}
+use Rattle.std.specs.Prelude.{◌≡◌, ℕ, List, [], ◌∷◌, ◌++◌}
 use Rattle.std.specs.HashMap.{HashMap}
 use Rattle.std.proofs.Common.{refl, sym, subst, append_assoc, append-nil, ap, ◌∙◌, inl, inr}
 use Rattle.lotos_text.specs.AstView.{DefinitionView, formals_of, body_of, inner_of}
@@ -75,13 +75,6 @@ misnamed_here scope first d fault h = record {
 pub misnamed_inside : (scope : Scope) (first : ℕ) (d : DefinitionView) (fault : CheckFault) →
     IsNameFaultIn (definitions_in_scope (within d first scope) first (inner_of d)) fault → IsNameFaultIn (definition_in_scope scope first d) fault
 misnamed_inside scope first d fault h = record { scoped = h.scoped; located = inr h.located; misnamed = h.misnamed }
-
--- a fault that a result carries on
-pub carried_on : {X E : Type 0} (result : Result X E) (P : E → Type 0) (fault : E) → IsErrAnd result (λ x. x ≡ fault) →
-    P fault →
-    IfErr result P
-carried_on (Ok x) P fault e h = absurd e
-carried_on (Err x) P fault e h = subst P (sym e) h
 
 -- out of memory
 pub no_memory : (scope : Scope) (first : ℕ) (d : DefinitionView) (error : AllocError) → IsNameFaultIn (definition_in_scope scope first d) (E99 error)

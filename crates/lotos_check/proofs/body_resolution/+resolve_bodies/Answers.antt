@@ -6,29 +6,30 @@ use Rattle.lotos_text.specs.AstOf.{definition_view, definitions_view}
 use Rattle.lotos_check.specs.Scope.{count, within, definitions_in_scope, definition_in_scope}
 use Rattle.lotos_check.specs.Resolution.{AddsBodies, IsNameFaultIn}
 use Rattle.lotos_text.proofs.DefinitionParts.{inner_shown}
-use Rattle.lotos_check.proofs.BodyResolutions.{adds_append, adds_none, adds_first, misnamed_left, misnamed_right, misnamed_here, misnamed_inside, carried_on, no_memory, shows_inside}
+use Rattle.lotos_check.proofs.BodyResolutions.{adds_append, adds_none, adds_first, misnamed_left, misnamed_right, misnamed_here, misnamed_inside, no_memory, shows_inside}
 use Rattle.lotos_check.proofs.Pairs.{drop_at}
+use Rattle.lotos_check.proofs.SameFault.{passed_on}
 use Rattle.lotos_check.proofs.ScopedDefinitions.{count_more, listed_more}
 use Rattle.lotos_check.proofs.body_resolution.+resolve_bodies.Goals as goal
 
 pub returns-in_err-own-clause-name_fault : goal.returns-in_err-own-clause-name_fault
 returns-in_err-own-clause-name_fault t c =
-    carried_on c.from_residual.result _ _ c.from_residual.ensures.1
+    passed_on _ c.from_residual.result _ c.from_residual.ensures.1
     (λ scope shows. no_memory scope c.args.first (definition_view c.args.definition.now) _)
 
 pub returns-in_err-push-clause-name_fault : goal.returns-in_err-push-clause-name_fault
 returns-in_err-push-clause-name_fault t c =
-    carried_on c.from_residual-in_err-push.result _ _ c.from_residual-in_err-push.ensures.1
+    passed_on _ c.from_residual-in_err-push.result _ c.from_residual-in_err-push.ensures.1
     (λ scope shows. no_memory scope c.args.first (definition_view c.args.definition.now) _)
 
 pub returns-in_err-push-2-clause-name_fault : goal.returns-in_err-push-2-clause-name_fault
 returns-in_err-push-2-clause-name_fault t c =
-    carried_on c.from_residual-in_err-push-2.result _ _ c.from_residual-in_err-push-2.ensures.1
+    passed_on _ c.from_residual-in_err-push-2.result _ c.from_residual-in_err-push-2.ensures.1
     (λ scope shows. no_memory scope c.args.first (definition_view c.args.definition.now) _)
 
 pub returns-in_err-found-clause-name_fault : goal.returns-in_err-found-clause-name_fault
 returns-in_err-found-clause-name_fault t c =
-    carried_on c.from_residual-in_err-found.result _ _ c.from_residual-in_err-found.ensures.1 (λ scope shows.
+    passed_on _ c.from_residual-in_err-found.result _ c.from_residual-in_err-found.ensures.1 (λ scope shows.
     let of = c.args.definition.now in
     let d = definition_view of in
     let w = within d c.args.first scope in
@@ -39,7 +40,7 @@ returns-in_err-found-clause-name_fault t c =
 
 pub returns-in_err-number-clause-name_fault : goal.returns-in_err-number-clause-name_fault
 returns-in_err-number-clause-name_fault t c =
-    carried_on c.from_residual-in_err-number.result _ _ c.from_residual-in_err-number.ensures.1 (λ scope shows.
+    passed_on _ c.from_residual-in_err-number.result _ c.from_residual-in_err-number.ensures.1 (λ scope shows.
     let of = c.args.definition.now in
     let d = definition_view of in
     let w = within d c.args.first scope in
