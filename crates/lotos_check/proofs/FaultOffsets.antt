@@ -1,5 +1,5 @@
 -- The offsets of faults are inside every text that the AST is inside.
-use Rattle.std.proofs.Common.{◌≡◌, ℕ, ◌+◌, ◌≤◌, List, [], ◌∷◌, refl, sym, subst, inl, inr}
+use Rattle.std.proofs.Common.{ℕ, ◌+◌, ◌≤◌, List, [], ◌∷◌, refl, sym, subst, inl, inr}
 use Rattle.lotos_text.specs.AstView.{BehaviourView, enable, call, DefinitionView, def, DefinitionListView, no_defs, more_defs, name_of, formals_of, body_of, inner_of}
 use Rattle.lotos_text.specs.OffsetsInside.{AreNamesInside, IsBehaviourInside, IsInside, AreInside}
 use Rattle.lotos_text.specs.declared.ast.Placed.{Placed}

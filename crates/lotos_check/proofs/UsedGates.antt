@@ -1,5 +1,5 @@
 -- A behaviour of an accepted specification uses gates in scope only.
-use Rattle.std.proofs.Common.{◌≡◌, ℕ, List, [], ◌∷◌, ◌++◌, Some, Bool, true, false, slice_get, refl, subst, inl, inr}
+use Rattle.std.proofs.Common.{◌≡◌, ℕ, List, [], ◌++◌, Some, slice_get, refl, subst, inl, inr}
 use Rattle.lotos_text.specs.AstView as t
 use Rattle.lotos_text.specs.AstView.{BehaviourView, DefinitionView, formals_of, body_of}
 use Rattle.lotos_text.specs.declared.ast.Placed.{Placed}
