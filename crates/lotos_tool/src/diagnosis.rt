@@ -4,13 +4,14 @@ ghost use Rattle.lotos_text.specs.Limits.{max_text_length};
 ghost use Rattle.lotos_check.specs.AcceptedText.{Accepted};
 ghost use Rattle.lotos_check.specs.CheckedView.{system_of};
 ghost use Rattle.lotos_tool.specs.ProgramRuns.{CheckReported, ProcessesReported, TextReported, check_status_of};
-ghost use Rattle.lotos_tool.specs.RejectedText.{end_of};
+ghost use Rattle.lotos_tool.specs.Rejections.{end_of};
 
 use crate::check_command::write_processes;
 use crate::outcome::Ended;
 use crate::program::report_check;
 use crate::refusal::Refusal;
-use crate::specification_input::{Rejection, accept_text, end_of, read_input};
+use crate::rejection::{Rejection, end_of};
+use crate::specification_input::{accept_text, read_input};
 use crate::warning_lines::write_warnings;
 use lotos_check::Checked;
 use lotos_command::DiagnoseRequest;

@@ -1,8 +1,7 @@
 //! Hints for standard error, after a refusal: a word names a file, though a specification is read from standard input,
 //! a word is almost an element, or a name is no gate. A hint for which there is no memory is left out.
 
-use crate::messages::NumberText;
-use crate::outcome::{Ended, EverEnded};
+use crate::messages::{Messages, NumberText};
 use crate::refusal::Refusal;
 use crate::unknown_names::{NameHint, write_name_hint};
 use lotos_command::CommandFault;
@@ -20,33 +19,19 @@ const ELEMENT_WORDS: [&str; 5] = ["<any>", "<not>", "<until>", "<while>", "<dead
 /// The most bytes of a word that may be almost an element.
 const LONGEST: usize = 16;
 
-/// Gives a hint if a search is refused for a word that names a file, that is almost an element, or that names no gate:
-/// for the last `hint` is what could be meant.
-pub(crate) fn hint_after_search<E: Write>(
+/// Gives a hint if a command is refused for a word that names a file, that is almost an element, or that names no gate:
+/// for the last `hint` is what could be meant. `command` is the command's own words.
+pub(crate) fn hint_after_refusal<E: Write>(
     alloc: Global,
-    ended: &Ended,
+    command: &str,
+    refusal: Option<&Refusal>,
     words: &[String],
     hint: &Option<NameHint>,
-    err: &mut E,
+    messages: &mut Messages<E>,
 ) {
-    if let Ended::Refused(refusal) = ended {
-        hint_after_refusal(alloc, "search ..", refusal, words, err);
-        hint_after_unknown_gate(refusal, hint, err);
-    }
-}
-
-/// Gives a hint if a search for a match is refused for a word that names a file, that is almost an element, or that
-/// names no gate: for the last `hint` is what could be meant.
-pub(crate) fn hint_after_ever<E: Write>(
-    alloc: Global,
-    ended: &EverEnded,
-    words: &[String],
-    hint: &Option<NameHint>,
-    err: &mut E,
-) {
-    if let EverEnded::Refused(refusal) = ended {
-        hint_after_refusal(alloc, "ever ..", refusal, words, err);
-        hint_after_unknown_gate(refusal, hint, err);
+    if let Some(refusal) = refusal {
+        hint_at_word(alloc, command, refusal, words, &mut messages.stream);
+        hint_at_unknown_gate(refusal, hint, &mut messages.stream);
     }
 }
 
@@ -58,7 +43,8 @@ pub(crate) fn hint_after_fault<E: Write>(fault: &CommandFault, words: &[&str], e
     }
 }
 
-fn hint_after_refusal<E: Write>(
+/// Gives a hint if the word that is refused names a file or is almost an element.
+fn hint_at_word<E: Write>(
     alloc: Global,
     command: &str,
     refusal: &Refusal,
@@ -83,7 +69,7 @@ fn hint_after_refusal<E: Write>(
 }
 
 /// Says what could be meant if a word is refused because it names no gate.
-fn hint_after_unknown_gate<E: Write>(refusal: &Refusal, hint: &Option<NameHint>, err: &mut E) {
+fn hint_at_unknown_gate<E: Write>(refusal: &Refusal, hint: &Option<NameHint>, err: &mut E) {
     if let (Refusal::E49(_), Some(hint)) = (refusal, hint) {
         write_name_hint(hint, err);
     }

@@ -21,8 +21,9 @@ mod output_flush;
 mod output_lines;
 mod program;
 mod progress_report;
+mod question_parts;
 mod refusal;
-mod request_pattern;
+mod rejection;
 mod search_command;
 mod search_observer;
 mod specification_input;
@@ -30,16 +31,17 @@ mod unknown_gates;
 mod unknown_names;
 mod warning_lines;
 
-pub use arguments::{run_args, run_args_with_terminal};
+pub use arguments::run_args;
 pub use check_command::check_text;
-pub use ever_command::{ever, ever_with_progress};
+pub use ever_command::ever;
 pub use lotos_command::{
     CommandFault, DiagnoseRequest, EverRequest, Request, SearchRequest, request,
 };
 pub use lotos_device::{DeviceFailed, FromRead, FromWrite, Sink, Source};
 pub use lotos_search::{NoProgress, Progress};
+pub use messages::Messages;
 pub use outcome::{Ended, EverEnded, EverWhy, Why};
-pub use program::{answer_fault, report_check, report_ever, report_search, run, run_with_terminal};
+pub use program::{answer_fault, report_check, report_ever, report_search, run};
 pub use progress_report::OutputProgress;
 pub use refusal::Refusal;
-pub use search_command::{list, list_with_progress};
+pub use search_command::list;

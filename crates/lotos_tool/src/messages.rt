@@ -6,6 +6,14 @@ use itoa::Buffer;
 use std::fmt;
 use std::io::Write;
 
+/// Where messages go: standard error, or another stream in its place.
+#[derive(Drop)]
+pub struct Messages<E> {
+    pub stream: E,
+    /// Whether the stream is a terminal. There a report of progress is one line, which is renewed.
+    pub terminal: bool,
+}
+
 /// Reports why a command is refused.
 pub(crate) fn report_refusal<E: Write>(err: &mut E, refusal: &Refusal) {
     let _ = writeln!(err, "lotosseq: {refusal}");

@@ -14,6 +14,16 @@ pub enum Ended {
     Stopped { last: Option<String>, why: Why },
 }
 
+impl Ended {
+    /// Why the command is refused, if it is.
+    pub(crate) fn refusal(&self) -> Option<&Refusal> {
+        match self {
+            Ended::Refused(refusal) => Some(refusal),
+            _ => None,
+        }
+    }
+}
+
 /// Why a search or a check stopped. A check stops only for [`Why::Memory`] and [`Why::Write`].
 #[derive(Debug, Drop)]
 pub enum Why {
@@ -38,6 +48,16 @@ pub enum EverEnded {
     Refused(Refusal),
     /// The search or the output stopped, for this reason.
     Stopped(EverWhy),
+}
+
+impl EverEnded {
+    /// Why the command is refused, if it is.
+    pub(crate) fn refusal(&self) -> Option<&Refusal> {
+        match self {
+            EverEnded::Refused(refusal) => Some(refusal),
+            _ => None,
+        }
+    }
 }
 
 /// Why a search for a match of any length, or its output, stopped.

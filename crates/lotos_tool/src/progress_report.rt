@@ -1,6 +1,6 @@
 //! The progress of a search, as it is reported on standard error. Errors of the error stream are ignored.
 
-use crate::messages::NumberText;
+use crate::messages::{Messages, NumberText};
 use lotos_check::Checked;
 use lotos_search::{NoProgress, Progress};
 use std::fmt;
@@ -10,14 +10,14 @@ use std::io::Write;
 /// when a line is written.
 pub trait OutputProgress: Progress {
     /// Is told that the text is accepted, and its specification.
-    fn accepted(&mut self, text: &[u8], found: &Checked);
+    fn accepted(&mut self, text: &[u8], system: &Checked);
 
     /// Is told that a line of the output is written next.
     fn before_line(&mut self);
 }
 
 impl OutputProgress for NoProgress {
-    fn accepted(&mut self, _text: &[u8], _found: &Checked) {}
+    fn accepted(&mut self, _text: &[u8], _system: &Checked) {}
 
     fn before_line(&mut self) {}
 }
@@ -39,9 +39,7 @@ const MAX_INTERVAL: usize = 1 << 20;
 /// which is cleared before a line of the output; another stream has a line for each report.
 #[derive(Drop)]
 pub(crate) struct ProgressReport<'a, E> {
-    err: &'a mut E,
-    /// Whether the error stream is a terminal.
-    terminal: bool,
+    messages: &'a mut Messages<E>,
     /// Whether the terminal shows a report.
     shown: bool,
     counts: Counts,
@@ -51,10 +49,9 @@ pub(crate) struct ProgressReport<'a, E> {
 
 impl<'a, E: Write> ProgressReport<'a, E> {
     /// A report of a search that has visited nothing. Nothing is written yet.
-    pub fn new(err: &'a mut E, terminal: bool, visited: Visited) -> ProgressReport<'a, E> {
+    pub fn new(messages: &'a mut Messages<E>, visited: Visited) -> ProgressReport<'a, E> {
         ProgressReport {
-            err,
-            terminal,
+            messages,
             shown: false,
             counts: Counts {
                 visited,
@@ -68,7 +65,7 @@ impl<'a, E: Write> ProgressReport<'a, E> {
 
     /// The error stream.
     pub fn stream(&mut self) -> &mut E {
-        self.err
+        &mut self.messages.stream
     }
 
     /// Notes a visit of a prefix or a state of this length, and reports when it is time to.
@@ -90,19 +87,19 @@ impl<'a, E: Write> ProgressReport<'a, E> {
     /// Clears the line that a terminal shows.
     pub fn clear(&mut self) {
         if self.shown {
-            let _ = write!(self.err, "\r\x1b[K");
+            let _ = write!(self.messages.stream, "\r\x1b[K");
             self.shown = false;
         }
     }
 
     /// No number of a report ever falls, so a renewed line covers the one before.
     fn report(&mut self) {
-        let _ = if self.terminal {
-            write!(self.err, "\rlotosseq: {}", self.counts)
+        let _ = if self.messages.terminal {
+            write!(self.messages.stream, "\rlotosseq: {}", self.counts)
         } else {
-            writeln!(self.err, "lotosseq: {}", self.counts)
+            writeln!(self.messages.stream, "lotosseq: {}", self.counts)
         };
-        self.shown = self.terminal;
+        self.shown = self.messages.terminal;
     }
 }
 

@@ -1,4 +1,4 @@
-use Rattle.lotos_tool.proofs.RefusalCauses.{unread_answer}
+use Rattle.lotos_tool.proofs.Rejections.{unread_answer}
 use Rattle.lotos_tool.proofs.specification_input.read_specification.Goals as goal
 
 pub returns-clause-refused : goal.returns-clause-refused

@@ -10,7 +10,7 @@ use Rattle.lotos_command.specs.declared.command.DiagnoseRequest.{DiagnoseRequest
 use Rattle.lotos_command.specs.declared.command.EverRequest.{EverRequest}
 use Rattle.lotos_command.specs.declared.command.SearchRequest.{SearchRequest}
 use Rattle.lotos_tool.proofs.UnreadWords.{answered}
-use Rattle.lotos_tool.proofs.program.run_with_terminal.Goals as goal
+use Rattle.lotos_tool.proofs.program.run.Goals as goal
 
 module _ (words : List (List ℕ)) (left left' got got' : Option (List ℕ)) (broken : Bool) (status : ℕ) where
   searched : (asked : Request) (request : SearchRequest) → SearchReported request left left' got got' broken status → asked ≡ one.Search request
