@@ -17,9 +17,9 @@ use Rattle.lotos_tool.specs.RefusalCauses.{IsInputRefusal}
 use Rattle.lotos_tool.specs.Rejections.{IsRejectionBy, end_of, is_input_failure}
 use Rattle.lotos_tool.specs.SearchParts.{IsFinished}
 use Rattle.lotos_tool.specs.QuestionParts.{ReadsAccepted}
-use Rattle.lotos_tool.specs.declared.outcome.Ended.{Ended}
-use Rattle.lotos_tool.specs.declared.outcome.Ended.TheVariants.{Complete, Refused, Stopped}
-use Rattle.lotos_tool.specs.declared.outcome.Why.TheVariants as why
+use Rattle.lotos_report.specs.declared.outcome.Ended.{Ended}
+use Rattle.lotos_report.specs.declared.outcome.Ended.TheVariants.{Complete, Refused, Stopped}
+use Rattle.lotos_report.specs.declared.outcome.Why.TheVariants as why
 use Rattle.lotos_tool.specs.declared.rejection.Rejection.{Rejection}
 use Rattle.lotos_tool.specs.declared.rejection.Rejection.TheVariants as rejection
 use Rattle.lotos_tool.proofs.Rejections.{taken_all, text_was_read, unread}

@@ -14,9 +14,9 @@ use Rattle.lotos_tool.specs.EverParts.{HasLine, IsEndWithoutMatch, IsEverQuestio
 use Rattle.lotos_tool.specs.QuestionParts.{ReadsAccepted, words_of}
 use Rattle.lotos_tool.specs.RefusalCauses.{IsInputRefusal, IsRefusal}
 use Rattle.lotos_tool.specs.Rejections.{IsGateRejection, IsPatternRejection, IsRejectionBy, ever_end_of}
-use Rattle.lotos_tool.specs.declared.outcome.EverEnded.{EverEnded}
-use Rattle.lotos_tool.specs.declared.outcome.EverEnded.TheVariants.{Matched, NoMatch, Refused, Stopped}
-use Rattle.lotos_tool.specs.declared.outcome.EverWhy.TheVariants as why
+use Rattle.lotos_report.specs.declared.outcome.EverEnded.{EverEnded}
+use Rattle.lotos_report.specs.declared.outcome.EverEnded.TheVariants.{Matched, NoMatch, Refused, Stopped}
+use Rattle.lotos_report.specs.declared.outcome.EverWhy.TheVariants as why
 use Rattle.lotos_tool.specs.declared.rejection.Rejection.{Rejection}
 use Rattle.lotos_tool.specs.declared.rejection.Rejection.TheVariants as rejection
 use Rattle.lotos_command.specs.declared.command.EverRequest.{EverRequest}

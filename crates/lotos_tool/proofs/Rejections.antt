@@ -24,8 +24,8 @@ use Rattle.lotos_tool.specs.Rejections.IsGateRejection.{gate_memory, no_gate}
 use Rattle.lotos_tool.specs.Rejections.IsMarkRejection.{mark_memory, no_mark}
 use Rattle.lotos_tool.specs.Rejections.IsPatternRejection.{no_pattern, pattern_memory}
 use Rattle.lotos_tool.specs.UnknownGates.{IsFirstUnknownGate}
-use Rattle.lotos_tool.specs.declared.refusal.Refusal.{Refusal}
-use Rattle.lotos_tool.specs.declared.refusal.Refusal.TheVariants as refusal
+use Rattle.lotos_report.specs.declared.refusal.Refusal.{Refusal}
+use Rattle.lotos_report.specs.declared.refusal.Refusal.TheVariants as refusal
 use Rattle.lotos_tool.specs.declared.rejection.Rejection.{Rejection}
 use Rattle.lotos_tool.specs.declared.rejection.Rejection.TheVariants.{Refused, Memory}
 

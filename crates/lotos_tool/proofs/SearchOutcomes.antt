@@ -17,13 +17,13 @@ use Rattle.lotos_tool.specs.Rejections.{IsGateRejection, IsMarkRejection, IsPatt
 use Rattle.lotos_tool.specs.Rejections.IsMarkRejection.{mark_memory, no_mark}
 use Rattle.lotos_tool.specs.SearchOutcome.{AreSearchParts, IsQuestionOfText, SearchOutcome}
 use Rattle.lotos_tool.specs.SearchParts.{IsOutcomeFor, IsSearchFor, ListingOutcome}
-use Rattle.lotos_tool.specs.declared.refusal.Refusal.{Refusal}
-use Rattle.lotos_tool.specs.declared.refusal.Refusal.TheVariants as refusal
+use Rattle.lotos_report.specs.declared.refusal.Refusal.{Refusal}
+use Rattle.lotos_report.specs.declared.refusal.Refusal.TheVariants as refusal
 use Rattle.lotos_tool.specs.declared.rejection.Rejection.{Rejection}
 use Rattle.lotos_tool.specs.declared.rejection.Rejection.TheVariants as rejection
-use Rattle.lotos_tool.specs.declared.outcome.Ended.{Ended}
-use Rattle.lotos_tool.specs.declared.outcome.Ended.TheVariants.{Complete, Refused, Stopped}
-use Rattle.lotos_tool.specs.declared.outcome.Why.TheVariants as why
+use Rattle.lotos_report.specs.declared.outcome.Ended.{Ended}
+use Rattle.lotos_report.specs.declared.outcome.Ended.TheVariants.{Complete, Refused, Stopped}
+use Rattle.lotos_report.specs.declared.outcome.Why.TheVariants as why
 use Rattle.lotos_command.specs.declared.command.SearchRequest.{SearchRequest}
 use Rattle.lotos_tool.proofs.Rejections.{gate_means, input_means, nothing_taken, pattern_means, taken_all}
 

@@ -13,9 +13,9 @@ use Rattle.lotos_device.specs.ByteOutput.{AppendsBeginning}
 use Rattle.lotos_tool.specs.EverOutcome.{IsMatchWritten, IsMatchLineCut, IsNoMatch, IsTooManyStates, item_of}
 use Rattle.lotos_tool.specs.OutputLines.{line_of}
 use Rattle.lotos_tool.specs.QuestionParts.{ForQuestion}
-use Rattle.lotos_tool.specs.declared.outcome.EverEnded.{EverEnded}
-use Rattle.lotos_tool.specs.declared.outcome.EverEnded.TheVariants.{Matched, NoMatch, Refused, Stopped}
-use Rattle.lotos_tool.specs.declared.outcome.EverWhy.TheVariants as why
+use Rattle.lotos_report.specs.declared.outcome.EverEnded.{EverEnded}
+use Rattle.lotos_report.specs.declared.outcome.EverEnded.TheVariants.{Matched, NoMatch, Refused, Stopped}
+use Rattle.lotos_report.specs.declared.outcome.EverWhy.TheVariants as why
 use Rattle.lotos_command.specs.declared.command.EverRequest.{EverRequest}
 
 -- the question is about this system and this pattern
@@ -53,8 +53,10 @@ IsEndWithoutMatch got got' _ = ⊥
 
 -- what each outcome of a search for a match of the pattern in the system means
 abbrev pub IsOutcomeFor : EverRequest → System → Pattern → Option (List ℕ) → Option (List ℕ) → EverEnded → Type 0
-IsOutcomeFor request system p got got' Matched = ForQuestion (IsEverQuestionFor system p) (λ q. IsMatchWritten request q got got')
-IsOutcomeFor request system p got got' NoMatch = ForQuestion (IsEverQuestionFor system p) (λ q. IsNoMatch request q got got')
+IsOutcomeFor request system p got got' Matched =
+    ForQuestion (IsEverQuestionFor system p) (λ q. IsMatchWritten request q got got')
+IsOutcomeFor request system p got got' NoMatch =
+    ForQuestion (IsEverQuestionFor system p) (λ q. IsNoMatch request q got got')
 IsOutcomeFor request system p got got' (Refused cause) = ⊥
 IsOutcomeFor request system p got got' (Stopped why.TooManyStates) =
     ForQuestion (IsEverQuestionFor system p) (λ q. IsTooManyStates request q got got')

@@ -11,15 +11,15 @@ use Rattle.lotos_tool.specs.OutcomeFlags.{is_input_fault}
 use Rattle.lotos_command.specs.CommandFaults.{AreAccepted, AreRejected, AskForHelp}
 use Rattle.lotos_command.specs.Request.{RequestOf, request_view}
 use Rattle.lotos_device.specs.ByteOutput.{AppendsBeginning}
-use Rattle.lotos_tool.specs.declared.outcome.Ended.{Ended}
-use Rattle.lotos_tool.specs.declared.outcome.Ended.TheVariants.{Complete, Refused, Stopped}
-use Rattle.lotos_tool.specs.declared.outcome.Why.{Why}
-use Rattle.lotos_tool.specs.declared.outcome.Why.TheVariants as why
+use Rattle.lotos_report.specs.declared.outcome.Ended.{Ended}
+use Rattle.lotos_report.specs.declared.outcome.Ended.TheVariants.{Complete, Refused, Stopped}
+use Rattle.lotos_report.specs.declared.outcome.Why.{Why}
+use Rattle.lotos_report.specs.declared.outcome.Why.TheVariants as why
 use Rattle.lotos_tool.specs.EverOutcome.{EverOutcome, is_ever_input_fault}
-use Rattle.lotos_tool.specs.declared.outcome.EverEnded.{EverEnded}
-use Rattle.lotos_tool.specs.declared.outcome.EverEnded.TheVariants as ever
-use Rattle.lotos_tool.specs.declared.outcome.EverWhy.{EverWhy}
-use Rattle.lotos_tool.specs.declared.outcome.EverWhy.TheVariants as ever_why
+use Rattle.lotos_report.specs.declared.outcome.EverEnded.{EverEnded}
+use Rattle.lotos_report.specs.declared.outcome.EverEnded.TheVariants as ever
+use Rattle.lotos_report.specs.declared.outcome.EverWhy.{EverWhy}
+use Rattle.lotos_report.specs.declared.outcome.EverWhy.TheVariants as ever_why
 use Rattle.lotos_command.specs.declared.command.SearchRequest.{SearchRequest}
 use Rattle.lotos_command.specs.declared.command.DiagnoseRequest.{DiagnoseRequest}
 use Rattle.lotos_command.specs.declared.command.EverRequest.{EverRequest}
@@ -42,8 +42,8 @@ status_of (Refused cause) = 2
 status_of (Stopped last cause) = stop_status_of cause
 
 -- a command had an outcome, and the status is that of the outcome
-pub record Reported (Outcome : Type 0) (Means : Outcome → Type 0) (is_fault : Outcome → Bool) (its_status : Outcome → ℕ) (failed : Bool)
-    (status : ℕ) : Type 0 where
+pub record Reported (Outcome : Type 0) (Means : Outcome → Type 0) (is_fault : Outcome → Bool) (its_status : Outcome → ℕ)
+    (failed : Bool) (status : ℕ) : Type 0 where
   pub ended : Outcome
   pub answered : Means ended
   -- the reader failed exactly if the outcome says so
@@ -51,7 +51,7 @@ pub record Reported (Outcome : Type 0) (Means : Outcome → Type 0) (is_fault : 
   pub status_is : status ≡ its_status ended
 
 -- a search had an outcome, and the status is that of the outcome
-abbrev pub SearchReported : SearchRequest → (left left' got got' : Option (List ℕ)) → (failed : Bool) → (status : ℕ) → Type 0
+abbrev pub SearchReported : SearchRequest → (left left' got got' : Option (List ℕ)) → Bool → ℕ → Type 0
 SearchReported request left left' got got' failed status =
     Reported Ended (SearchOutcome request left left' got got') is_input_fault status_of failed status
 
@@ -74,7 +74,7 @@ AskForCheck words =
     ⊎ ((request : DiagnoseRequest) × RequestOf words (request_view (command.Diagnose request)))
 
 -- a check had an outcome, and the status is that of the outcome
-abbrev pub CheckReported : (left left' got got' : Option (List ℕ)) → (failed : Bool) → (status : ℕ) → Type 0
+abbrev pub CheckReported : (left left' got got' : Option (List ℕ)) → Bool → ℕ → Type 0
 CheckReported left left' got got' failed status =
     Reported Ended (CheckOutcome left left' got got') is_input_fault check_status_of failed status
 
@@ -113,7 +113,7 @@ ever_status_of (ever.Refused cause) = 2
 ever_status_of (ever.Stopped cause) = ever_stop_status_of cause
 
 -- a search for a match had an outcome, and the status is that of the outcome
-abbrev pub EverReported : EverRequest → (left left' got got' : Option (List ℕ)) → (failed : Bool) → (status : ℕ) → Type 0
+abbrev pub EverReported : EverRequest → (left left' got got' : Option (List ℕ)) → Bool → ℕ → Type 0
 EverReported request left left' got got' failed status =
     Reported EverEnded (EverOutcome request left left' got got') is_ever_input_fault ever_status_of failed status
 

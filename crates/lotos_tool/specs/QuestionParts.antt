@@ -28,8 +28,8 @@ pub record ReadsAccepted (left left' : Option (List ℕ)) (system : System) : Ty
   pub accepted : Accepted text system
 
 -- all that the reader had left was read, and is accepted as this system, and the words spell this pattern
-pub record ReadsQuestion (strong : Bool) (words : List (List ℕ)) (left left' : Option (List ℕ)) (system : System) (p : Pattern)
-    : Type 0 where
+pub record ReadsQuestion (strong : Bool) (words : List (List ℕ)) (left left' : Option (List ℕ)) (system : System)
+    (p : Pattern) : Type 0 where
   pub read : ReadsAccepted left left' system
   pub spelled : PatternOf strong words p
 

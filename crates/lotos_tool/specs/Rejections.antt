@@ -12,14 +12,14 @@ use Rattle.lotos_search.specs.declared.fault.MarkFault.TheVariants as mark_fault
 use Rattle.lotos_device.specs.TextInput.{TakesAtMost}
 use Rattle.lotos_tool.specs.RefusalCauses.{IsCheckFault, IsPatternRefused, IsTextFault, is_memory}
 use Rattle.lotos_tool.specs.UnknownGates.{IsFirstUnknownGate}
-use Rattle.lotos_tool.specs.declared.outcome.Ended.{Ended}
-use Rattle.lotos_tool.specs.declared.outcome.Ended.TheVariants as ended
-use Rattle.lotos_tool.specs.declared.outcome.Why.TheVariants as why
-use Rattle.lotos_tool.specs.declared.outcome.EverEnded.{EverEnded}
-use Rattle.lotos_tool.specs.declared.outcome.EverEnded.TheVariants as ever
-use Rattle.lotos_tool.specs.declared.outcome.EverWhy.TheVariants as ever_why
-use Rattle.lotos_tool.specs.declared.refusal.Refusal.{Refusal}
-use Rattle.lotos_tool.specs.declared.refusal.Refusal.TheVariants as refusal
+use Rattle.lotos_report.specs.declared.outcome.Ended.{Ended}
+use Rattle.lotos_report.specs.declared.outcome.Ended.TheVariants as ended
+use Rattle.lotos_report.specs.declared.outcome.Why.TheVariants as why
+use Rattle.lotos_report.specs.declared.outcome.EverEnded.{EverEnded}
+use Rattle.lotos_report.specs.declared.outcome.EverEnded.TheVariants as ever
+use Rattle.lotos_report.specs.declared.outcome.EverWhy.TheVariants as ever_why
+use Rattle.lotos_report.specs.declared.refusal.Refusal.{Refusal}
+use Rattle.lotos_report.specs.declared.refusal.Refusal.TheVariants as refusal
 use Rattle.lotos_tool.specs.declared.rejection.Rejection.{Rejection}
 use Rattle.lotos_tool.specs.declared.rejection.Rejection.TheVariants.{Refused, Memory}
 
@@ -34,7 +34,8 @@ IsRejection text Memory = Unit {0}
 
 -- what a rejection means, if `Means` is what a refusal means: that, or memory ran out, and at most one byte more than a
 -- text may have was taken from the reader
-abbrev pub IsRejectionBy : (Means : Option (List ℕ) → Option (List ℕ) → Refusal → Type 0) → Option (List ℕ) → Option (List ℕ) → Rejection → Type 0
+abbrev pub IsRejectionBy : (Means : Option (List ℕ) → Option (List ℕ) → Refusal → Type 0) → (left left' : Option (List ℕ)) →
+    Rejection → Type 0
 IsRejectionBy Means left left' (Refused cause) = Means left left' cause
 IsRejectionBy Means left left' Memory = TakesAtMost left left' (max_text_length + 1)
 

@@ -4,11 +4,10 @@ ghost use Rattle.std.specs.Vec.Iter.{into_iter_items};
 ghost use Rattle.lotos_text.specs.Limits.{max_text_length};
 ghost use Rattle.lotos_tool.specs.ProgramRuns.{NoArgumentRead, Ran};
 
-use crate::messages::{Messages, report_failure};
-use crate::outcome::Why;
 use crate::program::run;
 use crate::question_parts::borrow_texts;
 use lotos_device::{Sink, Source};
+use lotos_report::{Messages, Why, report_failure};
 use std::alloc::{AllocError, Global};
 use std::env::Args;
 use std::io::{self, Write};

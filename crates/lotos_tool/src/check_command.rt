@@ -5,13 +5,13 @@ ghost use Rattle.lotos_check.specs.CheckedView.{system_of};
 ghost use Rattle.lotos_tool.specs.CheckOutcome.{CheckOutcome, ProcessesOutcome};
 ghost use Rattle.lotos_tool.specs.OutcomeFlags.{is_input_fault, is_output_fault};
 
-use crate::outcome::{Ended, Why};
 use crate::output_flush::flush_complete;
 use crate::output_lines::format_processes;
 use crate::rejection::end_of;
 use crate::specification_input::read_specification;
 use lotos_check::Checked;
 use lotos_device::{DeviceFailed, Sink, Source, write_bytes};
+use lotos_report::{Ended, Why};
 use lotos_search::NoProgress;
 use std::alloc::Global;
 

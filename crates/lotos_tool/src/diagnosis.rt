@@ -7,16 +7,14 @@ ghost use Rattle.lotos_tool.specs.ProgramRuns.{CheckReported, ProcessesReported,
 ghost use Rattle.lotos_tool.specs.Rejections.{end_of};
 
 use crate::check_command::write_processes;
-use crate::outcome::Ended;
 use crate::program::report_check;
-use crate::refusal::Refusal;
 use crate::rejection::{Rejection, end_of};
 use crate::specification_input::{accept_text, read_input};
-use crate::warning_lines::write_warnings;
 use lotos_check::Checked;
 use lotos_command::DiagnoseRequest;
 use lotos_device::{Sink, Source};
 use lotos_explain::{explain_check_fault, explain_text_fault};
+use lotos_report::{Ended, Refusal, write_warnings};
 use lotos_warn::warnings;
 use std::alloc::Global;
 use std::io::Write;

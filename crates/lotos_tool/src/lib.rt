@@ -12,24 +12,19 @@ mod arguments;
 mod check_command;
 mod diagnosis;
 mod ever_command;
-mod hints;
 mod label_texts;
 mod listing_output;
-mod messages;
-mod outcome;
 mod output_flush;
 mod output_lines;
+mod output_progress;
 mod program;
-mod progress_report;
 mod question_parts;
-mod refusal;
 mod rejection;
 mod search_command;
 mod search_observer;
 mod specification_input;
 mod unknown_gates;
 mod unknown_names;
-mod warning_lines;
 
 pub use arguments::run_args;
 pub use check_command::check_text;
@@ -38,10 +33,8 @@ pub use lotos_command::{
     CommandFault, DiagnoseRequest, EverRequest, Request, SearchRequest, request,
 };
 pub use lotos_device::{DeviceFailed, FromRead, FromWrite, Sink, Source};
+pub use lotos_report::{Ended, EverEnded, EverWhy, Messages, Refusal, Why};
 pub use lotos_search::{NoProgress, Progress};
-pub use messages::Messages;
-pub use outcome::{Ended, EverEnded, EverWhy, Why};
+pub use output_progress::OutputProgress;
 pub use program::{answer_fault, report_check, report_ever, report_search, run};
-pub use progress_report::OutputProgress;
-pub use refusal::Refusal;
 pub use search_command::list;

@@ -10,12 +10,12 @@ ghost use Rattle.lotos_tool.specs.SearchParts.{ListingOutcome, IsHalt, IsHaltCau
 ghost use Rattle.lotos_device.specs.ByteOutput.{AppendsPart};
 ghost use Rattle.lotos_tool.specs.WriteFaults.{is_write_fault};
 
-use crate::outcome::{Ended, Why};
 use crate::output_flush::{flush_complete, flush_stopped};
 use crate::output_lines::{format_line, format_sequence};
-use crate::progress_report::OutputProgress;
+use crate::output_progress::OutputProgress;
 use lotos_command::SearchRequest;
 use lotos_device::{DeviceFailed, Sink, write_bytes};
+use lotos_report::{Ended, Why};
 use lotos_search::laws::{items_decrease_remaining, strict_order};
 use lotos_search::{Found, Halt, Search};
 use lotos_terms::Label;

@@ -9,18 +9,15 @@ ghost use Rattle.lotos_tool.specs.ProgramRuns.{EverReported, HelpWritten, IsAnsw
 use crate::check_command::check_text;
 use crate::diagnosis::diagnose;
 use crate::ever_command::ever;
-use crate::hints::{hint_after_fault, hint_after_refusal};
-use crate::messages::{
-    Messages, report_ever_stop, report_failure, report_no_match, report_refusal, report_stop,
-    report_text,
-};
-use crate::outcome::{Ended, EverEnded, EverWhy, Why};
 use crate::output_flush::write_and_flush;
-use crate::progress_report::Visited;
 use crate::search_command::list;
 use crate::search_observer::{Observed, SearchObserver};
 use lotos_command::{CommandFault, EverRequest, Request, SearchRequest, request};
 use lotos_device::{DeviceFailed, Sink, Source};
+use lotos_report::{
+    Ended, EverEnded, EverWhy, Messages, Visited, Why, hint_after_fault, hint_after_refusal,
+    report_ever_stop, report_failure, report_no_match, report_refusal, report_stop, report_text,
+};
 use std::alloc::Global;
 use std::io::Write;
 

@@ -6,11 +6,11 @@ ghost use Rattle.lotos_tool.specs.QuestionParts.{IsMarkOf, words_of};
 ghost use Rattle.lotos_tool.specs.Rejections.{IsGateRejection, IsMarkRejection, IsPatternRejection, is_input_failure};
 ghost use Rattle.lotos_tool.specs.UnknownGates.{HasNoUnknownGate};
 
-use crate::refusal::Refusal;
 use crate::rejection::Rejection;
 use crate::unknown_gates::first_unknown_gate_of;
 use lotos_check::Checked;
 use lotos_pattern::Pattern;
+use lotos_report::Refusal;
 use lotos_search::Mark;
 use std::alloc::{AllocError, Global};
 

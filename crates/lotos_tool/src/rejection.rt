@@ -3,9 +3,8 @@ ghost use Rattle.std.specs.Prelude.{◌≡◌};
 ghost use Rattle.lotos_tool.specs.RefusalCauses.{is_memory};
 ghost use Rattle.lotos_tool.specs.Rejections.{end_of, ever_end_of};
 
-use crate::outcome::{Ended, EverEnded, EverWhy, Why};
-use crate::refusal::Refusal;
 use lotos_pattern::PatternFault;
+use lotos_report::{Ended, EverEnded, EverWhy, Refusal, Why};
 use lotos_search::MarkFault;
 use std::alloc::AllocError;
 

@@ -1,9 +1,9 @@
 //! The observer of a command that searches. What it writes to the error stream changes neither output nor status.
 
-use crate::messages::Messages;
-use crate::progress_report::{OutputProgress, ProgressReport, Visited};
-use crate::unknown_names::{NameHint, first_name_hint, warn_of_names};
+use crate::output_progress::OutputProgress;
+use crate::unknown_names::unknown_names;
 use lotos_check::Checked;
+use lotos_report::{Messages, NameHint, ProgressReport, Visited, first_name_hint, warn_of_names};
 use lotos_search::Progress;
 use std::alloc::Global;
 use std::io::Write;
@@ -63,13 +63,16 @@ impl<E: Write> Progress for SearchObserver<'_, '_, E> {
 
 impl<E: Write> OutputProgress for SearchObserver<'_, '_, E> {
     fn accepted(&mut self, text: &[u8], system: &Checked) {
-        let words = self.observed.words;
+        let Ok(names) = unknown_names(self.alloc, self.observed.words, system.gates()) else {
+            return;
+        };
+        let names = names.as_slice();
         if self.observed.refuses_unknown {
-            self.hint = first_name_hint(self.alloc, words, system.gates(), text);
+            self.hint = first_name_hint(self.alloc, names, system.gates(), text);
         } else {
             warn_of_names(
                 self.alloc,
-                words,
+                names,
                 system.gates(),
                 text,
                 self.progress.stream(),

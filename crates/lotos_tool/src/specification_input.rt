@@ -9,11 +9,11 @@ ghost use Rattle.lotos_tool.specs.RefusalCauses.{IsInputRefusal, IsPositionOf};
 ghost use Rattle.lotos_device.specs.TextInput.{ReadsAll};
 ghost use Rattle.lotos_tool.specs.Rejections.{IsRejection, IsRejectionBy, is_input_failure};
 
-use crate::progress_report::OutputProgress;
-use crate::refusal::Refusal;
+use crate::output_progress::OutputProgress;
 use crate::rejection::Rejection;
 use lotos_check::{AcceptFault, CheckFault, Checked, accept};
 use lotos_device::{ReadFault, Source, read_text};
+use lotos_report::Refusal;
 use lotos_text::{TEXT_LIMIT, TextFault, line_column};
 use std::alloc::Global;
 

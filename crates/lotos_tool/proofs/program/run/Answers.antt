@@ -3,7 +3,7 @@ use Rattle.lotos_tool.specs.CheckOutcome.{CheckOutcome}
 use Rattle.lotos_tool.specs.OutcomeFlags.{is_input_fault}
 use Rattle.lotos_command.specs.Request.{RequestOf, request_view}
 use Rattle.lotos_tool.specs.ProgramRuns.{CheckRan, CheckReported, EverRan, EverReported, SearchRan, SearchReported, check_status_of}
-use Rattle.lotos_tool.specs.declared.outcome.Ended.{Ended}
+use Rattle.lotos_report.specs.declared.outcome.Ended.{Ended}
 use Rattle.lotos_command.specs.declared.command.Request.{Request}
 use Rattle.lotos_command.specs.declared.command.Request.TheVariants as one
 use Rattle.lotos_command.specs.declared.command.DiagnoseRequest.{DiagnoseRequest}

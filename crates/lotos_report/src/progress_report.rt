@@ -1,30 +1,12 @@
 //! The progress of a search, as it is reported on standard error. Errors of the error stream are ignored.
 
 use crate::messages::{Messages, NumberText};
-use lotos_check::Checked;
-use lotos_search::{NoProgress, Progress};
 use std::fmt;
 use std::io::Write;
 
-/// An observer of a command that searches. It is told when a specification is accepted, what the search visits, and
-/// when a line is written.
-pub trait OutputProgress: Progress {
-    /// Is told that the text is accepted, and its specification.
-    fn accepted(&mut self, text: &[u8], system: &Checked);
-
-    /// Is told that a line of the output is written next.
-    fn before_line(&mut self);
-}
-
-impl OutputProgress for NoProgress {
-    fn accepted(&mut self, _text: &[u8], _system: &Checked) {}
-
-    fn before_line(&mut self) {}
-}
-
 /// What a search visits.
 #[derive(Clone, Copy, Debug)]
-pub(crate) enum Visited {
+pub enum Visited {
     Prefixes,
     States,
 }
@@ -38,7 +20,7 @@ const MAX_INTERVAL: usize = 1 << 20;
 /// Reports to an error stream how far a search is. A terminal has one line, which is renewed, and
 /// which is cleared before a line of the output; another stream has a line for each report.
 #[derive(Drop)]
-pub(crate) struct ProgressReport<'a, E> {
+pub struct ProgressReport<'a, E> {
     messages: &'a mut Messages<E>,
     /// Whether the terminal shows a report.
     shown: bool,

@@ -6,7 +6,7 @@ use std::io::Write;
 
 /// Writes a line for each warning about the text. The warnings are in the order of their offsets, so the text is read
 /// once.
-pub(crate) fn write_warnings<E: Write>(err: &mut E, text: &[u8], warnings: &[Warning]) {
+pub fn write_warnings<E: Write>(err: &mut E, text: &[u8], warnings: &[Warning]) {
     let mut position = Position {
         at: 0,
         line: 1,

@@ -15,13 +15,13 @@ pub struct Messages<E> {
 }
 
 /// Reports why a command is refused.
-pub(crate) fn report_refusal<E: Write>(err: &mut E, refusal: &Refusal) {
+pub fn report_refusal<E: Write>(err: &mut E, refusal: &Refusal) {
     let _ = writeln!(err, "lotosseq: {refusal}");
 }
 
 /// Reports after which sequence a listing stopped, if a line was written, and why. `terms` is the bound on the terms of
 /// a prefix.
-pub(crate) fn report_stop<E: Write>(err: &mut E, last: &Option<String>, why: &Why, terms: usize) {
+pub fn report_stop<E: Write>(err: &mut E, last: &Option<String>, why: &Why, terms: usize) {
     let cause = CauseText { why, terms };
     let _ = match last {
         Some(sequence) => writeln!(err, "lotosseq: stopped after {sequence}: {cause}"),
@@ -30,17 +30,17 @@ pub(crate) fn report_stop<E: Write>(err: &mut E, last: &Option<String>, why: &Wh
 }
 
 /// Reports why a run without a listing failed.
-pub(crate) fn report_failure<E: Write>(err: &mut E, why: &Why) {
+pub fn report_failure<E: Write>(err: &mut E, why: &Why) {
     let _ = writeln!(err, "lotosseq: {}", CauseText { why, terms: 0 });
 }
 
 /// Reports that there is no match of any length.
-pub(crate) fn report_no_match<E: Write>(err: &mut E) {
+pub fn report_no_match<E: Write>(err: &mut E) {
     let _ = writeln!(err, "lotosseq: it happens at no depth");
 }
 
 /// Reports why a search for a match stopped. `states` is the bound on the product states.
-pub(crate) fn report_ever_stop<E: Write>(err: &mut E, why: &EverWhy, states: usize) {
+pub fn report_ever_stop<E: Write>(err: &mut E, why: &EverWhy, states: usize) {
     match why {
         EverWhy::TooManyStates => {
             let _ = writeln!(
@@ -55,7 +55,7 @@ pub(crate) fn report_ever_stop<E: Write>(err: &mut E, why: &EverWhy, states: usi
 }
 
 /// Writes a text as it is, with its own line feeds.
-pub(crate) fn report_text<E: Write>(err: &mut E, text: &str) {
+pub fn report_text<E: Write>(err: &mut E, text: &str) {
     let _ = write!(err, "{text}");
 }
 
@@ -81,7 +81,7 @@ impl fmt::Display for CauseText<'_> {
 
 /// A number in decimal digits.
 #[derive(Clone, Copy, Debug)]
-pub(crate) struct NumberText(pub usize);
+pub struct NumberText(pub usize);
 
 impl fmt::Display for NumberText {
     fn fmt<W: fmt::Write>(&self, f: &mut fmt::Formatter<W>) -> fmt::Result {
@@ -92,7 +92,7 @@ impl fmt::Display for NumberText {
 
 /// `line:column: ` before a message, or nothing.
 #[derive(Clone, Copy, Debug)]
-pub(crate) struct PositionText(pub Option<(usize, usize)>);
+pub struct PositionText(pub Option<(usize, usize)>);
 
 impl fmt::Display for PositionText {
     fn fmt<W: fmt::Write>(&self, f: &mut fmt::Formatter<W>) -> fmt::Result {

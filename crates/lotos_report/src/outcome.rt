@@ -16,7 +16,7 @@ pub enum Ended {
 
 impl Ended {
     /// Why the command is refused, if it is.
-    pub(crate) fn refusal(&self) -> Option<&Refusal> {
+    pub fn refusal(&self) -> Option<&Refusal> {
         match self {
             Ended::Refused(refusal) => Some(refusal),
             _ => None,
@@ -52,7 +52,7 @@ pub enum EverEnded {
 
 impl EverEnded {
     /// Why the command is refused, if it is.
-    pub(crate) fn refusal(&self) -> Option<&Refusal> {
+    pub fn refusal(&self) -> Option<&Refusal> {
         match self {
             EverEnded::Refused(refusal) => Some(refusal),
             _ => None,

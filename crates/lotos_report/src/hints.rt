@@ -2,8 +2,8 @@
 //! a word is almost an element, or a name is no gate. A hint for which there is no memory is left out.
 
 use crate::messages::{Messages, NumberText};
+use crate::name_hints::{NameHint, write_name_hint};
 use crate::refusal::Refusal;
-use crate::unknown_names::{NameHint, write_name_hint};
 use lotos_command::CommandFault;
 use lotos_pattern::PatternFault;
 use std::alloc::{AllocError, Global};
@@ -21,7 +21,7 @@ const LONGEST: usize = 16;
 
 /// Gives a hint if a command is refused for a word that names a file, that is almost an element, or that names no gate:
 /// for the last `hint` is what could be meant. `command` is the command's own words.
-pub(crate) fn hint_after_refusal<E: Write>(
+pub fn hint_after_refusal<E: Write>(
     alloc: Global,
     command: &str,
     refusal: Option<&Refusal>,
@@ -37,7 +37,7 @@ pub(crate) fn hint_after_refusal<E: Write>(
 
 /// Gives the hint if the words fit no command and are those of a check and a file. The first of them is the program's
 /// own name.
-pub(crate) fn hint_after_fault<E: Write>(fault: &CommandFault, words: &[&str], err: &mut E) {
+pub fn hint_after_fault<E: Write>(fault: &CommandFault, words: &[&str], err: &mut E) {
     if matches!(fault, CommandFault::Wrong(_)) && is_check_of_file(words) {
         write_hint("check", err);
     }
