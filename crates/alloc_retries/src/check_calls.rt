@@ -1,7 +1,7 @@
 //! Texts of specifications: their ASTs, their systems, and the steps, the normal forms and the regrouping of their terms.
 
 use crate::ast_lines::write_definition;
-use crate::front_end::{accepted, parsed, table_of};
+use crate::front_end::{accepted, normal_table_of, parsed};
 use crate::lines::Line;
 use crate::retry_heap::{Heap, Stop};
 use crate::system_lines::{write_fault, write_system};
@@ -106,7 +106,7 @@ fn copied(heap: &mut Heap, name: &Name) -> Result<Name, AllocError> {
 /// Writes the steps of the first terms of a system, then the same once more, then the normal forms, and then what the
 /// terms are regrouped to.
 fn follow(rt: &impl Print, heap: &mut Heap, text: &str) -> Result<(), Stop> {
-    let table = table_of(heap, text)?;
+    let table = normal_table_of(heap, text)?;
     let mut explored = Explored::new(heap, table)?;
     follow_steps(rt, heap, &mut explored)?;
     follow_forms(rt, heap, &mut explored)?;

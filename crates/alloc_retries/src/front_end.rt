@@ -2,6 +2,7 @@
 
 use crate::retry_heap::{Heap, Stop};
 use lotos_check::{AcceptFault, Checked, accept};
+use lotos_normal::NormalTable;
 use lotos_terms::Table;
 use lotos_text::{Specification, TextFault, parse};
 use std::alloc::{AllocError, Global};
@@ -21,9 +22,9 @@ pub fn accepted(heap: &mut Heap, text: &str) -> Result<Checked, AcceptFault> {
     match accept(heap.alloc, text.as_bytes()) {
         Err(AcceptFault::Memory) => {
             heap.count_failure();
-            accept(heap.alloc, text.as_bytes())
+            Ok(accept(heap.alloc, text.as_bytes())?.system)
         }
-        answer => answer,
+        answer => Ok(answer?.system),
     }
 }
 
@@ -45,4 +46,24 @@ fn table_once(heap: &mut Heap, text: &str) -> Result<Box<Table>, Stop> {
 
 fn boxed_table(alloc: Global, system: Checked) -> Result<Box<Table>, AllocError> {
     Ok(Box::new(alloc, Table::new(alloc, system)?)?)
+}
+
+/// The normal table of a text.
+pub fn normal_table_of(heap: &mut Heap, text: &str) -> Result<Box<NormalTable>, Stop> {
+    match normal_table_once(heap, text) {
+        Err(Stop::Memory) => {
+            heap.count_failure();
+            normal_table_once(heap, text)
+        }
+        answer => answer,
+    }
+}
+
+fn normal_table_once(heap: &mut Heap, text: &str) -> Result<Box<NormalTable>, Stop> {
+    let system = accepted(heap, text)?;
+    Ok(boxed_normal_table(heap.alloc, system)?)
+}
+
+fn boxed_normal_table(alloc: Global, system: Checked) -> Result<Box<NormalTable>, AllocError> {
+    Ok(Box::new(alloc, NormalTable::new(alloc, system)?)?)
 }

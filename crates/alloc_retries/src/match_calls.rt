@@ -3,13 +3,14 @@ ghost use Rattle.std.specs.Prelude.{IfOk};
 ghost use Rattle.lotos_terms.specs.TableView.{AreLabels};
 ghost use Rattle.lotos_ever.specs.MatchQuestions.{HasLabels};
 
-use crate::front_end::table_of;
+use crate::front_end::normal_table_of;
 use crate::lines::{Line, put, put_blank, put_number};
 use crate::pattern_calls::pattern_of;
 use crate::retry_heap::{Heap, Stop};
 use lotos_ever::{Found, Halt, find_shortest_match};
+use lotos_normal::NormalTable;
 use lotos_pattern::Pattern;
-use lotos_terms::{Label, Table};
+use lotos_terms::Label;
 
 /// What a match is searched for.
 struct Question {
@@ -80,14 +81,14 @@ pub fn rows(rt: &impl Print, heap: &mut Heap) -> Result<(), Stop> {
 /// Writes what the search for a match returns.
 fn write_answer(heap: &mut Heap, question: &Question, line: &mut Line) -> Result<(), Stop> {
     let pattern = pattern_of(heap, question.words, question.strong)?;
-    let mut table = table_of(heap, question.text)?;
+    let mut table = normal_table_of(heap, question.text)?;
     write_found(heap, &mut table, &pattern, question.states, line)
 }
 
 /// The same, in a table and by a pattern.
 fn write_found(
     heap: &mut Heap,
-    table: &mut Table,
+    table: &mut NormalTable,
     pattern: &Pattern,
     states: usize,
     line: &mut Line,
@@ -103,7 +104,7 @@ fn write_found(
 /// The first of the shortest matches, retried after an allocation failure.
 fn find_match(
     heap: &mut Heap,
-    table: &mut Table,
+    table: &mut NormalTable,
     pattern: &Pattern,
     states: usize,
 ) -> Result<Option<Found>, Halt>
@@ -119,7 +120,7 @@ fn find_match(
 }
 
 /// Writes the observed sequence and the run of a match.
-fn write_match(line: &mut Line, table: &Table, found: &Found) -> Result<(), Stop>
+fn write_match(line: &mut Line, table: &NormalTable, found: &Found) -> Result<(), Stop>
     requires sequence { AreLabels table.now found.now.sequence.items }
     requires word { AreLabels table.now found.now.word.items }
 {
@@ -136,7 +137,7 @@ fn write_bound(line: &mut Line, states: usize) -> Result<(), Stop> {
 }
 
 /// Writes a sequence of labels of the table, separated by one blank each.
-fn spell(line: &mut Line, table: &Table, labels: &[Label]) -> Result<(), Stop>
+fn spell(line: &mut Line, table: &NormalTable, labels: &[Label]) -> Result<(), Stop>
     requires { AreLabels table.now labels.now }
 {
     if labels.is_empty() {

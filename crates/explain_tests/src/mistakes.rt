@@ -1,6 +1,7 @@
 //! Mistakes of people who are new to the language, and the lines that explain them.
-use lotos_check::{AcceptFault, accept};
+use lotos_check::check;
 use lotos_explain::{explain_check_fault, explain_text_fault};
+use lotos_text::{Specification, parse};
 use std::alloc::Global;
 
 /// What is tested, a text, and the lines.
@@ -270,14 +271,18 @@ const MISTAKES: &[(&str, &[u8], &[u8])] = &[
 /// The lines that explain why a text is refused; none if it is accepted.
 fn explained(alloc: Global, text: &[u8]) -> Vec<u8> {
     let mut lines = Vec::new(alloc);
-    if let Err(refused) = accept(alloc, text) {
-        match &refused {
-            AcceptFault::Text(fault) => explain_text_fault(alloc, text, fault, &mut lines),
-            AcceptFault::Check(fault) => explain_check_fault(alloc, text, fault, &mut lines),
-            AcceptFault::Memory => {}
-        }
+    match parse(alloc, text) {
+        Ok(specification) => explain_broken(alloc, text, &specification, &mut lines),
+        Err(fault) => explain_text_fault(alloc, text, &fault, &mut lines),
     }
     lines
+}
+
+/// Explains the static rule that a specification breaks, if it breaks one.
+fn explain_broken(alloc: Global, text: &[u8], specification: &Specification, lines: &mut Vec<u8>) {
+    if let Err(fault) = check(alloc, specification) {
+        explain_check_fault(alloc, text, specification, &fault, lines);
+    }
 }
 
 #[test]

@@ -27,7 +27,7 @@ fn has_similar(alloc: Global, name: &str, want: Option<&str>) -> bool {
     let Ok(found) = accept(alloc, GATES) else {
         return false;
     };
-    match similar_name(alloc, name, found.gates()) {
+    match similar_name(alloc, name, found.system.gates()) {
         Ok(Some(gate)) => want == Some(gate.text()),
         Ok(None) => want.is_none(),
         Err(_) => false,

@@ -12,7 +12,7 @@ first_or_later d ds k n j e here = inl (refl, refl, refl)
 first_or_later d ds k n j e (later rest) = inr rest
 
 -- a name that is declared is one of the declared names
-declared_in : (ds : DefinitionListView) (k : ℕ) (n : Name) (j : ℕ) (e : DefinitionView) → Declares ds k n j e → In n (texts (declared_names ds))
+pub declared_in : (ds : DefinitionListView) (k : ℕ) (n : Name) (j : ℕ) (e : DefinitionView) → Declares ds k n j e → In n (texts (declared_names ds))
 declared_in no_defs k n j e declares = elim declares [ ]
 declared_in (more_defs d ds) k n j e here = inl refl
 declared_in (more_defs d ds) k n j e (later rest) = inr (declared_in ds (k + 1 + count (inner_of d)) n j e rest)

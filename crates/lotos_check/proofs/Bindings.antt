@@ -1,22 +1,19 @@
 -- What the map of a `where`, and a stack of such maps, say of a name.
-use Rattle.std.proofs.Common.{◌≡◌, ℕ, ◌+◌, List, [], ◌∷◌, ◌++◌, refl, sym, ap, subst, ◌∙◌, Option, Some, None, Bool, true, false, cond, arith}
+use Rattle.std.proofs.Common.{◌≡◌, ℕ, ◌+◌, List, [], ◌∷◌, ◌++◌, refl, ap, subst, ◌∙◌, Option, Some, None, Bool, true, false, cond, arith}
 use Rattle.std.specs.Prelude.{MatchOption}
 use Rattle.std.specs.HashMap.{HashMap, get_by}
 use Rattle.std.specs.Map.{update}
 use Rattle.std.specs.Str.{bytes_eq}
 use Rattle.std.proofs.lemmas.Slice.Eq.{bytes_eq-Decides}
-use Rattle.lotos_text.specs.AstView.{DefinitionView, def, DefinitionListView, no_defs, more_defs, name_of, inner_of}
+use Rattle.lotos_text.specs.AstView.{DefinitionView, DefinitionListView, no_defs, more_defs, name_of, inner_of}
 use Rattle.lotos_text.specs.AstOf.{definition_view, definitions_view}
 use Rattle.lotos_text.specs.declared.ast.Definition.{Definition, out-Definition}
+use Rattle.lotos_text.proofs.DefinitionParts.{name_shown}
 use Rattle.lotos_check.specs.NameLists.{Name}
 use Rattle.lotos_check.specs.Scope.{Scope, Where, Declares, here, later, Binds, nearest, outward, count}
 use Rattle.lotos_check.specs.ProcessScopes.{BindsAll, IsScopeStack}
 use Rattle.lotos_check.specs.declared.process_scope.Binding.{Binding}
-use Rattle.lotos_check.proofs.DistinctDefinitions.{parts_seen}
-
--- a list of definitions has its first definition, those inside it and the others
-count_row : (d : DefinitionView) (ds : DefinitionListView) → count (more_defs d ds) ≡ 1 + count (inner_of d) + count ds
-count_row (def name formals declared body inner) ds = refl
+use Rattle.lotos_check.proofs.ScopedDefinitions.{count_more}
 
 module _ (all : DefinitionListView) (first : ℕ) where
   -- of the list only the rest is left, whose first definition has this number; the look-up has the names of the others
@@ -56,7 +53,7 @@ module _ (all : DefinitionListView) (first : ℕ) where
     built_more : (after : Name → Option Binding) → ((n : Name) → after n ≡ update bytes_eq look (name_of d).name (Some m) n) →
         Built after (number + 1 + count (inner_of d)) ds
     built_more after updates = record {
-      numbered = let old = built.numbered in let row = count_row d ds in omega arith;
+      numbered = let old = built.numbered in let row = count_more d ds in omega arith;
       found = λ n x e. found_now (bytes_eq (name_of d).name n) n x refl (let at = updates n in cc);
       none = λ n e. none_now (bytes_eq (name_of d).name n) n refl (let at = updates n in cc);
       left = λ n j c declares. built.left n j c (later declares);
@@ -70,7 +67,7 @@ pub built_with : (all : DefinitionListView) (first : ℕ) (look after : Name →
     Built all first look number (definitions_view rest) → Built all first after (number + (1 + inner)) (definitions_view left)
 built_with all first look after number m text updates x left rest inner named process means next size built =
     let here : Built all first look number (more_defs (definition_view x) (definitions_view left)) = rw next at built in
-    let seen : text ≡ (name_of (definition_view x)).name = named ∙ ap (λ d. (name_of d).name) (sym (parts_seen x)) in
+    let seen : text ≡ (name_of (definition_view x)).name = named ∙ ap (λ p. p.name) (name_shown x) in
     let updated = subst (λ s. (n : Name) → after n ≡ update bytes_eq look s (Some m) n) seen updates in
     let more = built_more all first look number (definition_view x) (definitions_view left) m here process (ap definition_view means)
     after updated in

@@ -1,13 +1,13 @@
 -- The resolution of many bodies, one by one.
-use Rattle.std.specs.Prelude.{◌≡◌, ℕ, suc, ◌+◌, ◌<◌, length, get_or, drop, List, [], ◌∷◌, ◌++◌, IfErr, IsErrAnd, Result, Ok, Err}
+use Rattle.std.specs.Prelude.{◌≡◌, ℕ, List, [], ◌∷◌, ◌++◌}
 use Rattle.std.specs.HashMap.{HashMap}
-use Rattle.std.proofs.Common.{refl, sym, subst, append_assoc, append-nil, ap, ◌∙◌, drop-cons, add-one, inl, inr}
-use Rattle.lotos_text.specs.AstView.{DefinitionView, def, DefinitionListView, more_defs, formals_of, body_of, inner_of}
+use Rattle.std.proofs.Common.{refl, sym, subst, append_assoc, append-nil, ap, ◌∙◌, inl, inr}
+use Rattle.lotos_text.specs.AstView.{DefinitionView, formals_of, body_of, inner_of}
 use Rattle.lotos_text.specs.AstOf.{definition_view, definitions_view}
 use Rattle.lotos_text.specs.declared.ast.Definition.{Definition, out-Definition}
 use Rattle.lotos_text.specs.declared.ast.Placed.{Placed}
 use Rattle.lotos_check.specs.NameLists.{Name, texts}
-use Rattle.lotos_check.specs.Scope.{Scope, ScopedDefinition, count, within, definitions_in_scope, definition_in_scope}
+use Rattle.lotos_check.specs.Scope.{Scope, ScopedDefinition, within, definitions_in_scope, definition_in_scope}
 use Rattle.lotos_check.specs.ProcessScopes.{HasNames, IsScopeStack, BindsAll}
 use Rattle.lotos_check.specs.Flat.{no_pair, one_pair}
 use Rattle.lotos_check.specs.Resolution.{IsResolved, IsNameFault, AddsBodies, IsNameFaultIn}
@@ -17,7 +17,7 @@ use Rattle.lotos_check.specs.declared.fault.CheckFault.{CheckFault}
 use Rattle.lotos_check.specs.declared.fault.CheckFault.TheVariants.{E99}
 use Rattle.std.specs.declared.alloc.AllocError.{AllocError}
 use Rattle.lotos_check.proofs.JoinedLists.{in_back, in_front}
-use Rattle.lotos_check.proofs.DefinitionParts.{formals_shown, inner_shown}
+use Rattle.lotos_text.proofs.DefinitionParts.{formals_shown, inner_shown}
 use Rattle.lotos_check.proofs.Pairs.{pairs_joined}
 
 -- what is found of these and then of those is found of both
@@ -33,15 +33,6 @@ adds_append these those old between new h k = record {
 -- of no definitions nothing is found
 pub adds_none : (old : List ResolvedBody) → AddsBodies [] old old
 adds_none old = record { more = []; joined = sym (append-nil old); found = no_pair }
-
--- definitions are listed as the first with its inner ones, and then the others
-pub listed_more : (scope : Scope) (first : ℕ) (d : DefinitionView) (ds : DefinitionListView) →
-    definitions_in_scope scope first (more_defs d ds) ≡ definition_in_scope scope (first + 1) d ++ definitions_in_scope scope (first + 1 + count (inner_of d)) ds
-listed_more scope first (def name formals declared body inner) ds = refl
-
--- the number of definitions, by the first
-pub count_more : (d : DefinitionView) (ds : DefinitionListView) → count (more_defs d ds) ≡ 1 + count (inner_of d) + count ds
-count_more (def name formals declared body inner) ds = refl
 
 -- what is found of a definition, and then of its inner ones
 pub adds_first : (scope : Scope) (first : ℕ) (d : DefinitionView) (old between new : List ResolvedBody) (found : ResolvedBody) →
@@ -85,23 +76,9 @@ pub misnamed_inside : (scope : Scope) (first : ℕ) (d : DefinitionView) (fault 
     IsNameFaultIn (definitions_in_scope (within d first scope) first (inner_of d)) fault → IsNameFaultIn (definition_in_scope scope first d) fault
 misnamed_inside scope first d fault h = record { scoped = h.scoped; located = inr h.located; misnamed = h.misnamed }
 
--- a fault that a result carries on
-pub carried_on : {X E : Type 0} (result : Result X E) (P : E → Type 0) (fault : E) → IsErrAnd result (λ x. x ≡ fault) →
-    P fault →
-    IfErr result P
-carried_on (Ok x) P fault e h = absurd e
-carried_on (Err x) P fault e h = subst P (sym e) h
-
 -- out of memory
 pub no_memory : (scope : Scope) (first : ℕ) (d : DefinitionView) (error : AllocError) → IsNameFaultIn (definition_in_scope scope first d) (E99 error)
 no_memory scope first d error = misnamed_here scope first d (E99 error) tt
-
--- the items from an index on are the item there and those after it
-pub rest_at : (items : List Definition) (index : ℕ) (item : Definition) → index < length items →
-    item ≡ get_or items index item →
-    drop index items ≡ item ∷ drop (index + 1) items
-rest_at items index item below is =
-    rw (drop-cons items index item below, add-one) (ap (λ x. x ∷ drop (suc index) items) (sym is))
 
 -- what a stack has on which the scope of the definition's own `where` was pushed
 pub shows_inside : {K S : Type 0} (now : K → Name) (of : Definition) (list : List Definition) (first : ℕ)

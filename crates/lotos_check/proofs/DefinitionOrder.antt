@@ -2,13 +2,10 @@
 use Rattle.std.proofs.Common.{◌≡◌, ◌∷◌, ◌++◌, [], List, map, refl, sym, ap, ◌∙◌, append_assoc}
 use Rattle.std.proofs.lemmas.List.{append-nil, map-append}
 use Rattle.lotos_text.specs.AstView.{DefinitionView, def, inner_of}
-use Rattle.lotos_text.specs.AstOf.{definition_view, definitions_view, behaviour_view, definition_list_view}
-use Rattle.lotos_text.specs.declared.ast.Definition.{Definition, out-Definition, fold_out-Definition}
+use Rattle.lotos_text.specs.AstOf.{definition_view, definitions_view}
+use Rattle.lotos_text.specs.declared.ast.Definition.{Definition, out-Definition}
+use Rattle.lotos_text.proofs.DefinitionParts.{inner_shown}
 use Rattle.lotos_check.specs.Scope.{definitions_in, definitions_in_list}
-
--- a definition's view, by its fields
-pub shown : (d : Definition) → definition_view d ≡ (let o = out-Definition d in def o.name o.formals.items o.functionality (behaviour_view o.body) (definitions_view o.inner.items))
-shown d = fold_out-Definition DefinitionView (λ d. def d.name d.formals.items d.functionality (behaviour_view d.body) (definition_list_view d.inner.items)) d
 
 -- a definition, followed by all that are inside it
 pub in_order : (d : DefinitionView) → definitions_in d ≡ d ∷ definitions_in_list (inner_of d)
@@ -26,7 +23,7 @@ module _ {T : Type 0} (view : T → DefinitionView) where
       ∙ append_assoc (map view old) (view x ∷ []) left
       ∙ ap (λ d. map view old ++ d ∷ left) same
       ∙ ap (λ ds. map view old ++ definition_view of ∷ definitions_in_list ds)
-      (ap definitions_view inner ∙ sym (ap inner_of (shown of)))
+      (ap definitions_view inner ∙ inner_shown of)
       ∙ ap (λ ds. map view old ++ ds) (sym (in_order (definition_view of)))
 
   -- where the next of the inner ones was appended with those inside it, the others are left

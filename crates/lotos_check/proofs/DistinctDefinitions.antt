@@ -3,10 +3,11 @@ use Rattle.std.proofs.Common.{◌≡◌, ◌⊎◌, List, [], ◌∷◌, ◌++�
 use Rattle.std.specs.Prelude.{not, if◌then◌else◌}
 use Rattle.std.specs.List.{list_any}
 use Rattle.std.specs.Str.{bytes_eq}
-use Rattle.lotos_text.specs.AstView.{DefinitionView, def, name_of, formals_of, inner_of}
-use Rattle.lotos_text.specs.AstOf.{behaviour_view, definition_list_view, definition_view, definitions_view}
+use Rattle.lotos_text.specs.AstView.{DefinitionView, name_of, formals_of, inner_of}
+use Rattle.lotos_text.specs.AstOf.{definition_view, definitions_view}
 use Rattle.lotos_text.specs.declared.ast.Placed.{Placed}
-use Rattle.lotos_text.specs.declared.ast.Definition.{Definition, out-Definition, fold_out-Definition}
+use Rattle.lotos_text.specs.declared.ast.Definition.{Definition, out-Definition}
+use Rattle.lotos_text.proofs.DefinitionParts.{name_shown, formals_shown, inner_shown}
 use Rattle.lotos_check.specs.NameLists.{Name, IsDuplicate, AreDistinct}
 use Rattle.lotos_check.specs.Scope.{declared_names}
 use Rattle.lotos_check.specs.StaticFaults.{IsDistinct}
@@ -15,12 +16,6 @@ use Rattle.lotos_check.specs.declared.fault.CheckFault.{CheckFault}
 use Rattle.lotos_check.specs.declared.fault.CheckFault.TheVariants.{E20, E24}
 use Rattle.lotos_check.proofs.VisitedNames.{Seen, seen_none, seen_more, seen_again, seen_all}
 use Rattle.lotos_check.proofs.Enclosed.{Among, repeat_inside, repeats_gate, repeats_process, distinct_whole}
-
--- the view of a definition has its parts
-pub parts_seen : (x : Definition) → definition_view x ≡
-    def (out-Definition x).name (out-Definition x).formals.items (out-Definition x).functionality
-    (behaviour_view (out-Definition x).body) (definitions_view (out-Definition x).inner.items)
-parts_seen x = fold_out-Definition DefinitionView (λ d. def d.name d.formals.items d.functionality (behaviour_view d.body) (definition_list_view d.inner.items)) x
 
 -- of these definitions only the rest is left; the names of the passed ones are distinct and are the keys
 pub record Passed {K : Type 0} (now : K → Name) (keys : List K) (all rest : List Definition) : Type 0 where
@@ -45,7 +40,7 @@ module _ {K : Type 0} (now : K → Name) (old new : List K) (key : K) (all rest 
   names_next = ap (λ ds. declared_names (definitions_view ds)) next
 
   text_seen : n ≡ (name_of (definition_view x)).name
-  text_seen = text ∙ ap (λ d. (name_of d).name) (sym (parts_seen x))
+  text_seen = text ∙ ap (λ p. p.name) (name_shown x)
 
   among_next : Among (definition_view x) (definitions_view all)
   among_next = passed.left (definition_view x) (subst (λ ds. Among (definition_view x) (definitions_view ds)) (sym next) (inl refl))
@@ -69,7 +64,7 @@ module _ {K : Type 0} (now : K → Name) (old new : List K) (key : K) (all rest 
 
   module _ (whole : Definition) (inner : all ≡ (out-Definition whole).inner.items) where
     inner_seen : definitions_view all ≡ inner_of (definition_view whole)
-    inner_seen = ap definitions_view inner ∙ ap inner_of (sym (parts_seen whole))
+    inner_seen = ap definitions_view inner ∙ inner_shown whole
 
     -- if the name was not put after the keys, it is declared for the second time
     pub passed_again : (p : Placed) → p ≡ (out-Definition x).name → added ≡ false → IsDuplicateFault (definition_view whole) (E24 p)
@@ -78,7 +73,7 @@ module _ {K : Type 0} (now : K → Name) (old new : List K) (key : K) (all rest 
         n passed.names names_next text_seen added says stayed in
         let here = subst (λ ds. IsDuplicate (name_of (definition_view x)) (declared_names ds)) inner_seen second in
         repeats_process (definition_view whole) p (subst (λ q. IsDuplicate q (declared_names (inner_of (definition_view whole))))
-        (sym (same ∙ ap name_of (sym (parts_seen x)))) here)
+        (sym (same ∙ name_shown x)) here)
 
     -- a fault of x is one of the whole
     pub passed_inside : (fault : CheckFault) → IsDuplicateFault (definition_view x) fault → IsDuplicateFault (definition_view whole) fault
@@ -90,19 +85,19 @@ pub gate_again : (whole : Definition) (gate : Placed) (formals : List Placed) �
     IsDuplicate gate formals →
     IsDuplicateFault (definition_view whole) (E20 gate)
 gate_again whole gate formals same second =
-    repeats_gate (definition_view whole) gate (subst (IsDuplicate gate) (same ∙ ap formals_of (sym (parts_seen whole))) second)
+    repeats_gate (definition_view whole) gate (subst (IsDuplicate gate) (same ∙ formals_shown whole) second)
 
 -- distinct formals are those of the view
 pub formals_distinct : (whole : Definition) (formals : List Placed) → formals ≡ (out-Definition whole).formals.items →
     AreDistinct formals → AreDistinct (formals_of (definition_view whole))
-formals_distinct whole formals same = subst AreDistinct (same ∙ ap formals_of (sym (parts_seen whole)))
+formals_distinct whole formals same = subst AreDistinct (same ∙ formals_shown whole)
 
 -- where all were passed and the formals are distinct, the whole repeats nothing
 pub passed_all : {K : Type 0} (now : K → Name) (keys : List K) (all rest : List Definition) (whole : Definition) →
     Passed now keys all rest → rest ≡ [] → all ≡ (out-Definition whole).inner.items →
     AreDistinct (formals_of (definition_view whole)) → IsDistinct (definition_view whole)
 passed_all now keys all rest whole passed none inner distinct =
-    let row = ap definitions_view inner ∙ ap inner_of (sym (parts_seen whole)) in
+    let row = ap definitions_view inner ∙ inner_shown whole in
     let names = seen_all _ _ _ passed.names (ap (λ ds. declared_names (definitions_view ds)) none) in
     distinct_whole (definition_view whole) distinct
     (subst (λ ds. AreDistinct (declared_names ds)) row names)

@@ -9,6 +9,7 @@ use Rattle.lotos_check.specs.Acceptance.{IsDuplicateFault}
 use Rattle.lotos_check.specs.declared.fault.CheckFault.{CheckFault}
 use Rattle.lotos_check.specs.declared.fault.CheckFault.TheVariants.{E20, E21, E22, E23, E24, E25, E26, E27, E99}
 use Rattle.lotos_check.proofs.JoinedLists.{in_front, in_back, in_either}
+use Rattle.lotos_check.proofs.ScopedDefinitions.{listed_row, scope_of, without_scope}
 
 -- the definition is one of the list, not an inner one
 abbrev pub Among : DefinitionView → DefinitionListView → Type 0
@@ -20,22 +21,11 @@ abbrev Lists : List ScopedDefinition → DefinitionView → Type 0
 Lists vs d = (scope : Scope) × In {X = ScopedDefinition} (record { scope = scope; definition = d }) vs
 
 -- which definitions are listed does not depend on the scope around them, nor on their numbers
-relisted : (s t : Scope) (k j : ℕ) (ds : DefinitionListView) (e : DefinitionView) → Lists (definitions_in_scope s k ds) e → Lists (definitions_in_scope t j ds) e
-relisted s t k j no_defs e (u, i) = absurd i
-relisted s t k j (more_defs (def n fs c b inner) ds) e (u, inl h) = (
-  record { defs = inner; first = j + 1 } ∷ t,
-  inl
-      (ap (λ v. record { scope = record { defs = inner; first = j + 1 } ∷ t; definition = v.definition }) h),
-)
-relisted s t k j (more_defs (def n fs c b inner) ds) e (u, inr i) =
-    let s' = record { defs = inner; first = k + 1 } ∷ s in
-    let t' = record { defs = inner; first = j + 1 } ∷ t in
-    let here = relisted s' t' (k + 1) (j + 1) inner e in
-    let there = relisted s t (k + 1 + count inner) (j + 1 + count inner) ds e in
-    elim (in_either _ (definitions_in_scope s' (k + 1) inner) (definitions_in_scope s (k + 1 + count inner) ds) i) [
-      | inl h ↦ (let r = here (u, h) in (r.0, inr (in_front _ (definitions_in_scope t' (j + 1) inner) (definitions_in_scope t (j + 1 + count inner) ds) r.1)))
-      | inr h ↦ (let r = there (u, h) in (r.0, inr (in_back _ (definitions_in_scope t' (j + 1) inner) (definitions_in_scope t (j + 1 + count inner) ds) r.1)))
-    ]
+relisted : (s t : Scope) (k j : ℕ) (ds : DefinitionListView) (e : DefinitionView) →
+    Lists (definitions_in_scope s k ds) e → Lists (definitions_in_scope t j ds) e
+relisted s t k j ds e (u, i) =
+    scope_of e (definitions_in_scope t j ds)
+    (subst (In e) (sym (listed_row s k ds) ∙ listed_row t j ds) (without_scope u e (definitions_in_scope s k ds) i))
 
 -- what is listed of an inner definition is listed of the list
 listed_among : (s t : Scope) (k j : ℕ) (ds : DefinitionListView) (x e : DefinitionView) → Among x ds → Lists (definition_in_scope t j x) e → Lists (definitions_in_scope s k ds) e

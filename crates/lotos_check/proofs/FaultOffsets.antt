@@ -1,6 +1,5 @@
 -- The offsets of faults are inside every text that the AST is inside.
-use Rattle.std.proofs.Common.{◌≡◌, ℕ, ◌+◌, ◌≤◌, List, [], ◌∷◌, Some, zero, suc, refl, sym, subst, inl, inr}
-use Rattle.std.specs.Prelude.{slice_get}
+use Rattle.std.proofs.Common.{ℕ, ◌+◌, ◌≤◌, List, [], ◌∷◌, refl, sym, subst, inl, inr}
 use Rattle.lotos_text.specs.AstView.{BehaviourView, enable, call, DefinitionView, def, DefinitionListView, no_defs, more_defs, name_of, formals_of, body_of, inner_of}
 use Rattle.lotos_text.specs.OffsetsInside.{AreNamesInside, IsBehaviourInside, IsInside, AreInside}
 use Rattle.lotos_text.specs.declared.ast.Placed.{Placed}
@@ -15,6 +14,7 @@ use Rattle.lotos_check.specs.FaultOffsets.{IsOffsetWithin}
 use Rattle.lotos_check.specs.declared.fault.CheckFault.{CheckFault}
 use Rattle.lotos_check.specs.declared.fault.CheckFault.TheVariants.{E20, E21, E22, E23, E24, E25, E26, E27, E99}
 use Rattle.lotos_check.proofs.JoinedLists.{in_back, in_either}
+use Rattle.lotos_check.proofs.ListIndices.{get_in}
 
 -- a name of a list inside the text is inside it
 named_inside : (n : ℕ) (names : List Placed) → AreNamesInside n names → (p : Placed) → In p names → p.at ≤ n
@@ -91,12 +91,6 @@ module _ (spec : DefinitionView) (n : ℕ) (inside : IsInside n spec) where
       let body = body_inside n h.definition (stands_inside (record { scope = scope; definition = h.definition }) h.located) in
       part_inside n _ (body_of h.definition) known part h.inside body
 
--- what is at an index of a list is in it
-in_at : (vs : List ScopedDefinition) (i : ℕ) (v : ScopedDefinition) → slice_get vs i ≡ Some v → In v vs
-in_at [] i v e = cc
-in_at (x ∷ vs) zero v e = inl (cc)
-in_at (x ∷ vs) (suc i) v e = inr (in_at vs i v e)
-
 -- a fault of a specification inside the text is inside it
 pub faulty_inside : (spec : DefinitionView) (fault : CheckFault) (n : ℕ) → IsStaticFault spec fault → IsInside n spec → IsOffsetWithin n fault
 faulty_inside spec (E20 gate) n h inside =
@@ -115,6 +109,6 @@ faulty_inside spec (E25 name declared) n h inside =
     subst (λ p. p.at ≤ n) (sym h.named) (name_inside n h.definition d)
 faulty_inside spec (E26 at) n h inside = (occurs_inside spec n inside h.scope h.in_scope (enable h.left at h.right) h.occurs).1
 faulty_inside spec (E27 name set) n h inside =
-    let d = stands_inside spec n inside h.scoped (inr (in_at (processes_of spec) h.first h.scoped h.located)) in
+    let d = stands_inside spec n inside h.scoped (inr (get_in (processes_of spec) h.first h.scoped h.located)) in
     subst (λ p. p.at ≤ n) (sym h.named) (name_inside n h.scoped.definition d)
 faulty_inside spec (E99 e) n h inside = tt

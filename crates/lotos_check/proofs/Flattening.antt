@@ -1,25 +1,25 @@
 -- The code of all definitions, from that of each in turn.
 use Rattle.std.proofs.Common.{◌≡◌, ℕ, ◌+◌, ◌<◌, List, [], ◌∷◌, ◌++◌, drop, length, refl, sym, ap, subst, ◌∙◌, append_assoc, append-nil, arith, zero, suc}
 use Rattle.std.proofs.lemmas.List.{drop_all}
-use Rattle.lotos_text.specs.AstView.{DefinitionView, name_of, formals_of, declared_of}
+use Rattle.lotos_text.specs.AstView.{DefinitionView}
 use Rattle.lotos_text.specs.AstOf.{definition_view}
 use Rattle.lotos_text.specs.declared.ast.Definition.{Definition, out-Definition}
+use Rattle.lotos_text.proofs.DefinitionParts.{name_shown, formals_shown, declared_shown}
 use Rattle.lotos_check.specs.NameLists.{texts}
 use Rattle.lotos_check.specs.CheckedView.{flat_of, process_of}
 use Rattle.lotos_check.specs.Acceptance.{IsProcessOfBody, AreProcessesOfBodies, no_processes, one_process, IsFlattened, flattens}
 use Rattle.lotos_check.specs.declared.resolved_body.ResolvedBody.{ResolvedBody}
 use Rattle.lotos_check.specs.declared.resolved.Code.{Code}
 use Rattle.lotos_check.specs.declared.resolved.Process.{Process}
-use Rattle.lotos_check.proofs.DefinitionOrder.{shown}
 
 -- a process is a definition with a code, if it has the definition's parts and that code
 pub made_of : (d : Definition) (found : ResolvedBody) (process : Process) → process.name ≡ (out-Definition d).name.name →
     process.formals.items ≡ texts (out-Definition d).formals.items → process.functionality ≡ (out-Definition d).functionality →
     process.body ≡ found.code.value → IsProcessOfBody (definition_view d) found (process_of process)
 made_of d found process n f g b = record {
-  name = n ∙ sym (ap (λ t. (name_of t).name) (shown d));
-  formals = f ∙ sym (ap (λ t. texts (formals_of t)) (shown d));
-  functionality = g ∙ sym (ap declared_of (shown d));
+  name = n ∙ ap (λ p. p.name) (name_shown d);
+  formals = f ∙ ap texts (formals_shown d);
+  functionality = g ∙ declared_shown d;
   body = ap flat_of b;
 }
 

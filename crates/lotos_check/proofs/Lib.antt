@@ -22,7 +22,6 @@ pub mod BindingUnique
 pub mod Operands
 pub mod ResolvedForms
 pub mod OwnFaults
-pub mod DefinitionParts
 pub mod BodyResolutions
 pub mod Pairs
 pub mod DefinitionOrder

@@ -1,5 +1,5 @@
 -- Whether something is among the keys of a set.
-use Rattle.std.proofs.Common.{◌≡◌, List, [], ◌∷◌, map, refl, sym, inl, inr, Bool, true, false}
+use Rattle.std.proofs.Common.{◌≡◌, ◌⊎◌, ◌∙◌, List, [], ◌∷◌, map, refl, sym, inl, inr, Bool, true, false}
 use Rattle.std.specs.Prelude.{not}
 use Rattle.std.specs.List.{list_any}
 use Rattle.std.specs.Str.{bytes_eq}
@@ -40,6 +40,23 @@ name_found now = in_if_any now bytes_eq (λ x y. (bytes_eq-Decides x y).0) (λ x
 pub name_missing : {K : Type 0} (now : K → Name) (n : Name) (ks : List K) → list_any (λ k. bytes_eq n (now k)) ks ≡ false →
     In n (map now ks) → ⊥
 name_missing now = out_if_none now bytes_eq (λ x y. (bytes_eq-Decides x y).0) (λ x y. (bytes_eq-Decides x y).1)
+
+-- a name is in a list, or is not
+pub in_or_not : (n : Name) (ms : List Name) → In n ms ⊎ (In n ms → ⊥)
+in_or_not n [] = inr (λ i. i)
+in_or_not n (m ∷ ms) =
+    let others = in_or_not n ms in
+    let by = (λ (b : Bool) (h : bytes_eq m n ≡ b). elim b as (λ b. bytes_eq m n ≡ b → In n (m ∷ ms) ⊎ (In n (m ∷ ms) → ⊥)) [
+      | true ↦ λ h. inl (inl ((bytes_eq-Decides m n).0 h))
+      | false ↦ λ h. elim others [
+        | inl i ↦ inl (inr i)
+        | inr out ↦ inr (λ x. elim x [
+          | inl e ↦ let t = (bytes_eq-Decides m n).1 e in let f : true ≡ false = sym t ∙ h in cc
+          | inr i ↦ out i
+        ])
+      ]
+    ] h) in
+    by (bytes_eq m n) refl
 
 -- where the negation is false, the truth value is true
 pub true_of_not : (b r : Bool) → r ≡ not b → r ≡ false → b ≡ true

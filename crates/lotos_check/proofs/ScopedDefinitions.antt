@@ -1,11 +1,21 @@
 -- All definitions with their scopes: how many, in which order, and which definitions enclose them.
-use Rattle.std.proofs.Common.{◌≡◌, ℕ, ◌+◌, ◌<◌, ◌≤◌, [], ◌∷◌, ◌++◌, length, map, refl, sym, ap, subst, inl, inr, arith, length-append}
+use Rattle.std.proofs.Common.{◌≡◌, ℕ, ◌+◌, ◌<◌, ◌≤◌, List, [], ◌∷◌, ◌++◌, length, map, refl, sym, ap, subst, inl, inr, arith, length-append}
 use Rattle.std.proofs.lemmas.List.{map-append, length-map}
 use Rattle.lotos_text.specs.AstView.{DefinitionView, def, DefinitionListView, no_defs, more_defs, inner_of}
 use Rattle.lotos_check.specs.NameLists.{Name, In}
-use Rattle.lotos_check.specs.Scope.{Scope, Where, ScopedDefinition, Declares, here, later, Binds, nearest, outward, count, within, definitions_in_scope, processes_of, all_definitions, definitions_in, definitions_in_list, IsDistinctScope}
+use Rattle.lotos_check.specs.Scope.{Scope, Where, ScopedDefinition, Declares, here, later, Binds, nearest, outward, count, within, definitions_in_scope, definition_in_scope, processes_of, all_definitions, definitions_in, definitions_in_list, IsDistinctScope}
 use Rattle.lotos_check.specs.StaticFaults.{IsDistinct}
 use Rattle.lotos_check.proofs.JoinedLists.{in_back, in_either, in_front}
+
+-- a list has its first definition, those inside it and the others
+pub count_more : (d : DefinitionView) (ds : DefinitionListView) → count (more_defs d ds) ≡ 1 + count (inner_of d) + count ds
+count_more (def name formals declared body inner) ds = refl
+
+-- they are listed in this order
+pub listed_more : (scope : Scope) (first : ℕ) (d : DefinitionView) (ds : DefinitionListView) →
+    definitions_in_scope scope first (more_defs d ds)
+    ≡ definition_in_scope scope (first + 1) d ++ definitions_in_scope scope (first + 1 + count (inner_of d)) ds
+listed_more scope first (def name formals declared body inner) ds = refl
 
 -- how many definitions are listed
 pub listed_count : (scope : Scope) (k : ℕ) (ds : DefinitionListView) → length (definitions_in_scope scope k ds) ≡ count ds
@@ -33,6 +43,20 @@ listed_row scope k (more_defs (def name formals declared body inner) ds) =
 pub everywhere_in_order : (whole : DefinitionView) → definitions_in whole ≡ map (λ v. v.definition) (all_definitions whole)
 everywhere_in_order (def name formals declared body inner) =
     ap (λ t. def name formals declared body inner ∷ t) (listed_row (within (def name formals declared body inner) 0 []) 0 inner)
+
+-- a definition of a list has a scope there
+pub scope_of : (d : DefinitionView) (vs : List ScopedDefinition) → In d (map (λ v. v.definition) vs) →
+    (scope : Scope) × In {X = ScopedDefinition} (record { scope = scope; definition = d }) vs
+scope_of d [] i = absurd i
+scope_of d (v ∷ vs) (inl e) = (v.scope, inl (ap (λ x. record { scope = v.scope; definition = x }) e))
+scope_of d (v ∷ vs) (inr i) = let r = scope_of d vs i in (r.0, inr r.1)
+
+-- a definition that a list has with a scope is one of the list
+pub without_scope : (scope : Scope) (d : DefinitionView) (vs : List ScopedDefinition) →
+    In {X = ScopedDefinition} (record { scope = scope; definition = d }) vs → In d (map (λ v. v.definition) vs)
+without_scope scope d [] i = absurd i
+without_scope scope d (v ∷ vs) (inl e) = inl (ap (λ x. x.definition) e)
+without_scope scope d (v ∷ vs) (inr i) = inr (without_scope scope d vs i)
 
 -- how many definitions a specification has
 pub definitions_count : (whole : DefinitionView) → length (definitions_in whole) ≡ 1 + count (inner_of whole)

@@ -1,7 +1,5 @@
 -- A behaviour of an accepted specification uses gates in scope only.
-use Rattle.std.proofs.Common.{◌≡◌, ℕ, List, [], ◌∷◌, ◌++◌, Some, Bool, true, false, slice_get, refl, subst, inl, inr}
-use Rattle.std.specs.Str.{bytes_eq}
-use Rattle.std.proofs.lemmas.Slice.Eq.{bytes_eq-Decides}
+use Rattle.std.proofs.Common.{◌≡◌, ℕ, List, [], ◌++◌, Some, slice_get, refl, subst, inl, inr}
 use Rattle.lotos_text.specs.AstView as t
 use Rattle.lotos_text.specs.AstView.{BehaviourView, DefinitionView, formals_of, body_of}
 use Rattle.lotos_text.specs.declared.ast.Placed.{Placed}
@@ -17,20 +15,11 @@ use Rattle.lotos_check.specs.Acceptance.{IsAccepted}
 use Rattle.lotos_check.proofs.JoinedLists.{in_front, in_back, in_either}
 use Rattle.lotos_check.proofs.FlatSystemUnique.{paired_at}
 use Rattle.lotos_check.proofs.MappedLists.{in_map_from}
+use Rattle.lotos_check.proofs.NameTests.{in_or_not}
 
 -- a name that cannot be missing from a list is in it
 in_unless_missing : (n : Name) (names : List Name) → ((In n names → ⊥) → ⊥) → In n names
-in_unless_missing n [] h = absurd (h (λ i. i))
-in_unless_missing n (m ∷ names) h =
-    let others = in_unless_missing n names in
-    let by = (λ (b : Bool) (e : bytes_eq m n ≡ b). elim b as (λ b. bytes_eq m n ≡ b → In n (m ∷ names)) [
-      | true ↦ λ e. inl ((bytes_eq-Decides m n).0 e)
-      | false ↦ λ e. inr (others (λ missing. h (λ i. elim i [
-        | inl f ↦ (let same = (bytes_eq-Decides m n).1 f in let wrong = rw same at e in cc)
-        | inr j ↦ missing j
-      ])))
-    ] e) in
-    by (bytes_eq m n) refl
+in_unless_missing n names h = elim (in_or_not n names) [ inl i ↦ i | inr out ↦ absurd (h out) ]
 
 -- if each gate of a list is in scope, each of its names is
 module _ (known gates : List Name) (wider : AreNamesOf gates known) where

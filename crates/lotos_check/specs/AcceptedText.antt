@@ -1,7 +1,7 @@
 -- Which texts are accepted, and with which faults others are rejected.
-use Rattle.std.specs.Prelude.{◌≡◌, ℕ, Bool, true, false, List, IsSome, None, Option}
+use Rattle.std.specs.Prelude.{◌≡◌, ℕ, Bool, true, false, List, IsSome, None, Option, length}
 use Rattle.lotos_text.specs.AstView.{DefinitionView}
-use Rattle.lotos_text.specs.OffsetsInside.{text_offset}
+use Rattle.lotos_text.specs.OffsetsInside.{IsInside, text_offset}
 use Rattle.lotos_text.specs.Spelled.{Spelled}
 use Rattle.lotos_text.specs.TextFaults.{IsFaultOfText}
 use Rattle.lotos_text.specs.declared.fault.TextFault.{TextFault}
@@ -12,6 +12,12 @@ use Rattle.lotos_check.specs.Flat.{System}
 use Rattle.lotos_check.specs.declared.fault.CheckFault.{CheckFault}
 use Rattle.lotos_check.specs.declared.accepted_text.AcceptFault.{AcceptFault}
 use Rattle.lotos_check.specs.declared.accepted_text.AcceptFault.TheVariants.{Text, Check, Memory}
+
+-- the text spells this specification and no other, whose offsets are inside the text
+pub record IsParsed (text : List ℕ) (whole : DefinitionView) : Type 0 where
+  pub spelled : Spelled text whole
+  pub only : (other : DefinitionView) → Spelled text other → other ≡ whole
+  pub inside : IsInside (length text) whole
 
 -- the text spells a specification that meets the static rules, and this is its flat system
 pub record Accepted (text : List ℕ) (system : System) : Type 0 where

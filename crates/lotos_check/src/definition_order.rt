@@ -7,7 +7,7 @@ use lotos_text::Definition;
 use std::alloc::AllocError;
 
 /// Appends a definition and all definitions inside it, each followed at once by its inner ones.
-pub(crate) fn add_definitions<'a>(
+pub fn add_definitions<'a>(
     definition: &'a Definition,
     into: &mut Vec<&'a Definition>,
 ) -> Result<(), AllocError>

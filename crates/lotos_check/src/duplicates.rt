@@ -6,7 +6,7 @@ ghost use Rattle.lotos_check.specs.NameLists.{AreDistinct, IsDuplicate};
 ghost use Rattle.lotos_check.specs.StaticFaults.{IsDistinct};
 ghost use Rattle.lotos_check.specs.Acceptance.{IsDuplicateFault};
 
-use crate::fault::{CheckFault, copy_placed};
+use crate::fault::CheckFault;
 use indexmap::IndexSet;
 use lotos_text::{Definition, Placed};
 use std::alloc::{AllocError, Global};
@@ -40,7 +40,7 @@ fn check_inner<'a>(
 {
     for inner in &whole.inner {
         if !names.insert(inner.name.name.text())? {
-            return Err(CheckFault::E24(copy_placed(alloc, &inner.name)?));
+            return Err(CheckFault::E24(inner.name.copy(alloc)?));
         }
         check_distinct(alloc, inner)?;
     }
@@ -66,7 +66,7 @@ fn find_repeated<'a>(
 {
     for placed in names {
         if !seen.insert(placed.name.text())? {
-            return Ok(Some(copy_placed(alloc, placed)?));
+            return Ok(Some(placed.copy(alloc)?));
         }
     }
     Ok(None)

@@ -1,10 +1,10 @@
 //! Why a specification breaks a static rule.
-ghost use Rattle.std.specs.Prelude.{◌≡◌, IfOk, alloc_error};
+ghost use Rattle.std.specs.Prelude.{◌≡◌, alloc_error};
 ghost use Rattle.lotos_check.specs.FaultOffsets.{offset_of};
 ghost use Rattle.lotos_check.specs.declared.fault.CheckFault.TheVariants.{E99};
 
 use lotos_text::{Functionality, Placed};
-use std::alloc::{AllocError, AllocFailed, Global};
+use std::alloc::{AllocError, AllocFailed};
 use std::fmt;
 use thiserror::Error;
 
@@ -97,15 +97,4 @@ impl fmt::Display for FunctionalityText {
             Functionality::NoExit => "is declared noexit and is exit",
         })
     }
-}
-
-/// A copy of the name with its offset.
-pub(crate) fn copy_placed(alloc: Global, placed: &Placed) -> Result<Placed, AllocError>
-    ensures { IfOk result (λ p. p ≡ placed.now) }
-{
-    let name = placed.name.copy(alloc)?;
-    Ok(Placed {
-        name,
-        at: placed.at,
-    })
 }

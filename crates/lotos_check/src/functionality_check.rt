@@ -4,7 +4,7 @@ ghost use Rattle.lotos_text.specs.AstOf.{definition_view};
 ghost use Rattle.lotos_check.specs.Flat.{Pairwise};
 ghost use Rattle.lotos_check.specs.FunctionalityRules.{HasDeclaredFunctionality, IsFunctionalityFaultIn, IsFunctionalityFault};
 
-use crate::fault::{CheckFault, copy_placed};
+use crate::fault::CheckFault;
 use crate::resolved_body::ResolvedBody;
 use lotos_text::Definition;
 use std::alloc::Global;
@@ -41,7 +41,7 @@ fn check_body(
 {
     if definition.functionality != found.functionality {
         return Err(CheckFault::E25 {
-            name: copy_placed(alloc, &definition.name)?,
+            name: definition.name.copy(alloc)?,
             declared: definition.functionality,
         });
     }

@@ -8,7 +8,7 @@ ghost use Rattle.lotos_check.specs.NameLists.{In, Name, texts};
 ghost use Rattle.lotos_check.specs.ProcessScopes.{HasNames};
 ghost use Rattle.lotos_check.specs.Resolution.{IsUndeclaredGate};
 
-use crate::fault::{CheckFault, copy_placed};
+use crate::fault::CheckFault;
 use indexmap::IndexSet;
 use lotos_text::Placed;
 use std::alloc::{AllocError, Global};
@@ -42,7 +42,7 @@ pub(crate) fn check_declared(
 {
     for gate in gates {
         if !scope.contains(gate.name.text()) {
-            return Err(CheckFault::E21(copy_placed(alloc, gate)?));
+            return Err(CheckFault::E21(gate.copy(alloc)?));
         }
     }
     Ok(())

@@ -8,7 +8,7 @@ ghost use Rattle.lotos_check.specs.Flat.{action_of};
 ghost use Rattle.lotos_check.specs.ProcessScopes.{HasNames, IsScopeStack};
 ghost use Rattle.lotos_check.specs.Resolution.{AreSyncGatesDeclared, IsActionDeclared, IsNameFault, IsResolved, IsSyncSet, IsUndeclaredAction, IsUndeclaredInSync};
 
-use crate::fault::{CheckFault, copy_placed};
+use crate::fault::CheckFault;
 use crate::gate_scope::{add_gates, check_declared};
 use crate::name_lists::{copy_names, name_set};
 use crate::process_scope::{Binding, find_binding};
@@ -98,7 +98,7 @@ fn resolve_action(
         Action::Internal => Ok(None),
         Action::Gate(gate) => {
             if !gates_in_scope.contains(gate.name.text()) {
-                return Err(CheckFault::E21(copy_placed(alloc, gate)?));
+                return Err(CheckFault::E21(gate.copy(alloc)?));
             }
             let name = gate.name.copy(alloc)?;
             Ok(Some(name))
@@ -146,13 +146,13 @@ fn resolve_call<'a>(
         (IsNameFault scope gates (plain_call name.now actuals.now)) }
 {
     let Some(binding) = find_binding(scopes, name.name.text()) else {
-        return Err(CheckFault::E22(copy_placed(alloc, name)?));
+        return Err(CheckFault::E22(name.copy(alloc)?));
     };
     let formals = binding.definition.formals.as_slice();
     let formal = formals.len();
     if formal != actuals.len() {
         return Err(CheckFault::E23 {
-            call: copy_placed(alloc, name)?,
+            call: name.copy(alloc)?,
             formal,
             actual: actuals.len(),
         });

@@ -10,7 +10,7 @@ use crate::body_resolution::resolve_specification;
 use crate::checked::Checked;
 use crate::definition_order::add_definitions;
 use crate::duplicates::check_distinct;
-use crate::fault::{CheckFault, copy_placed};
+use crate::fault::CheckFault;
 use crate::functionality_check::check_functionality;
 use crate::guardedness::{Ranking, rank_processes};
 use crate::name_lists::copy_names;
@@ -25,26 +25,15 @@ use std::alloc::{AllocError, Global};
 ///
 /// Four passes are made, and the first that finds a fault returns the one that is first in the text: E20 and E24; E21
 /// to E23; E25 and E26; E27. E99 if an allocation fails.
-pub fn check(alloc: Global, specification: Specification) -> Result<Checked, CheckFault>
-    ensures faulty { IfErr result (IsStaticFault (definition_view specification.whole)) }
-    ensures not_accepted { IfErr result (IsNotAccepted (definition_view specification.whole)) }
-    ensures inside { IfErr result (λ fault. (n : ℕ) → IsInside n (definition_view specification.whole) →
+pub fn check(alloc: Global, specification: &Specification) -> Result<Checked, CheckFault>
+    ensures faulty { IfErr result (IsStaticFault (definition_view specification.now.whole)) }
+    ensures not_accepted { IfErr result (IsNotAccepted (definition_view specification.now.whole)) }
+    ensures inside { IfErr result (λ fault. (n : ℕ) → IsInside n (definition_view specification.now.whole) →
         IsOffsetWithin n fault) }
-    ensures accepted { IfOk result (λ c. IsAccepted (definition_view specification.whole) (system_of c)) }
+    ensures accepted { IfOk result (λ c. IsAccepted (definition_view specification.now.whole) (system_of c)) }
     ensures ranks { IfOk result (λ c. AreRanks (system_of c).processes (ranks_of c)) }
 {
-    check_definition(alloc, &specification.whole)
-}
-
-/// Checks the static rules of a specification, given as its outermost definition.
-fn check_definition(alloc: Global, whole: &Definition) -> Result<Checked, CheckFault>
-    ensures faulty { IfErr result (IsStaticFault (definition_view whole.now)) }
-    ensures not_accepted { IfErr result (IsNotAccepted (definition_view whole.now)) }
-    ensures inside { IfErr result (λ fault. (n : ℕ) → IsInside n (definition_view whole.now) →
-        IsOffsetWithin n fault) }
-    ensures accepted { IfOk result (λ c. IsAccepted (definition_view whole.now) (system_of c)) }
-    ensures ranks { IfOk result (λ c. AreRanks (system_of c).processes (ranks_of c)) }
-{
+    let whole = &specification.whole;
     check_distinct(alloc, whole)?;
     let mut definitions = Vec::new(alloc);
     add_definitions(whole, &mut definitions)?;
@@ -60,7 +49,7 @@ fn check_definition(alloc: Global, whole: &Definition) -> Result<Checked, CheckF
             ranks,
         }),
         Ranking::Unguarded(set) => Err(CheckFault::E27 {
-            name: copy_placed(alloc, &definitions[set[0] + 1].name)?,
+            name: definitions[set[0] + 1].name.copy(alloc)?,
             set,
         }),
     }

@@ -1,22 +1,19 @@
 -- Definitions with their scopes, and the names that a scope binds.
-use Rattle.std.specs.Prelude.{◌≡◌, ◌⊎◌, ℕ, ◌<◌, ◌+◌, List, [], ◌∷◌, ◌++◌, length, get_or, drop, true, false, Bool, Option, IfSome, option_map}
-use Rattle.std.specs.Str.{bytes_eq}
-use Rattle.std.proofs.Common.{zero, suc, inl, inr, refl, sym, subst, arith, ap, drop-cons, add-one, ◌∙◌}
-use Rattle.std.proofs.lemmas.Slice.Eq.{bytes_eq-Decides}
-use Rattle.lotos_text.specs.AstView.{DefinitionView, DefinitionListView, def, no_defs, more_defs, name_of, formals_of, body_of, inner_of}
+use Rattle.std.specs.Prelude.{◌≡◌, ℕ, ◌<◌, ◌+◌, List, [], ◌∷◌, length, get_or, drop, Option, IfSome, option_map}
+use Rattle.std.proofs.Common.{zero, suc, inl, inr, refl, sym, subst, arith, ap}
+use Rattle.lotos_text.specs.AstView.{DefinitionView, DefinitionListView, no_defs, more_defs, name_of, formals_of, body_of, inner_of}
 use Rattle.lotos_text.specs.AstOf.{definition_view, definitions_view}
 use Rattle.lotos_text.specs.declared.ast.Definition.{Definition, out-Definition}
 use Rattle.lotos_check.specs.NameLists.{Name, In, texts}
 use Rattle.lotos_check.specs.Scope.{Scope, ScopedDefinition, Declares, here, later, nearest, outward, count, within, declared_names, definitions_in_scope, definition_in_scope}
+use Rattle.lotos_check.proofs.BindingUnique.{declared_in}
 use Rattle.lotos_check.proofs.JoinedLists.{in_back, in_front}
+use Rattle.lotos_check.proofs.NameTests.{in_or_not}
+use Rattle.lotos_check.proofs.Pairs.{drop_at}
+use Rattle.lotos_check.proofs.ScopedDefinitions.{listed_more}
 use Rattle.lotos_explain.specs.SimilarNames.{IsFrom, IsBound, IsInScopeAt, IsInScopeInAny, IsGateInScopeAt, CallsAt, IsBoundInAny, IsProcessVisibleAt}
-use Rattle.lotos_explain.proofs.DefinitionParts.{name_shown}
+use Rattle.lotos_text.proofs.DefinitionParts.{name_shown}
 use Rattle.lotos_explain.proofs.SimilarNames.{some_weaker, of_some}
-
--- definitions are listed as the first with its inner ones, and then the others
-listed_more : (scope : Scope) (first : ℕ) (d : DefinitionView) (ds : DefinitionListView) →
-    definitions_in_scope scope first (more_defs d ds) ≡ definition_in_scope scope (first + 1) d ++ definitions_in_scope scope (first + 1 + count (inner_of d)) ds
-listed_more scope first (def name formals declared body inner) ds = refl
 
 -- the definitions of the rest, numbered from some number on, are among those of the whole
 abbrev pub Continues : Scope → ℕ → DefinitionListView → DefinitionListView → Type 0
@@ -28,10 +25,7 @@ continues_all scope first all rest e = (first, λ v h. subst (λ ds. In v (defin
 
 module _ (items : List Definition) (index : ℕ) (item : Definition) (below : index < length items) (is : item ≡ get_or items index item) where
   pub rest_at : definitions_view (drop index items) ≡ more_defs (definition_view item) (definitions_view (drop (index + 1) items))
-  rest_at =
-      let left : drop index items ≡ item ∷ drop (index + 1) items =
-      rw (drop-cons items index item below, add-one) (ap (λ x. x ∷ drop (suc index) items) (sym is)) in
-      ap definitions_view left
+  rest_at = ap definitions_view (drop_at items index item item below is)
 
   module _ (scope : Scope) (first : ℕ) (all : DefinitionListView) (h : Continues scope first all (definitions_view (drop index items))) where
     pub continues_next : Continues scope first all (definitions_view (drop (index + 1) items))
@@ -92,28 +86,6 @@ declares_some : (ds : DefinitionListView) (first : ℕ) (n : Name) → In n (tex
 declares_some no_defs first n i = absurd i
 declares_some (more_defs d ds) first n (inl e) = (first, d, subst (λ m. Declares (more_defs d ds) first m first d) e here)
 declares_some (more_defs d ds) first n (inr i) = let (k, e, h) = declares_some ds (first + 1 + count (inner_of d)) n i in (k, e, later h)
-
-declared_in : (ds : DefinitionListView) (k : ℕ) (n : Name) (j : ℕ) (e : DefinitionView) → Declares ds k n j e → In n (texts (declared_names ds))
-declared_in no_defs k n j e declares = elim declares [ ]
-declared_in (more_defs d ds) k n j e here = inl refl
-declared_in (more_defs d ds) k n j e (later rest) = inr (declared_in ds (k + 1 + count (inner_of d)) n j e rest)
-
--- a name is in a list, or is not
-in_or_not : (n : Name) (ms : List Name) → In n ms ⊎ (In n ms → ⊥)
-in_or_not n [] = inr (λ i. i)
-in_or_not n (m ∷ ms) =
-    let others = in_or_not n ms in
-    let by = (λ (b : Bool) (h : bytes_eq m n ≡ b). elim b as (λ b. bytes_eq m n ≡ b → In n (m ∷ ms) ⊎ (In n (m ∷ ms) → ⊥)) [
-      | true ↦ λ h. inl (inl ((bytes_eq-Decides m n).0 h))
-      | false ↦ λ h. elim others [
-        | inl i ↦ inl (inr i)
-        | inr out ↦ inr (λ x. elim x [
-          | inl e ↦ let t = (bytes_eq-Decides m n).1 e in let f : true ≡ false = sym t ∙ h in cc
-          | inr i ↦ out i
-        ])
-      ]
-    ] h) in
-    by (bytes_eq m n) refl
 
 -- a name that the nearest `where` declares is bound
 pub bound_nearest : (ds : DefinitionListView) (first : ℕ) (scope : Scope) (n : Name) → In n (texts (declared_names ds)) →

@@ -17,7 +17,7 @@ use Rattle.lotos_check.specs.Functionality.{Func, of_stop, of_exit, of_prefix, o
 use Rattle.lotos_explain.specs.declared.functionality_causes.Cause.{Cause}
 use Rattle.lotos_explain.specs.declared.functionality_causes.Leaf.TheVariants as leaf
 use Rattle.lotos_explain.specs.FunctionalityCauses.{IsReached, itself, under_prefix, under_hide, left_choice, right_choice, left_disable, right_disable, left_par, right_par, right_enable, HasCause, HasCauseInAny, IsCauseAt, IsEnclosing, IsBoundTo, IsDeclared}
-use Rattle.lotos_explain.proofs.DefinitionParts.{name_shown, declared_shown}
+use Rattle.lotos_text.proofs.DefinitionParts.{name_shown, declared_shown}
 use Rattle.lotos_explain.proofs.SimilarNames.{some_weaker}
 
 module _ (scope : Scope) where

@@ -9,6 +9,7 @@ use Rattle.lotos_text.specs.declared.ast.Behaviour.{Behaviour}
 use Rattle.lotos_text.specs.declared.ast.SyncSet.{SyncSet}
 use Rattle.lotos_text.specs.declared.ast.Placed.{Placed}
 use Rattle.lotos_text.specs.declared.ast.Action.TheVariants.{Gate}
+use Rattle.lotos_text.proofs.TwoOperands.{HasOperands, by_operands}
 use Rattle.lotos_check.specs.NameLists.{Name, In, texts}
 use Rattle.lotos_check.specs.Subexpressions.{IsSubexpression, whole, in_choice_left, in_choice_right, in_par_left, in_par_right, in_enable_left, in_enable_right, in_disable_left, in_disable_right, acts, synchronizes, passes}
 use Rattle.lotos_check.proofs.JoinedLists.{in_back, in_front}
@@ -98,22 +99,20 @@ module _ (around : List Name) (at : ℕ) where
   pub calls_itself : (p : Placed) (gs : List Placed) → p.at ≡ at → CallsAt around (call p gs) at
   calls_itself p gs e = record { there = around; called = p; actuals = gs; inside = whole; offset = e }
 
--- the behaviour has two operands, these
-abbrev pub HasOperands : Behaviour → Box Behaviour Global → Box Behaviour Global → Type 0
-HasOperands b left right = (b ≡ code.Choice left right) ⊎ ((s : SyncSet) × (b ≡ code.Par left s right))
-    ⊎ ((at : ℕ) × (b ≡ code.Enable left at right)) ⊎ (b ≡ code.Disable left right)
-
+-- an operand's parts are parts of a behaviour with two operands
 module _ (around there : List Name) (t : BehaviourView) where
-  pub in_left_operand : (b : Behaviour) (left right : Box Behaviour Global) → HasOperands b left right →
+  pub in_left_operand : (b : Behaviour) (left right : Box Behaviour Global) →
+      ((s : SyncSet) × (b ≡ code.Par left s right)) ⊎ HasOperands b left right →
       IsSubexpression around (behaviour_view left.value) there t → IsSubexpression around (behaviour_view b) there t
-  in_left_operand b left right (inl e) h = rw e (in_choice_left h)
-  in_left_operand b left right (inr (inl (s, e))) h = rw e (in_par_left h)
-  in_left_operand b left right (inr (inr (inl (at, e)))) h = rw e (in_enable_left h)
-  in_left_operand b left right (inr (inr (inr e))) h = rw e (in_disable_left h)
+  in_left_operand b left right (inl (s, e)) h = rw e (in_par_left h)
+  in_left_operand b left right (inr has) h =
+      by_operands (λ v. IsSubexpression around v there t) b left right
+      (in_choice_left h) (λ at. in_enable_left h) (in_disable_left h) has
 
-  pub in_right_operand : (b : Behaviour) (left right : Box Behaviour Global) → HasOperands b left right →
+  pub in_right_operand : (b : Behaviour) (left right : Box Behaviour Global) →
+      ((s : SyncSet) × (b ≡ code.Par left s right)) ⊎ HasOperands b left right →
       IsSubexpression around (behaviour_view right.value) there t → IsSubexpression around (behaviour_view b) there t
-  in_right_operand b left right (inl e) h = rw e (in_choice_right h)
-  in_right_operand b left right (inr (inl (s, e))) h = rw e (in_par_right h)
-  in_right_operand b left right (inr (inr (inl (at, e)))) h = rw e (in_enable_right h)
-  in_right_operand b left right (inr (inr (inr e))) h = rw e (in_disable_right h)
+  in_right_operand b left right (inl (s, e)) h = rw e (in_par_right h)
+  in_right_operand b left right (inr has) h =
+      by_operands (λ v. IsSubexpression around v there t) b left right
+      (in_choice_right h) (λ at. in_enable_right h) (in_disable_right h) has

@@ -5,22 +5,21 @@ use crate::continuations::NAME;
 use crate::expectations::expected_tokens;
 use crate::functionality_causes::{Cause, Leaf, functionality_cause};
 use crate::line_bounds::line_of;
-use crate::similar_gates::close_gate;
-use crate::similar_processes::close_process;
+use crate::similar_gates::similar_gate_in_scope;
+use crate::similar_processes::similar_process_in_scope;
 use crate::token_description::{Description, describe_token};
 use lotos_check::CheckFault;
 use lotos_text::{
-    Functionality, Placed, TEXT_LIMIT, TextFault, Token, TokenKind, line_column, parse,
+    Functionality, Placed, Specification, TEXT_LIMIT, TextFault, Token, TokenKind, line_column,
 };
 use std::alloc::{AllocError, Global};
 use std::fmt;
 use std::io::Write;
 
-/// The most bytes before a fault for which it is tried what could be there: each trial parses all of them.
+/// The most bytes before a fault at whose place completions are tried: each trial parses all of them.
 const EXPECTED_LIMIT: usize = 1 << 16;
 
-/// The most bytes of a text in which it is looked for what makes a functionality: each call is looked up among all
-/// visible processes.
+/// The most bytes of a text of which a functionality is explained: each call is looked up among all visible processes.
 const CAUSE_LIMIT: usize = 1 << 16;
 
 /// The most bytes of a line that are shown before the place, and in all.
@@ -35,7 +34,7 @@ const SHOWN_OF_TOKEN: usize = 40;
 ///
 /// The text of E03 is not looked at.
 pub fn explain_text_fault<E: Write>(alloc: Global, text: &[u8], fault: &TextFault, err: &mut E) {
-    let Some(at) = offset_of(fault) else {
+    let Some(at) = fault.at() else {
         let _ = writeln!(err, "  {}", text_advice(fault, &Description::Nothing, &[]));
         return;
     };
@@ -47,53 +46,69 @@ pub fn explain_text_fault<E: Write>(alloc: Global, text: &[u8], fault: &TextFaul
 
 /// Explains a static rule that the specification of a text breaks: the line of its place, a name that could be meant
 /// where one is not declared, what makes a functionality that is not the declared one, and what to do.
-pub fn explain_check_fault<E: Write>(alloc: Global, text: &[u8], fault: &CheckFault, err: &mut E) {
+pub fn explain_check_fault<E: Write>(
+    alloc: Global,
+    text: &[u8],
+    specification: &Specification,
+    fault: &CheckFault,
+    err: &mut E,
+) {
     if let Some(at) = fault.at() {
         show_line(text, at, err);
     }
     match fault {
-        CheckFault::E21(gate) => report_close_gate(alloc, text, gate, err),
-        CheckFault::E22(name) => report_close_process(alloc, text, name, err),
-        CheckFault::E25 { name, .. } => report_cause(alloc, text, name.at, err),
+        CheckFault::E21(gate) => report_similar_gate(alloc, specification, gate, err),
+        CheckFault::E22(name) => report_similar_process(alloc, specification, name, err),
+        CheckFault::E25 { name, .. } => report_cause(alloc, text, specification, name.at, err),
         _ => {}
     }
     let _ = writeln!(err, "  {}", check_advice(fault));
 }
 
 /// Writes the name of a gate that could be meant, if one is found.
-fn report_close_gate<E: Write>(alloc: Global, text: &[u8], gate: &Placed, err: &mut E) {
-    if let Ok(specification) = parse(alloc, text) {
-        let found = close_gate(alloc, &specification, gate.at, gate.name.text());
-        if let Ok(Some(name)) = found {
-            let _ = writeln!(err, "  a gate in scope has a similar name: {}", name.text());
-        }
+fn report_similar_gate<E: Write>(
+    alloc: Global,
+    specification: &Specification,
+    gate: &Placed,
+    err: &mut E,
+) {
+    let found = similar_gate_in_scope(alloc, specification, gate.at, gate.name.text());
+    if let Ok(Some(name)) = found {
+        let _ = writeln!(err, "  a gate in scope has a similar name: {}", name.text());
     }
 }
 
 /// Writes the name of a process that could be meant, if one is found.
-fn report_close_process<E: Write>(alloc: Global, text: &[u8], called: &Placed, err: &mut E) {
-    if let Ok(specification) = parse(alloc, text) {
-        let found = close_process(alloc, &specification, called.at, called.name.text());
-        if let Ok(Some(name)) = found {
-            let _ = writeln!(
-                err,
-                "  a process that is visible here has a similar name: {}",
-                name.text()
-            );
-        }
+fn report_similar_process<E: Write>(
+    alloc: Global,
+    specification: &Specification,
+    called: &Placed,
+    err: &mut E,
+) {
+    let found = similar_process_in_scope(alloc, specification, called.at, called.name.text());
+    if let Ok(Some(name)) = found {
+        let _ = writeln!(
+            err,
+            "  a process that is visible here has a similar name: {}",
+            name.text()
+        );
     }
 }
 
 /// Writes what makes the functionality of the definition whose name has the offset, if it is found and the text is not
 /// too long.
-fn report_cause<E: Write>(alloc: Global, text: &[u8], at: usize, err: &mut E) {
+fn report_cause<E: Write>(
+    alloc: Global,
+    text: &[u8],
+    specification: &Specification,
+    at: usize,
+    err: &mut E,
+) {
     if text.len() > CAUSE_LIMIT {
         return;
     }
-    if let Ok(specification) = parse(alloc, text) {
-        if let Ok(Some(cause)) = functionality_cause(alloc, &specification, at) {
-            write_cause(text, &cause, err);
-        }
+    if let Ok(Some(cause)) = functionality_cause(alloc, specification, at) {
+        write_cause(text, &cause, err);
     }
 }
 
@@ -115,18 +130,6 @@ fn write_cause<E: Write>(text: &[u8], cause: &Cause, err: &mut E) {
         }
         Leaf::Call(_) => Ok(()),
     };
-}
-
-fn offset_of(fault: &TextFault) -> Option<usize> {
-    match fault {
-        TextFault::E01(at)
-        | TextFault::E02(at)
-        | TextFault::E04(at)
-        | TextFault::E05(at)
-        | TextFault::E06(at)
-        | TextFault::E07(at) => Some(*at),
-        TextFault::E03 | TextFault::E99(_) => None,
-    }
 }
 
 /// Writes the line of the offset, or a part of a long one, and a mark under the offset.
@@ -165,6 +168,7 @@ fn explain_token<E: Write>(
     Ok(())
 }
 
+/// What is at the offset; of a text that is too long nothing.
 fn description_of(alloc: Global, text: &[u8], at: usize) -> Result<Description, AllocError> {
     if text.len() > TEXT_LIMIT {
         return Ok(Description::Nothing);

@@ -67,8 +67,8 @@ fn hidden_in_behaviour(behaviour: &Behaviour, name: &str) -> Option<usize>
             Some(at) => Some(at),
             None => hidden_in_behaviour(body, name),
         },
-        Behaviour::Choice { left, right }
-        | Behaviour::Par { left, right, .. }
+        Behaviour::Par { left, right, .. }
+        | Behaviour::Choice { left, right }
         | Behaviour::Enable { left, right, .. }
         | Behaviour::Disable { left, right } => match hidden_in_behaviour(left, name) {
             Some(at) => Some(at),

@@ -2,9 +2,9 @@
 //!
 //! [`explain_text_fault`] and [`explain_check_fault`] write the line of the text with a mark under the place of the
 //! fault, what is there, which words, signs and names could be there, and what to do. What they say of the text is what
-//! [`line_of`], [`describe_token`], [`expected_tokens`], [`close_gate`], [`close_process`] and [`functionality_cause`]
-//! return, whose contracts cite the definitions in `specs/`. [`similar_name`], [`hidden_gate`] and [`formal_gate`] find
-//! what could be meant by a name that is no gate of a specification.
+//! [`line_of`], [`describe_token`], [`expected_tokens`], [`similar_gate_in_scope`], [`similar_process_in_scope`] and
+//! [`functionality_cause`] return, whose contracts cite the definitions in `specs/`. [`similar_name`], [`hidden_gate`]
+//! and [`formal_gate`] find what could be meant by a name that is no gate of a specification.
 #![tactic(auto)]
 
 mod advice;
@@ -24,7 +24,7 @@ pub use explanation::{explain_check_fault, explain_text_fault};
 pub use functionality_causes::{Cause, Leaf, functionality_cause};
 pub use inner_gates::{formal_gate, hidden_gate};
 pub use line_bounds::{LineBounds, line_of};
-pub use similar_gates::close_gate;
+pub use similar_gates::similar_gate_in_scope;
 pub use similar_names::similar_name;
-pub use similar_processes::close_process;
+pub use similar_processes::similar_process_in_scope;
 pub use token_description::{Description, describe_token};

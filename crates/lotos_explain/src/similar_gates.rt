@@ -16,7 +16,7 @@ use std::alloc::{AllocError, Global};
 /// # Errors
 ///
 /// If an allocation fails.
-pub fn close_gate<'a>(
+pub fn similar_gate_in_scope<'a>(
     alloc: Global,
     specification: &'a Specification,
     at: usize,
@@ -73,8 +73,8 @@ fn gate_in_behaviour<'a>(
             let best = similar_gate(alloc, name, best, gates.as_slice())?;
             gate_in_behaviour(alloc, body, at, name, best)
         }
-        Behaviour::Choice { left, right }
-        | Behaviour::Par { left, right, .. }
+        Behaviour::Par { left, right, .. }
+        | Behaviour::Choice { left, right }
         | Behaviour::Enable { left, right, .. }
         | Behaviour::Disable { left, right } => {
             match gate_in_behaviour(alloc, left, at, name, best)? {

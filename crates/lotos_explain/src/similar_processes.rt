@@ -15,7 +15,7 @@ use std::alloc::{AllocError, Global};
 /// # Errors
 ///
 /// If an allocation fails.
-pub fn close_process<'a>(
+pub fn similar_process_in_scope<'a>(
     alloc: Global,
     specification: &'a Specification,
     at: usize,
@@ -60,8 +60,8 @@ fn calls_at(behaviour: &Behaviour, at: usize) -> bool
         Behaviour::Stop | Behaviour::Exit => false,
         Behaviour::Call { name, .. } => name.at == at,
         Behaviour::Prefix { body, .. } | Behaviour::Hide { body, .. } => calls_at(body, at),
-        Behaviour::Choice { left, right }
-        | Behaviour::Par { left, right, .. }
+        Behaviour::Par { left, right, .. }
+        | Behaviour::Choice { left, right }
         | Behaviour::Enable { left, right, .. }
         | Behaviour::Disable { left, right } => calls_at(left, at) || calls_at(right, at),
     }

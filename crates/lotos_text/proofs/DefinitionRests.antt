@@ -6,7 +6,8 @@ use Rattle.lotos_text.specs.Phrases.{Sequence, OneToken, BehaviourPhrase, Header
 use Rattle.lotos_text.specs.AstView.{BehaviourView, DefinitionView, DefinitionListView}
 use Rattle.lotos_text.specs.declared.token.Token.{Token}
 use Rattle.lotos_text.proofs.Definitions.{firm_inner}
-use Rattle.lotos_text.proofs.PhraseUniqueness.{FirmWithin, firm_always, firm_then_within, firm_preceded_within, firm_expression, firm_header, lost_after}
+use Rattle.lotos_text.proofs.Headers.{firm_header}
+use Rattle.lotos_text.proofs.PhraseUniqueness.{FirmWithin, firm_always, firm_then_within, firm_preceded_within, firm_expression, lost_after}
 use Rattle.lotos_text.proofs.OneToken.{found_preceded, lost_before, lost_preceded, found_before, lost_within}
 use Rattle.lotos_text.proofs.Sequences.{found_then, lost_first, lost_second}
 use Rattle.lotos_text.proofs.ParseErrors.{Carries}

@@ -1,12 +1,12 @@
 -- The header of a definition: how it parses and fails.
 use Rattle.std.proofs.Common.{ℕ, List, refl}
 use Rattle.lotos_text.specs.ParserContracts.{Phrase, Parses, Fails}
-use Rattle.lotos_text.specs.Phrases.{Sequence, OneName, OptionalGates, FunctionalityPhrase, HeaderValue, HeaderPhrase}
+use Rattle.lotos_text.specs.Phrases.{Sequence, OneName, OptionalGates, OneFunctionality, FunctionalityPhrase, HeaderValue, HeaderPhrase}
 use Rattle.lotos_text.specs.declared.token.Token.{Token}
 use Rattle.lotos_text.specs.declared.ast.Functionality.{Functionality}
 use Rattle.lotos_text.specs.declared.ast.Placed.{Placed}
 use Rattle.lotos_text.proofs.NameLists.{firm_gates}
-use Rattle.lotos_text.proofs.OneToken.{firm_name}
+use Rattle.lotos_text.proofs.OneToken.{firm_name, firm_declared, firm_preceded}
 use Rattle.lotos_text.proofs.Sequences.{Firm, found_then, lost_first, lost_second, firm_then}
 
 abbrev named : Placed → List Placed → Placed × List Placed
@@ -22,6 +22,10 @@ module _ (text : List ℕ) where
 
   firm_front : Firm Front
   firm_front = firm_then named (OneName text) (OptionalGates text) (firm_name text) (firm_gates text)
+
+  -- a header is the only one
+  pub firm_header : Firm (HeaderPhrase text)
+  firm_header = firm_then headed Front FunctionalityPhrase firm_front (firm_preceded _ OneFunctionality firm_declared)
 
   found_front : (ts r q : List Token) (name : Placed) (formals : List Placed) → Parses (OneName text) ts name r →
       Parses (OptionalGates text) r formals q → Parses Front ts (name, formals) q

@@ -15,6 +15,7 @@ pub mod NameLists
 pub mod Operands
 pub mod Levels
 pub mod GrammarUnique
+pub mod Headers
 pub mod PhraseUniqueness
 pub mod Definitions
 pub mod OperandStarts
@@ -27,9 +28,10 @@ pub mod Calls
 pub mod Hidings
 pub mod SyncLists
 pub mod Operations
-pub mod Headers
 pub mod DefinitionRests
 pub mod DefinitionLists
 pub mod WholeSpecification
 pub mod ParseOutcome
 pub mod AstViews
+pub mod DefinitionParts
+pub mod TwoOperands

@@ -2,16 +2,13 @@
 use Rattle.std.proofs.Common.{◌≡◌, ℕ, List, ◌++◌, sym, ◌∙◌, ap, append_assoc, arith, subst}
 use Rattle.lotos_text.specs.Grammar.{Level}
 use Rattle.lotos_text.specs.ParserContracts.{Phrase, NestingLimit, Parses, StartsAlike, Fails}
-use Rattle.lotos_text.specs.Phrases.{Sequence, OneToken, Preceded, Followed, OneName, OptionalGates, OneOperator, BehaviourPhrase, OneFunctionality, FunctionalityPhrase, HeaderValue, HeaderPhrase}
+use Rattle.lotos_text.specs.Phrases.{Sequence, OneToken, Preceded, Followed, OneOperator, BehaviourPhrase}
 use Rattle.lotos_text.specs.declared.token.Token.{Token}
 use Rattle.lotos_text.specs.declared.token.TokenKind.{TokenKind}
-use Rattle.lotos_text.specs.declared.ast.Functionality.{Functionality}
-use Rattle.lotos_text.specs.declared.ast.Placed.{Placed}
 use Rattle.lotos_text.proofs.FirstToken.{starts_after, starts_rank}
 use Rattle.lotos_text.proofs.Levels.{unique_operator}
-use Rattle.lotos_text.proofs.NameLists.{firm_gates}
-use Rattle.lotos_text.proofs.OneToken.{firm_one, firm_name, firm_declared, firm_preceded}
-use Rattle.lotos_text.proofs.Sequences.{Same, Firm, firm_then}
+use Rattle.lotos_text.proofs.OneToken.{firm_one}
+use Rattle.lotos_text.proofs.Sequences.{Same, Firm}
 use Rattle.lotos_text.proofs.GrammarUnique.{unique}
 
 -- A part that is whole before one list and within one limit stays the only one before each list that starts alike, and within
@@ -76,16 +73,3 @@ module _ (text : List ℕ) where
   firm_operation l a b r more q x y p st o e =
       let h = unique_operator text more q p.operates o.operates e in
       record { tokens = h.tokens; said = h.operator; rest = h.rest }
-
-  -- the header
-
-  abbrev named : Placed → List Placed → Placed × List Placed
-  named name formals = (name, formals)
-
-  abbrev headed : Placed × List Placed → Functionality → HeaderValue
-  headed front returns = (front.0, front.1, returns)
-
-  -- a header is the only one
-  pub firm_header : Firm (HeaderPhrase text)
-  firm_header = firm_then headed (Sequence named (OneName text) (OptionalGates text)) FunctionalityPhrase
-      (firm_then named (OneName text) (OptionalGates text) (firm_name text) (firm_gates text)) (firm_preceded _ OneFunctionality firm_declared)

@@ -1,8 +1,10 @@
 //! The AST of a specification.
 //!
 //! The forms are those of ISO 8807:1989: behaviour expressions and process definitions. Parentheses have no node.
+ghost use Rattle.std.specs.Prelude.{◌≡◌, IfOk};
 
 use crate::name::Name;
+use std::alloc::{AllocError, Global};
 
 /// A name with its offset in the text.
 #[derive(Debug, Drop)]
@@ -10,6 +12,16 @@ pub struct Placed {
     pub name: Name,
     /// The offset of its first byte.
     pub at: usize,
+}
+
+impl Placed {
+    /// A copy of the name with its offset. Fails if an allocation fails.
+    pub fn copy(&self, alloc: Global) -> Result<Placed, AllocError>
+        ensures { IfOk result (λ p. p ≡ self.now) }
+    {
+        let name = self.name.copy(alloc)?;
+        Ok(Placed { name, at: self.at })
+    }
 }
 
 /// What a prefix does first.

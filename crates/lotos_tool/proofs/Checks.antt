@@ -1,5 +1,5 @@
 -- The outcome of a check.
-use Rattle.std.proofs.Common.{◌≡◌, ◌∙◌, ℕ, Bool, false, List, [], length, map, Option, None, Err, sym, ap, append-nil, refl, subst, arith}
+use Rattle.std.proofs.Common.{◌≡◌, ◌∙◌, ℕ, Bool, false, List, [], length, map, Option, None, Err, sym, ap, append-nil, refl, subst}
 use Rattle.std.proofs.lemmas.List.{length-map}
 use Rattle.std.specs.Io.KnownBytes.{Appends, Keeps}
 use Rattle.std.proofs.KnownBytes.{Appends-kept}
@@ -13,16 +13,16 @@ use Rattle.lotos_tool.specs.OutcomeFlags.{is_input_fault, is_output_fault}
 use Rattle.lotos_tool.specs.OutputLines.{check_lines}
 use Rattle.lotos_tool.specs.ProgramRuns.{CheckReported, TextReported, check_status_of}
 use Rattle.lotos_tool.specs.ProgramRuns.TextReported.{accepted, rejected}
-use Rattle.lotos_tool.specs.RejectedText.{IsInputRejection, IsRejection, end_of, is_input_failure}
-use Rattle.lotos_tool.specs.SearchSetup.{IsFinished}
-use Rattle.lotos_tool.specs.AcceptedText.{ReadsAccepted}
-use Rattle.lotos_tool.specs.declared.outcome.Ended.{Ended}
-use Rattle.lotos_tool.specs.declared.outcome.Ended.TheVariants.{Complete, Refused, Stopped}
-use Rattle.lotos_tool.specs.declared.outcome.Why.TheVariants as why
-use Rattle.lotos_tool.specs.declared.refusal.Refusal.TheVariants as refusal
-use Rattle.lotos_tool.specs.declared.specification_input.Rejection.{Rejection}
-use Rattle.lotos_tool.specs.declared.specification_input.Rejection.TheVariants as rejection
-use Rattle.lotos_tool.proofs.RefusalCauses.{unread}
+use Rattle.lotos_tool.specs.RefusalCauses.{IsInputRefusal}
+use Rattle.lotos_tool.specs.Rejections.{IsRejectionBy, end_of, is_input_failure}
+use Rattle.lotos_tool.specs.SearchParts.{IsFinished}
+use Rattle.lotos_tool.specs.QuestionParts.{ReadsAccepted}
+use Rattle.lotos_report.specs.declared.outcome.Ended.{Ended}
+use Rattle.lotos_report.specs.declared.outcome.Ended.TheVariants.{Complete, Refused, Stopped}
+use Rattle.lotos_report.specs.declared.outcome.Why.TheVariants as why
+use Rattle.lotos_tool.specs.declared.rejection.Rejection.{Rejection}
+use Rattle.lotos_tool.specs.declared.rejection.Rejection.TheVariants as rejection
+use Rattle.lotos_tool.proofs.Rejections.{taken_all, text_was_read, unread}
 
 -- ---- the lines of an accepted specification
 
@@ -48,30 +48,15 @@ processes_ended got mid got' system lines (Stopped kept why.Write) front count h
 -- the specification was read, and its lines were written with this outcome
 pub check_ended : (left left' got got' : Option (List ℕ)) (system : System) (ended : Ended) → ReadsAccepted left left' system →
     ProcessesOutcome system got got' ended → CheckOutcome left left' got got' ended
-check_ended left left' got got' system (Complete counted) read h = record {
-  text = read.text;
-  system = system;
-  read = read.read;
-  accepted = read.accepted;
-  written = h.0;
-  count = h.1;
-}
+check_ended left left' got got' system (Complete counted) read h = record { system = system; read = read; written = h.0; count = h.1 }
 check_ended left left' got got' system (Refused cause) read h = absurd h
 check_ended left left' got got' system (Stopped last why.Limit) read h = absurd h
 check_ended left left' got got' system (Stopped last (why.OverTerms prefix)) read h = absurd h
 check_ended left left' got got' system (Stopped last why.Memory) read h = record {
-  taken = (read.text, (let w = read.read.within in omega arith), read.read.bytes);
-  kept = h.0;
+  unwritten = record { taken = taken_all left left' system read; kept = h.0 };
   no_line = h.1;
 }
-check_ended left left' got got' system (Stopped last why.Write) read h = record {
-  text = read.text;
-  system = system;
-  read = read.read;
-  accepted = read.accepted;
-  written = h.0;
-  no_line = h.1;
-}
+check_ended left left' got got' system (Stopped last why.Write) read h = record { system = system; read = read; written = h.0; no_line = h.1 }
 
 -- the outcome of writing lines is no fault of the input
 pub no_fault_of_input : (got got' : Option (List ℕ)) (system : System) (ended : Ended) → ProcessesOutcome system got got' ended → is_input_fault ended ≡ false
@@ -85,35 +70,20 @@ process_count processes shown e = sym (length-map processes process_of) ∙ ap l
 
 -- ---- input that is rejected
 
-pub rejection_ended : (left left' got got' : Option (List ℕ)) (cause : Rejection) → IsInputRejection left left' cause → Keeps got got' →
+pub rejection_ended : (left left' got got' : Option (List ℕ)) (cause : Rejection) → IsRejectionBy IsInputRefusal left left' cause → Keeps got got' →
     CheckOutcome left left' got got' (end_of cause)
 rejection_ended left left' got got' (rejection.Refused cause) h kept = (h, kept)
-rejection_ended left left' got got' rejection.Memory h kept = record { taken = h; kept = kept; no_line = refl }
+rejection_ended left left' got got' rejection.Memory h kept = record { unwritten = record { taken = h; kept = kept }; no_line = refl }
 
 -- the reader failed exactly if the outcome says so
 pub rejection_of_reader : (T : Type 0) (cause : Rejection) → is_input_failure {T = T} (Err cause) ≡ is_input_fault (end_of cause)
 rejection_of_reader T rejection.Memory = refl
-rejection_of_reader T (rejection.Refused (refusal.Text fault place)) = refl
-rejection_of_reader T (rejection.Refused (refusal.Check fault line column)) = refl
-rejection_of_reader T (rejection.Refused (refusal.Pattern fault)) = refl
-rejection_of_reader T (rejection.Refused (refusal.Mark fault)) = refl
-rejection_of_reader T (rejection.Refused refusal.E47) = refl
-rejection_of_reader T (rejection.Refused (refusal.E49 n)) = refl
+rejection_of_reader T (rejection.Refused cause) = refl
 
 -- a rejection is no fault of the output
 pub rejection_of_output : (cause : Rejection) → is_output_fault (end_of cause) ≡ false
 rejection_of_output rejection.Memory = refl
 rejection_of_output (rejection.Refused cause) = refl
-
--- the rejection of a text is no fault of the reader
-text_of_reader : (text : List ℕ) (cause : Rejection) → IsRejection text cause → is_input_fault (end_of cause) ≡ false
-text_of_reader text rejection.Memory h = refl
-text_of_reader text (rejection.Refused (refusal.Text fault place)) h = refl
-text_of_reader text (rejection.Refused (refusal.Check fault line column)) h = refl
-text_of_reader text (rejection.Refused (refusal.Pattern fault)) h = absurd h
-text_of_reader text (rejection.Refused (refusal.Mark fault)) h = absurd h
-text_of_reader text (rejection.Refused refusal.E47) h = absurd h
-text_of_reader text (rejection.Refused (refusal.E49 n)) h = absurd h
 
 -- ---- a check with diagnostics
 
@@ -130,13 +100,13 @@ text_reported left left' got got' text slice failed status same read unfailed (a
 text_reported left left' got got' text slice failed status same read unfailed (rejected cause is kept status_is) = record {
   ended = end_of cause;
   answered = rejection_ended left left' got got' cause (unread left left' slice cause (subst (ReadsAll left left' max_text_length) (sym same) read) is) kept;
-  input = unfailed ∙ sym (text_of_reader slice cause is);
+  input = unfailed ∙ sym (text_was_read System slice cause is) ∙ rejection_of_reader System cause;
   status_is = status_is;
 }
 
 -- the input was rejected before a text was read
 pub input_reported : (T : Type 0) (left left' got got' : Option (List ℕ)) (cause : Rejection) (failed : Bool) (status : ℕ) →
-    IsInputRejection left left' cause → Keeps got got' → failed ≡ is_input_failure {T = T} (Err cause) → status ≡ check_status_of (end_of cause) →
+    IsRejectionBy IsInputRefusal left left' cause → Keeps got got' → failed ≡ is_input_failure {T = T} (Err cause) → status ≡ check_status_of (end_of cause) →
     CheckReported left left' got got' failed status
 input_reported T left left' got got' cause failed status is kept input status_is = record {
   ended = end_of cause;

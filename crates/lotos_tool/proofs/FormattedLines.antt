@@ -3,8 +3,8 @@ use Rattle.std.proofs.Common.{◌≡◌, ℕ, ◌≤◌, codes, List, [], ◌∷
 use Rattle.std.specs.List.{flat_map}
 use Rattle.std.proofs.Math.ListN.{drop_of_length-le}
 use Rattle.lotos_check.specs.NameLists.{Name}
+use Rattle.lotos_store.specs.declared.label.Label.{Label as TermLabel}
 use Rattle.lotos_terms.specs.TableView.{IsPrintedAs}
-use Rattle.lotos_terms.specs.declared.label.Label.{Label as TermLabel}
 use Rattle.lotos_terms.proofs.PrintedLabels.{one_text}
 use Rattle.lotos_search.specs.Order.{Label}
 use Rattle.lotos_search.specs.Question.{ArePrinted, none_printed, more_printed}

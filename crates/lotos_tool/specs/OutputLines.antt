@@ -4,12 +4,20 @@ use Rattle.std.specs.List.{flat_map}
 use Rattle.lotos_text.specs.declared.ast.Functionality.{Functionality}
 use Rattle.lotos_text.specs.declared.ast.Functionality.TheVariants.{Exit, NoExit}
 use Rattle.lotos_check.specs.Flat.{FlatProcess, System}
+use Rattle.lotos_check.specs.NameLists.{Name}
+use Rattle.lotos_store.specs.declared.label.Label.{Label as TermLabel}
 use Rattle.lotos_search.specs.Order.{Label}
+use Rattle.lotos_search.specs.Question.{ArePrinted}
 
 -- an item of a listing: a sequence, and its least run; or what is observed of a match, and its run
 pub record Item : Type 0 where
   pub sequence : List Label
   pub word : List Label
+
+-- the labels of a sequence and of its run have the printed texts that the item has
+pub record IsItemOf (names : List Name) (labels run : List TermLabel) (item : Item) : Type 0 where
+  pub sequence : ArePrinted names labels item.sequence
+  pub word : ArePrinted names run item.word
 
 -- the sequences of items
 abbrev pub sequences : List Item → List (List Label)

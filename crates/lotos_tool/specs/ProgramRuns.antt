@@ -1,25 +1,25 @@
 -- What a run of the program does, and its exit status.
 use Rattle.std.specs.Prelude.{◌≡◌, ℕ, ◌⊎◌, ◌==◌, Bool, List, Option, false, if◌then◌else◌, string_bytes}
 use Rattle.std.specs.Io.KnownBytes.{Appends, Keeps}
-use Rattle.lotos_tool.specs.ListingOutcome.{SearchOutcome}
+use Rattle.lotos_tool.specs.SearchOutcome.{SearchOutcome}
 use Rattle.lotos_check.specs.AcceptedText.{Accepted}
 use Rattle.lotos_check.specs.Flat.{System}
 use Rattle.lotos_tool.specs.CheckOutcome.{CheckOutcome, ProcessesOutcome}
-use Rattle.lotos_tool.specs.RejectedText.{IsRejection, end_of}
-use Rattle.lotos_tool.specs.declared.specification_input.Rejection.{Rejection}
+use Rattle.lotos_tool.specs.Rejections.{IsRejection, end_of}
+use Rattle.lotos_tool.specs.declared.rejection.Rejection.{Rejection}
 use Rattle.lotos_tool.specs.OutcomeFlags.{is_input_fault}
 use Rattle.lotos_command.specs.CommandFaults.{AreAccepted, AreRejected, AskForHelp}
 use Rattle.lotos_command.specs.Request.{RequestOf, request_view}
 use Rattle.lotos_device.specs.ByteOutput.{AppendsBeginning}
-use Rattle.lotos_tool.specs.declared.outcome.Ended.{Ended}
-use Rattle.lotos_tool.specs.declared.outcome.Ended.TheVariants.{Complete, Refused, Stopped}
-use Rattle.lotos_tool.specs.declared.outcome.Why.{Why}
-use Rattle.lotos_tool.specs.declared.outcome.Why.TheVariants as why
-use Rattle.lotos_tool.specs.EverOutcomeContracts.{EverOutcome, is_ever_input_fault}
-use Rattle.lotos_tool.specs.declared.outcome.EverEnded.{EverEnded}
-use Rattle.lotos_tool.specs.declared.outcome.EverEnded.TheVariants as ever
-use Rattle.lotos_tool.specs.declared.outcome.EverWhy.{EverWhy}
-use Rattle.lotos_tool.specs.declared.outcome.EverWhy.TheVariants as ever_why
+use Rattle.lotos_report.specs.declared.outcome.Ended.{Ended}
+use Rattle.lotos_report.specs.declared.outcome.Ended.TheVariants.{Complete, Refused, Stopped}
+use Rattle.lotos_report.specs.declared.outcome.Why.{Why}
+use Rattle.lotos_report.specs.declared.outcome.Why.TheVariants as why
+use Rattle.lotos_tool.specs.EverOutcome.{EverOutcome, is_ever_input_fault}
+use Rattle.lotos_report.specs.declared.outcome.EverEnded.{EverEnded}
+use Rattle.lotos_report.specs.declared.outcome.EverEnded.TheVariants as ever
+use Rattle.lotos_report.specs.declared.outcome.EverWhy.{EverWhy}
+use Rattle.lotos_report.specs.declared.outcome.EverWhy.TheVariants as ever_why
 use Rattle.lotos_command.specs.declared.command.SearchRequest.{SearchRequest}
 use Rattle.lotos_command.specs.declared.command.DiagnoseRequest.{DiagnoseRequest}
 use Rattle.lotos_command.specs.declared.command.EverRequest.{EverRequest}
@@ -41,13 +41,19 @@ status_of (Complete lines) = if lines == 0 then 1 else 0
 status_of (Refused cause) = 2
 status_of (Stopped last cause) = stop_status_of cause
 
--- a search had an outcome, and the status is that of the outcome
-pub record SearchReported (request : SearchRequest) (left left' got got' : Option (List ℕ)) (failed : Bool) (status : ℕ) : Type 0 where
-  pub ended : Ended
-  pub answered : SearchOutcome request left left' got got' ended
+-- a command had an outcome, and the status is that of the outcome
+pub record Reported (Outcome : Type 0) (Means : Outcome → Type 0) (is_fault : Outcome → Bool) (its_status : Outcome → ℕ)
+    (failed : Bool) (status : ℕ) : Type 0 where
+  pub ended : Outcome
+  pub answered : Means ended
   -- the reader failed exactly if the outcome says so
-  pub input : failed ≡ is_input_fault ended
-  pub status_is : status ≡ status_of ended
+  pub input : failed ≡ is_fault ended
+  pub status_is : status ≡ its_status ended
+
+-- a search had an outcome, and the status is that of the outcome
+abbrev pub SearchReported : SearchRequest → (left left' got got' : Option (List ℕ)) → Bool → ℕ → Type 0
+SearchReported request left left' got got' failed status =
+    Reported Ended (SearchOutcome request left left' got got') is_input_fault status_of failed status
 
 -- the words ask for a search, which had an outcome, and the status is that of the outcome
 pub record SearchRan (words : List (List ℕ)) (left left' got got' : Option (List ℕ)) (failed : Bool) (status : ℕ) : Type 0 where
@@ -68,12 +74,9 @@ AskForCheck words =
     ⊎ ((request : DiagnoseRequest) × RequestOf words (request_view (command.Diagnose request)))
 
 -- a check had an outcome, and the status is that of the outcome
-pub record CheckReported (left left' got got' : Option (List ℕ)) (failed : Bool) (status : ℕ) : Type 0 where
-  pub ended : Ended
-  pub answered : CheckOutcome left left' got got' ended
-  -- the reader failed exactly if the outcome says so
-  pub input : failed ≡ is_input_fault ended
-  pub status_is : status ≡ check_status_of ended
+abbrev pub CheckReported : (left left' got got' : Option (List ℕ)) → Bool → ℕ → Type 0
+CheckReported left left' got got' failed status =
+    Reported Ended (CheckOutcome left left' got got') is_input_fault check_status_of failed status
 
 -- the lines of an accepted specification's processes were written with an outcome, and the status is that of the outcome
 pub record ProcessesReported (system : System) (got got' : Option (List ℕ)) (status : ℕ) : Type 0 where
@@ -110,12 +113,9 @@ ever_status_of (ever.Refused cause) = 2
 ever_status_of (ever.Stopped cause) = ever_stop_status_of cause
 
 -- a search for a match had an outcome, and the status is that of the outcome
-pub record EverReported (request : EverRequest) (left left' got got' : Option (List ℕ)) (failed : Bool) (status : ℕ) : Type 0 where
-  pub ended : EverEnded
-  pub answered : EverOutcome request left left' got got' ended
-  -- the reader failed exactly if the outcome says so
-  pub input : failed ≡ is_ever_input_fault ended
-  pub status_is : status ≡ ever_status_of ended
+abbrev pub EverReported : EverRequest → (left left' got got' : Option (List ℕ)) → Bool → ℕ → Type 0
+EverReported request left left' got got' failed status =
+    Reported EverEnded (EverOutcome request left left' got got') is_ever_input_fault ever_status_of failed status
 
 -- the words ask for a match of any length, the search for it had an outcome, and the status is that of the outcome
 pub record EverRan (words : List (List ℕ)) (left left' got got' : Option (List ℕ)) (failed : Bool) (status : ℕ) : Type 0 where

@@ -4,11 +4,10 @@ ghost use Rattle.std.specs.Vec.Iter.{into_iter_items};
 ghost use Rattle.lotos_text.specs.Limits.{max_text_length};
 ghost use Rattle.lotos_tool.specs.ProgramRuns.{NoArgumentRead, Ran};
 
-use crate::messages::report_failure;
-use crate::outcome::Why;
-use crate::program::run_with_terminal;
-use crate::request_pattern::borrow_texts;
+use crate::program::run;
+use crate::question_parts::borrow_texts;
 use lotos_device::{Sink, Source};
+use lotos_report::{Messages, Why, report_failure};
 use std::alloc::{AllocError, Global};
 use std::env::Args;
 use std::io::{self, Write};
@@ -21,29 +20,7 @@ pub fn run_args<R: Source, W: Sink, E: Write>(
     args: io::Result<Args>,
     reader: &mut R,
     out: &mut W,
-    err: &mut E,
-) -> u8
-    requires reader { R.has_failed reader.old ≡ false }
-    requires out { W.has_failed out.old ≡ false }
-    ensures ran { MatchResult args
-        (λ words. Ran (map string_bytes (into_iter_items words)) (R.left reader.old) (R.left reader.new)
-        (W.got out.old) (W.got out.new) (R.has_failed reader.new) result)
-        (λ _. NoArgumentRead (R.left reader.old) (R.left reader.new)
-        (W.got out.old) (W.got out.new) (R.has_failed reader.new) result) }
-    ensures given { R.given reader.new ≤ R.given reader.old + (max_text_length + 1) }
-    ensures output { W.has_failed out.new ≡ (result == 6) }
-{
-    run_args_with_terminal(alloc, args, reader, out, err, false)
-}
-
-/// As [`run_args`], which runs the command as `run_with_terminal` does: `terminal` says whether `err` is a terminal.
-pub fn run_args_with_terminal<R: Source, W: Sink, E: Write>(
-    alloc: Global,
-    args: io::Result<Args>,
-    reader: &mut R,
-    out: &mut W,
-    err: &mut E,
-    terminal: bool,
+    messages: &mut Messages<E>,
 ) -> u8
     requires reader { R.has_failed reader.old ≡ false }
     requires out { W.has_failed out.old ≡ false }
@@ -56,12 +33,12 @@ pub fn run_args_with_terminal<R: Source, W: Sink, E: Write>(
     ensures output { W.has_failed out.new ≡ (result == 6) }
 {
     let Ok(args) = args else {
-        return report_no_words(err);
+        return report_no_words(messages);
     };
     let Ok(words) = words_of(alloc, args) else {
-        return report_no_words(err);
+        return report_no_words(messages);
     };
-    run_words(alloc, words.as_slice(), reader, out, err, terminal)
+    run_words(alloc, words.as_slice(), reader, out, messages)
 }
 
 /// The arguments as a list.
@@ -81,8 +58,7 @@ fn run_words<R: Source, W: Sink, E: Write>(
     words: &[String],
     reader: &mut R,
     out: &mut W,
-    err: &mut E,
-    terminal: bool,
+    messages: &mut Messages<E>,
 ) -> u8
     requires reader { R.has_failed reader.old ≡ false }
     requires out { W.has_failed out.old ≡ false }
@@ -92,15 +68,15 @@ fn run_words<R: Source, W: Sink, E: Write>(
     ensures output { W.has_failed out.new ≡ (result == 6) }
 {
     match borrow_texts(alloc, words) {
-        Ok(texts) => run_with_terminal(alloc, texts.as_slice(), reader, out, err, terminal),
-        Err(AllocError) => report_no_words(err),
+        Ok(texts) => run(alloc, texts.as_slice(), reader, out, messages),
+        Err(AllocError) => report_no_words(messages),
     }
 }
 
 /// Reports that memory ran out before the words were read, and returns the status.
-fn report_no_words<E: Write>(err: &mut E) -> u8
+fn report_no_words<E: Write>(messages: &mut Messages<E>) -> u8
     ensures { result ≡ 5 }
 {
-    report_failure(err, &Why::Memory);
+    report_failure(&mut messages.stream, &Why::Memory);
     5
 }

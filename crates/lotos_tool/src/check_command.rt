@@ -5,12 +5,13 @@ ghost use Rattle.lotos_check.specs.CheckedView.{system_of};
 ghost use Rattle.lotos_tool.specs.CheckOutcome.{CheckOutcome, ProcessesOutcome};
 ghost use Rattle.lotos_tool.specs.OutcomeFlags.{is_input_fault, is_output_fault};
 
-use crate::outcome::{Ended, Why};
 use crate::output_flush::flush_complete;
 use crate::output_lines::format_processes;
-use crate::specification_input::{end_of, read_specification};
+use crate::rejection::end_of;
+use crate::specification_input::read_specification;
 use lotos_check::Checked;
 use lotos_device::{DeviceFailed, Sink, Source, write_bytes};
+use lotos_report::{Ended, Why};
 use lotos_search::NoProgress;
 use std::alloc::Global;
 
@@ -31,27 +32,27 @@ pub fn check_text<R: Source, W: Sink>(alloc: Global, reader: &mut R, writer: &mu
     ensures input { R.has_failed reader.new ≡ is_input_fault result }
     ensures output { W.has_failed writer.new ≡ is_output_fault result }
 {
-    let found = match read_specification(alloc, reader, &mut NoProgress) {
-        Ok(found) => found,
+    let system = match read_specification(alloc, reader, &mut NoProgress) {
+        Ok(system) => system,
         Err(rejection) => return end_of(rejection),
     };
-    write_processes(alloc, &found, writer)
+    write_processes(alloc, &system, writer)
 }
 
 /// Writes a line for each process of an accepted specification, and flushes the output if no write fails.
-pub fn write_processes<W: Sink>(alloc: Global, found: &Checked, writer: &mut W) -> Ended
+pub fn write_processes<W: Sink>(alloc: Global, system: &Checked, writer: &mut W) -> Ended
     requires { W.has_failed writer.old ≡ false }
-    ensures outcome { ProcessesOutcome (system_of found.now) (W.got writer.old) (W.got writer.new) result }
+    ensures outcome { ProcessesOutcome (system_of system.now) (W.got writer.old) (W.got writer.new) result }
     ensures failed { W.has_failed writer.new ≡ is_output_fault result }
 {
-    let Ok(lines) = format_processes(alloc, found.processes()) else {
+    let Ok(lines) = format_processes(alloc, system.processes()) else {
         return Ended::Stopped {
             last: None,
             why: Why::Memory,
         };
     };
     match write_bytes(writer, lines.as_slice()) {
-        Ok(()) => flush_complete(writer, None, found.processes().len() as u64),
+        Ok(()) => flush_complete(writer, None, system.processes().len() as u64),
         Err(DeviceFailed) => Ended::Stopped {
             last: None,
             why: Why::Write,

@@ -1,21 +1,23 @@
 //! The check with diagnostics: what `check` writes, and on standard error an explanation of its fault, or warnings.
 ghost use Rattle.std.specs.Prelude.{◌≡◌, ◌+◌, ◌≤◌, ◌==◌, false, length};
 ghost use Rattle.lotos_text.specs.Limits.{max_text_length};
-ghost use Rattle.lotos_check.specs.AcceptedText.{Accepted};
+ghost use Rattle.lotos_text.specs.AstOf.{definition_view};
+ghost use Rattle.lotos_check.specs.Acceptance.{IsAccepted};
+ghost use Rattle.lotos_check.specs.AcceptedText.{IsParsed};
 ghost use Rattle.lotos_check.specs.CheckedView.{system_of};
 ghost use Rattle.lotos_tool.specs.ProgramRuns.{CheckReported, ProcessesReported, TextReported, check_status_of};
-ghost use Rattle.lotos_tool.specs.RejectedText.{end_of};
+ghost use Rattle.lotos_tool.specs.Rejections.{end_of};
 
 use crate::check_command::write_processes;
-use crate::outcome::Ended;
 use crate::program::report_check;
-use crate::refusal::Refusal;
-use crate::specification_input::{Rejection, accept_text, end_of, read_input};
-use crate::warning_lines::write_warnings;
-use lotos_check::Checked;
+use crate::rejection::{Rejection, end_of};
+use crate::specification_input::{read_input, reject};
+use lotos_check::{Checked, check_parsed, parse_text};
 use lotos_command::DiagnoseRequest;
 use lotos_device::{Sink, Source};
 use lotos_explain::{explain_check_fault, explain_text_fault};
+use lotos_report::{Ended, Refusal, write_warnings};
+use lotos_text::Specification;
 use lotos_warn::warnings;
 use std::alloc::Global;
 use std::io::Write;
@@ -39,7 +41,7 @@ pub fn diagnose<R: Source, W: Sink, E: Write>(
 {
     match read_input(alloc, reader) {
         Ok(text) => diagnose_text(alloc, asked, text.as_slice(), out, err),
-        Err(rejection) => report_rejection(alloc, asked, b"", rejection, err),
+        Err(rejection) => report_rejection(alloc, asked, b"", None, rejection, err),
     }
 }
 
@@ -56,9 +58,33 @@ fn diagnose_text<W: Sink, E: Write>(
     ensures reported { TextReported text.now (W.got out.old) (W.got out.new) result }
     ensures output { W.has_failed out.new ≡ (result == 6) }
 {
-    match accept_text(alloc, text) {
-        Ok(found) => report_processes(alloc, asked, text, &found, out, err),
-        Err(rejection) => report_rejection(alloc, asked, text, rejection, err),
+    match parse_text(alloc, text) {
+        Ok(specification) => diagnose_parsed(alloc, asked, text, &specification, out, err),
+        Err(fault) => report_rejection(alloc, asked, text, None, reject(text, fault), err),
+    }
+}
+
+/// Checks the specification that a text spells, with diagnostics.
+fn diagnose_parsed<W: Sink, E: Write>(
+    alloc: Global,
+    asked: &DiagnoseRequest,
+    text: &[u8],
+    specification: &Specification,
+    out: &mut W,
+    err: &mut E,
+) -> u8
+    requires text { length text.now ≤ max_text_length }
+    requires parsed { IsParsed text.now (definition_view specification.now.whole) }
+    requires out { W.has_failed out.old ≡ false }
+    ensures reported { TextReported text.now (W.got out.old) (W.got out.new) result }
+    ensures output { W.has_failed out.new ≡ (result == 6) }
+{
+    match check_parsed(alloc, text, specification) {
+        Ok(system) => report_processes(alloc, asked, text, specification, &system, out, err),
+        Err(fault) => {
+            let rejection = reject(text, fault);
+            report_rejection(alloc, asked, text, Some(specification), rejection, err)
+        }
     }
 }
 
@@ -68,37 +94,46 @@ fn report_processes<W: Sink, E: Write>(
     alloc: Global,
     asked: &DiagnoseRequest,
     text: &[u8],
-    found: &Checked,
+    specification: &Specification,
+    system: &Checked,
     out: &mut W,
     err: &mut E,
 ) -> u8
-    requires accepted { Accepted text.now (system_of found.now) }
+    requires accepted { IsAccepted (definition_view specification.now.whole) (system_of system.now) }
     requires out { W.has_failed out.old ≡ false }
-    ensures reported { ProcessesReported (system_of found.now) (W.got out.old) (W.got out.new) result }
+    ensures reported { ProcessesReported (system_of system.now) (W.got out.old) (W.got out.new) result }
     ensures output { W.has_failed out.new ≡ (result == 6) }
 {
-    let ended = write_processes(alloc, found, out);
+    let ended = write_processes(alloc, system, out);
     let status = report_check(&ended, err);
     if asked.warn && status == 0 {
-        warn(alloc, text, found, err);
+        warn(alloc, text, specification, system, err);
     }
     status
 }
 
 /// Writes a line for each warning about an accepted specification; none if memory runs out.
-fn warn<E: Write>(alloc: Global, text: &[u8], found: &Checked, err: &mut E)
-    requires { Accepted text.now (system_of found.now) }
+fn warn<E: Write>(
+    alloc: Global,
+    text: &[u8],
+    specification: &Specification,
+    system: &Checked,
+    err: &mut E,
+)
+    requires { IsAccepted (definition_view specification.now.whole) (system_of system.now) }
 {
-    if let Ok(found) = warnings(alloc, text, found) {
+    if let Ok(found) = warnings(alloc, specification, system) {
         write_warnings(err, text, found.as_slice());
     }
 }
 
-/// Reports why a text is rejected, and then explains it if that is asked for.
+/// Reports why a text is rejected, and then explains it if that is asked for. `specification` is what the text spells,
+/// if it spells one.
 fn report_rejection<E: Write>(
     alloc: Global,
     asked: &DiagnoseRequest,
     text: &[u8],
+    specification: Option<&Specification>,
     rejection: Rejection,
     err: &mut E,
 ) -> u8
@@ -108,18 +143,26 @@ fn report_rejection<E: Write>(
     let ended = end_of(rejection);
     let status = report_check(&ended, err);
     if asked.explain {
-        explain(alloc, text, &ended, err);
+        explain(alloc, text, specification, &ended, err);
     }
     status
 }
 
 /// Explains the fault with which the check of a text ended, if it is one of the text.
-fn explain<E: Write>(alloc: Global, text: &[u8], ended: &Ended, err: &mut E) {
-    match ended {
-        Ended::Refused(Refusal::Text { fault, .. }) => explain_text_fault(alloc, text, fault, err),
-        Ended::Refused(Refusal::Check { fault, .. }) => explain_check_fault(
-            alloc, text, fault, err,
-        ),
+fn explain<E: Write>(
+    alloc: Global,
+    text: &[u8],
+    specification: Option<&Specification>,
+    ended: &Ended,
+    err: &mut E,
+) {
+    match (ended, specification) {
+        (Ended::Refused(Refusal::Text { fault, .. }), _) => {
+            explain_text_fault(alloc, text, fault, err);
+        }
+        (Ended::Refused(Refusal::Check { fault, .. }), Some(specification)) => {
+            explain_check_fault(alloc, text, specification, fault, err);
+        }
         _ => {}
     }
 }

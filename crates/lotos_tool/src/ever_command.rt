@@ -4,30 +4,29 @@ ghost use Rattle.lotos_text.specs.Limits.{max_text_length};
 ghost use Rattle.lotos_check.specs.CheckedView.{system_of};
 ghost use Rattle.lotos_check.specs.Flat.{System};
 ghost use Rattle.lotos_terms.specs.TableView.{IsTableOf};
-ghost use Rattle.lotos_tool.specs.EverSetup.{HasLine, HasNoLine, IsEndWithoutMatch, IsWordsOutcome, IsPrintedItem, IsOutcomeFor, IsWritten};
-ghost use Rattle.lotos_tool.specs.EverOutcomeContracts.{EverOutcome, is_ever_input_fault, is_ever_output_fault};
-ghost use Rattle.lotos_tool.specs.OutputLines.{Item, line_of};
+ghost use Rattle.lotos_tool.specs.EverOutcome.{AreEverParts, EverOutcome, is_ever_input_fault, is_ever_output_fault};
+ghost use Rattle.lotos_tool.specs.EverParts.{HasLine, HasNoLine, IsEndWithoutMatch, IsOutcomeFor, IsWritten};
+ghost use Rattle.lotos_tool.specs.OutputLines.{Item, IsItemOf, line_of};
+ghost use Rattle.lotos_tool.specs.QuestionParts.{words_of};
+ghost use Rattle.lotos_tool.specs.RefusalCauses.{IsRefusal};
+ghost use Rattle.lotos_tool.specs.Rejections.{IsRejectionBy, is_input_failure};
 
-use crate::outcome::{EverEnded, EverWhy};
 use crate::output_flush::write_and_flush;
 use crate::output_lines::{format_line, format_sequence};
-use crate::progress_report::{OutputProgress, Visited};
-use crate::refusal::Refusal;
-use crate::request_pattern::read_pattern;
-use crate::search_observer::{Observed, SearchObserver};
-use crate::specification_input::{Rejection, read_specification};
-use crate::unknown_gates::first_unknown_gate_of;
-use crate::unknown_names::NameHint;
+use crate::output_progress::OutputProgress;
+use crate::question_parts::{read_pattern, refuse_unknown_gates};
+use crate::rejection::{Rejection, ever_end_of};
+use crate::specification_input::read_specification;
 use lotos_check::Checked;
 use lotos_command::EverRequest;
 use lotos_device::{DeviceFailed, Sink, Source};
 use lotos_ever::laws::table_has_match_question;
 use lotos_ever::{Found, Halt, find_shortest_match_with_progress};
-use lotos_pattern::{Pattern, PatternFault};
-use lotos_search::{NoProgress, Progress};
-use lotos_terms::Table;
+use lotos_normal::NormalTable;
+use lotos_pattern::Pattern;
+use lotos_report::{EverEnded, EverWhy};
+use lotos_search::Progress;
 use std::alloc::{AllocError, Global};
-use std::io::Write;
 
 /// Reads a specification and searches it for a derivation, of any number of steps, that matches the request's pattern.
 /// If there is one, the line of one with the fewest steps is written.
@@ -39,26 +38,9 @@ use std::io::Write;
 /// if memory runs out, nothing is written. One flush follows the line, and also ends a search without a match. At most
 /// one byte more than a text may have is taken from the reader, whatever it returns. Neither the reader nor the writer
 /// may have failed before.
-pub fn ever<R: Source, W: Sink>(
-    alloc: Global,
-    request: &EverRequest,
-    reader: &mut R,
-    writer: &mut W,
-) -> EverEnded
-    requires reader { R.has_failed reader.old ≡ false }
-    requires writer { W.has_failed writer.old ≡ false }
-    ensures answers { EverOutcome request.now (R.left reader.old) (R.left reader.new)
-        (W.got writer.old) (W.got writer.new) result }
-    ensures given { R.given reader.new ≤ R.given reader.old + (max_text_length + 1) }
-    ensures input { R.has_failed reader.new ≡ is_ever_input_fault result }
-    ensures output { W.has_failed writer.new ≡ is_ever_output_fault result }
-{
-    ever_with_progress(alloc, request, reader, writer, &mut NoProgress)
-}
-
-/// As [`ever`], with an observer that is told of the product states that the search stores, and of the line before it
-/// is written.
-pub fn ever_with_progress<R: Source, W: Sink, P: OutputProgress>(
+/// The observer is told when the text is accepted, of each product state that the search stores, and of the line before
+/// it is written; `NoProgress` is one that does nothing.
+pub fn ever<R: Source, W: Sink, P: OutputProgress>(
     alloc: Global,
     request: &EverRequest,
     reader: &mut R,
@@ -73,51 +55,31 @@ pub fn ever_with_progress<R: Source, W: Sink, P: OutputProgress>(
     ensures input { R.has_failed reader.new ≡ is_ever_input_fault result }
     ensures output { W.has_failed writer.new ≡ is_ever_output_fault result }
 {
-    let pattern = match read_pattern(alloc, &request.words, request.strong) {
-        Ok(pattern) => pattern,
-        Err(fault) => return words_refusal(fault),
-    };
-    let found = match read_specification(alloc, reader, progress) {
-        Ok(found) => found,
-        Err(Rejection::Refused(refusal)) => return EverEnded::Refused(refusal),
-        Err(Rejection::Memory) => return EverEnded::Stopped(EverWhy::Memory),
-    };
-    match first_unknown_gate_of(alloc, &request.words, &found) {
-        Ok(None) => write_match(alloc, request, found, &pattern, writer, progress),
-        Ok(Some(number)) => EverEnded::Refused(Refusal::E49(number)),
-        Err(AllocError) => EverEnded::Stopped(EverWhy::Memory),
+    match read_parts(alloc, request, reader, progress) {
+        Ok((pattern, system)) => write_match(alloc, request, system, &pattern, writer, progress),
+        Err(rejection) => ever_end_of(rejection),
     }
 }
 
-/// As [`ever`]. If the request asks for it, the progress of the search is reported to `err`; `terminal` says whether
-/// that is a terminal. If a word is refused because it names no gate, what could be meant by it is left in `hint`.
-pub(crate) fn ever_with_report<R: Source, W: Sink, E: Write>(
+/// The pattern of the words, and the specification of the text, in whose own list are the gates that the words name.
+fn read_parts<R: Source, P: OutputProgress>(
     alloc: Global,
     request: &EverRequest,
     reader: &mut R,
-    writer: &mut W,
-    err: &mut E,
-    terminal: bool,
-    hint: &mut Option<NameHint>,
-) -> EverEnded
+    progress: &mut P,
+) -> Result<(Pattern, Checked), Rejection>
     requires reader { R.has_failed reader.old ≡ false }
-    requires writer { W.has_failed writer.old ≡ false }
-    ensures answers { EverOutcome request.now (R.left reader.old) (R.left reader.new)
-        (W.got writer.old) (W.got writer.new) result }
+    ensures parts { IfOk result (λ (pattern, system).
+        AreEverParts request.now (R.left reader.old) (R.left reader.new) (system_of system) pattern) }
+    ensures rejected { IfErr result (IsRejectionBy (IsRefusal request.now.strong (words_of request.now.words))
+        (R.left reader.old) (R.left reader.new)) }
     ensures given { R.given reader.new ≤ R.given reader.old + (max_text_length + 1) }
-    ensures input { R.has_failed reader.new ≡ is_ever_input_fault result }
-    ensures output { W.has_failed writer.new ≡ is_ever_output_fault result }
+    ensures failed { R.has_failed reader.new ≡ is_input_failure result }
 {
-    let observed = Observed {
-        words: request.words.as_slice(),
-        refuses_unknown: true,
-        reports_progress: request.progress,
-        visited: Visited::States,
-    };
-    let mut observer = SearchObserver::new(alloc, observed, err, terminal);
-    let ended = ever_with_progress(alloc, request, reader, writer, &mut observer);
-    *hint = observer.finish();
-    ended
+    let pattern = read_pattern(alloc, &request.words, request.strong)?;
+    let system = read_specification(alloc, reader, progress)?;
+    refuse_unknown_gates(alloc, &request.words, true, &system)?;
+    Ok((pattern, system))
 }
 
 /// Searches an accepted specification for a match, writes the line of the first of the shortest ones if there is one,
@@ -125,17 +87,17 @@ pub(crate) fn ever_with_report<R: Source, W: Sink, E: Write>(
 fn write_match<W: Sink, P: OutputProgress>(
     alloc: Global,
     request: &EverRequest,
-    found: Checked,
+    system: Checked,
     pattern: &Pattern,
     writer: &mut W,
     progress: &mut P,
 ) -> EverEnded
     requires { W.has_failed writer.old ≡ false }
-    ensures outcome { IsOutcomeFor request.now (system_of found) pattern.now
+    ensures outcome { IsOutcomeFor request.now (system_of system) pattern.now
         (W.got writer.old) (W.got writer.new) result }
     ensures failed { W.has_failed writer.new ≡ is_ever_output_fault result }
 {
-    match find_match_line(alloc, request, found, pattern, progress) {
+    match find_match_line(alloc, request, system, pattern, progress) {
         Ok(Some(line)) => {
             progress.before_line();
             write_line(writer, line.as_slice())
@@ -150,14 +112,14 @@ fn write_match<W: Sink, P: OutputProgress>(
 fn find_match_line<P: Progress>(
     alloc: Global,
     request: &EverRequest,
-    found: Checked,
+    system: Checked,
     pattern: &Pattern,
     progress: &mut P,
 ) -> Result<Option<Vec<u8>>, Halt>
-    ensures line { IfOk result (HasLine request.now (system_of found) pattern.now) }
-    ensures none { IfErr result (HasNoLine request.now (system_of found) pattern.now) }
+    ensures line { IfOk result (HasLine request.now (system_of system) pattern.now) }
+    ensures none { IfErr result (HasNoLine request.now (system_of system) pattern.now) }
 {
-    let mut table = Table::new(alloc, found)?;
+    let mut table = NormalTable::new(alloc, system)?;
     find_line_in(alloc, request, &mut table, pattern, progress)
 }
 
@@ -165,7 +127,7 @@ fn find_match_line<P: Progress>(
 fn find_line_in<P: Progress>(
     alloc: Global,
     request: &EverRequest,
-    table: &mut Table,
+    table: &mut NormalTable,
     pattern: &Pattern,
     progress: &mut P,
 ) -> Result<Option<Vec<u8>>, Halt>
@@ -185,12 +147,14 @@ fn find_line_in<P: Progress>(
 /// The line of a match: its sequence, with `explain` its run, and a line feed. Its labels must be labels of the table.
 fn format_match(
     alloc: Global,
-    table: &Table,
+    table: &NormalTable,
     found: &Found,
     explain: bool,
 ) -> Result<Vec<u8>, AllocError>
-    requires printed { (item : Item) × IsPrintedItem table.now.names found.now item }
-    ensures { IfOk result (λ line. (item : Item) → IsPrintedItem table.now.names found.now item →
+    requires printed { (item : Item) ×
+        IsItemOf table.now.names found.now.sequence.items found.now.word.items item }
+    ensures { IfOk result (λ line. (item : Item) →
+        IsItemOf table.now.names found.now.sequence.items found.now.word.items item →
         line.items ≡ line_of explain item) }
 {
     let text = format_sequence(alloc, table, found.sequence.as_slice())?;
@@ -218,21 +182,5 @@ fn end_without_match<W: Sink>(writer: &mut W) -> EverEnded
     match writer.flush() {
         Ok(()) => EverEnded::NoMatch,
         Err(DeviceFailed) => EverEnded::Stopped(EverWhy::Flush),
-    }
-}
-
-/// The outcome for words that spell no pattern: a refusal, or out of memory for E99.
-fn words_refusal(fault: PatternFault) -> EverEnded
-    ensures { IsWordsOutcome fault result }
-{
-    match fault {
-        PatternFault::E41(_)
-        | PatternFault::E42(_)
-        | PatternFault::E43(_)
-        | PatternFault::E44(_)
-        | PatternFault::E45(_)
-        | PatternFault::E48(_)
-        | PatternFault::E50(_) => EverEnded::Refused(Refusal::Pattern(fault)),
-        PatternFault::E99(_) => EverEnded::Stopped(EverWhy::Memory),
     }
 }

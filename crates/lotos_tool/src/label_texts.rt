@@ -4,8 +4,9 @@ ghost use Rattle.lotos_check.specs.NameLists.{Name};
 ghost use Rattle.lotos_terms.specs.TableView.{IsPrintedAs};
 ghost use Rattle.lotos_search.specs.Order.{Label as Text};
 
+use lotos_normal::NormalTable;
 use lotos_search::Search;
-use lotos_terms::{Label, Table};
+use lotos_terms::Label;
 
 /// A type that knows the printed text of each of its labels: a search or a table.
 pub trait LabelTexts {
@@ -26,7 +27,7 @@ impl LabelTexts for Search {
     }
 }
 
-impl LabelTexts for Table {
+impl LabelTexts for NormalTable {
     ghost names = { λ t. t.names };
 
     fn text(&self, label: Label) -> &str {

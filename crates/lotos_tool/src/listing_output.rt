@@ -5,17 +5,17 @@ ghost use Rattle.lotos_search.specs.Order.{Label as Text};
 ghost use Rattle.lotos_search.specs.Question.{ArePrinted};
 ghost use Rattle.lotos_search.specs.SearchSteps.{running};
 ghost use Rattle.lotos_tool.specs.OutcomeFlags.{is_output_fault};
-ghost use Rattle.lotos_tool.specs.OutputLines.{Item, line_of, sequence_text};
-ghost use Rattle.lotos_tool.specs.SearchSetup.{ListingOutcome, IsHalt, IsHaltCause, IsItemOf, IsOversizedCause, IsSmall, is_at_limit};
+ghost use Rattle.lotos_tool.specs.OutputLines.{Item, IsItemOf, line_of, sequence_text};
+ghost use Rattle.lotos_tool.specs.SearchParts.{ListingOutcome, IsHalt, IsHaltCause, IsOversizedCause, IsSmall, is_at_limit};
 ghost use Rattle.lotos_device.specs.ByteOutput.{AppendsPart};
 ghost use Rattle.lotos_tool.specs.WriteFaults.{is_write_fault};
 
-use crate::outcome::{Ended, Why};
 use crate::output_flush::{flush_complete, flush_stopped};
 use crate::output_lines::{format_line, format_sequence};
-use crate::progress_report::OutputProgress;
+use crate::output_progress::OutputProgress;
 use lotos_command::SearchRequest;
 use lotos_device::{DeviceFailed, Sink, write_bytes};
+use lotos_report::{Ended, Why};
 use lotos_search::laws::{items_decrease_remaining, strict_order};
 use lotos_search::{Found, Halt, Search};
 use lotos_terms::Label;
@@ -73,15 +73,19 @@ fn write_item<W: Sink>(
     explain: bool,
     writer: &mut W,
 ) -> Result<String, Why>
-    requires printed { (item : Item) × IsItemOf search.now.question.names found.now item }
+    requires printed { (item : Item) ×
+        IsItemOf search.now.question.names found.now.sequence.items found.now.word.items item }
     requires unfailed { W.has_failed writer.old ≡ false }
-    ensures whole { OnOk result ((item : Item) → IsItemOf search.now.question.names found.now item →
+    ensures whole { OnOk result ((item : Item) →
+        IsItemOf search.now.question.names found.now.sequence.items found.now.word.items item →
         Appends (W.got writer.old) (W.got writer.new) (line_of explain item)) }
-    ensures text { IfOk result (λ text. (item : Item) → IsItemOf search.now.question.names found.now item →
+    ensures text { IfOk result (λ text. (item : Item) →
+        IsItemOf search.now.question.names found.now.sequence.items found.now.word.items item →
         string_bytes text ≡ sequence_text item.sequence) }
     ensures memory { IsErrOf result Why.Memory → Keeps (W.got writer.old) (W.got writer.new) }
     ensures part { IsErrOf result Why.Write →
-        (item : Item) → IsItemOf search.now.question.names found.now item →
+        (item : Item) →
+        IsItemOf search.now.question.names found.now.sequence.items found.now.word.items item →
         AppendsPart (W.got writer.old) (W.got writer.new) (line_of explain item) }
     ensures causes { IfErr result (λ why. (why ≡ Why.Memory) ⊎ (why ≡ Why.Write)) }
     ensures failed { W.has_failed writer.new ≡ is_write_fault result }

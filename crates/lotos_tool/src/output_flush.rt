@@ -3,10 +3,10 @@ ghost use Rattle.std.specs.Prelude.{◌≡◌, if◌then◌else◌, false, OnErr
 ghost use Rattle.std.specs.Io.KnownBytes.{Appends, Keeps};
 ghost use Rattle.lotos_device.specs.ByteOutput.{AppendsBeginning};
 ghost use Rattle.lotos_tool.specs.OutcomeFlags.{is_output_fault};
-ghost use Rattle.lotos_tool.specs.SearchSetup.{IsFinished};
+ghost use Rattle.lotos_tool.specs.SearchParts.{IsFinished};
 
-use crate::outcome::{Ended, Why};
 use lotos_device::{DeviceFailed, Sink, write_bytes};
+use lotos_report::{Ended, Why};
 
 /// Flushes the complete output and returns the outcome: complete with this number of lines, or stopped after `last` if
 /// the flush fails.

@@ -2,22 +2,22 @@
 ghost use Rattle.std.specs.Prelude.{◌≡◌, ◌+◌, ◌≤◌, ◌==◌, false};
 ghost use Rattle.lotos_text.specs.Limits.{max_text_length};
 ghost use Rattle.lotos_tool.specs.OutcomeFlags.{is_output_cause, is_output_fault};
-ghost use Rattle.lotos_tool.specs.EverOutcomeContracts.{is_ever_output_cause, is_ever_output_fault};
+ghost use Rattle.lotos_tool.specs.EverOutcome.{is_ever_output_cause, is_ever_output_fault};
 ghost use Rattle.lotos_command.specs.Request.{HasSearchBounds, texts_of};
 ghost use Rattle.lotos_tool.specs.ProgramRuns.{EverReported, HelpWritten, IsAnswerTo, Ran, SearchReported, check_status_of, ever_status_of, ever_stop_status_of, status_of, stop_status_of};
 
 use crate::check_command::check_text;
 use crate::diagnosis::diagnose;
-use crate::ever_command::ever_with_report;
-use crate::hints::{hint_after_ever, hint_after_fault, hint_after_search};
-use crate::messages::{
-    report_ever_stop, report_failure, report_no_match, report_refusal, report_stop, report_text,
-};
-use crate::outcome::{Ended, EverEnded, EverWhy, Why};
+use crate::ever_command::ever;
 use crate::output_flush::write_and_flush;
-use crate::search_command::list_with_report;
+use crate::search_command::list;
+use crate::search_observer::{Observed, SearchObserver};
 use lotos_command::{CommandFault, EverRequest, Request, SearchRequest, request};
 use lotos_device::{DeviceFailed, Sink, Source};
+use lotos_report::{
+    Ended, EverEnded, EverWhy, Messages, Visited, Why, hint_after_fault, hint_after_refusal,
+    report_ever_stop, report_failure, report_no_match, report_refusal, report_stop, report_text,
+};
 use std::alloc::Global;
 use std::io::Write;
 
@@ -27,33 +27,14 @@ use std::io::Write;
 /// too many terms, or too many states; 5 out of memory; 6 for output that cannot be written.
 ///
 /// The first of the words is the program's own name. The lines of the command, or the help or the version if the words
-/// ask for it, go to `out`, and every message to `err`; errors of `err` change no status. At most one byte more than a
+/// ask for it, go to `out`, and every message to `messages`, whose errors change no status. At most one byte more than a
 /// text may have is taken from the reader, whatever it returns. Neither the reader nor `out` may have failed before.
 pub fn run<R: Source, W: Sink, E: Write>(
     alloc: Global,
     words: &[&str],
     reader: &mut R,
     out: &mut W,
-    err: &mut E,
-) -> u8
-    requires reader { R.has_failed reader.old ≡ false }
-    requires out { W.has_failed out.old ≡ false }
-    ensures ran { Ran (texts_of words.now) (R.left reader.old) (R.left reader.new)
-        (W.got out.old) (W.got out.new) (R.has_failed reader.new) result }
-    ensures given { R.given reader.new ≤ R.given reader.old + (max_text_length + 1) }
-    ensures output { W.has_failed out.new ≡ (result == 6) }
-{
-    run_with_terminal(alloc, words, reader, out, err, false)
-}
-
-/// As [`run`]. `terminal` says whether `err` is a terminal: there a report of progress is one line, which is renewed.
-pub fn run_with_terminal<R: Source, W: Sink, E: Write>(
-    alloc: Global,
-    words: &[&str],
-    reader: &mut R,
-    out: &mut W,
-    err: &mut E,
-    terminal: bool,
+    messages: &mut Messages<E>,
 ) -> u8
     requires reader { R.has_failed reader.old ≡ false }
     requires out { W.has_failed out.old ≡ false }
@@ -63,11 +44,11 @@ pub fn run_with_terminal<R: Source, W: Sink, E: Write>(
     ensures output { W.has_failed out.new ≡ (result == 6) }
 {
     match request(alloc, words) {
-        Ok(Request::Check) => report_check(&check_text(alloc, reader, out), err),
-        Ok(Request::Diagnose(asked)) => diagnose(alloc, &asked, reader, out, err),
-        Ok(Request::Search(asked)) => run_search(alloc, &asked, reader, out, err, terminal),
-        Ok(Request::Ever(asked)) => run_ever(alloc, &asked, reader, out, err, terminal),
-        Err(fault) => end_without_command(&fault, words, out, err),
+        Ok(Request::Check) => report_check(&check_text(alloc, reader, out), &mut messages.stream),
+        Ok(Request::Diagnose(asked)) => diagnose(alloc, &asked, reader, out, &mut messages.stream),
+        Ok(Request::Search(asked)) => run_search(alloc, &asked, reader, out, messages),
+        Ok(Request::Ever(asked)) => run_ever(alloc, &asked, reader, out, messages),
+        Err(fault) => end_without_command(&fault, words, out, &mut messages.stream),
     }
 }
 
@@ -78,8 +59,7 @@ fn run_search<R: Source, W: Sink, E: Write>(
     request: &SearchRequest,
     reader: &mut R,
     out: &mut W,
-    err: &mut E,
-    terminal: bool,
+    messages: &mut Messages<E>,
 ) -> u8
     requires bounds { HasSearchBounds request.now }
     requires reader { R.has_failed reader.old ≡ false }
@@ -89,10 +69,24 @@ fn run_search<R: Source, W: Sink, E: Write>(
     ensures given { R.given reader.new ≤ R.given reader.old + (max_text_length + 1) }
     ensures output { W.has_failed out.new ≡ (result == 6) }
 {
-    let mut hint = None;
-    let ended = list_with_report(alloc, request, reader, out, err, terminal, &mut hint);
-    let status = report_search(&ended, request.terms, err);
-    hint_after_search(alloc, &ended, request.words.as_slice(), &hint, err);
+    let observed = Observed {
+        words: request.words.as_slice(),
+        refuses_unknown: request.known,
+        reports_progress: request.progress,
+        visited: Visited::Prefixes,
+    };
+    let mut observer = SearchObserver::new(alloc, observed, messages);
+    let ended = list(alloc, request, reader, out, &mut observer);
+    let hint = observer.finish();
+    let status = report_search(&ended, request.terms, &mut messages.stream);
+    hint_after_refusal(
+        alloc,
+        "search ..",
+        ended.refusal(),
+        request.words.as_slice(),
+        &hint,
+        messages,
+    );
     status
 }
 
@@ -103,8 +97,7 @@ fn run_ever<R: Source, W: Sink, E: Write>(
     request: &EverRequest,
     reader: &mut R,
     out: &mut W,
-    err: &mut E,
-    terminal: bool,
+    messages: &mut Messages<E>,
 ) -> u8
     requires reader { R.has_failed reader.old ≡ false }
     requires out { W.has_failed out.old ≡ false }
@@ -113,10 +106,24 @@ fn run_ever<R: Source, W: Sink, E: Write>(
     ensures given { R.given reader.new ≤ R.given reader.old + (max_text_length + 1) }
     ensures output { W.has_failed out.new ≡ (result == 6) }
 {
-    let mut hint = None;
-    let ended = ever_with_report(alloc, request, reader, out, err, terminal, &mut hint);
-    let status = report_ever(&ended, request.states, err);
-    hint_after_ever(alloc, &ended, request.words.as_slice(), &hint, err);
+    let observed = Observed {
+        words: request.words.as_slice(),
+        refuses_unknown: true,
+        reports_progress: request.progress,
+        visited: Visited::States,
+    };
+    let mut observer = SearchObserver::new(alloc, observed, messages);
+    let ended = ever(alloc, request, reader, out, &mut observer);
+    let hint = observer.finish();
+    let status = report_ever(&ended, request.states, &mut messages.stream);
+    hint_after_refusal(
+        alloc,
+        "ever ..",
+        ended.refusal(),
+        request.words.as_slice(),
+        &hint,
+        messages,
+    );
     status
 }
 

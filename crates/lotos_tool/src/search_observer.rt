@@ -1,8 +1,11 @@
 //! The observer of a command that searches. What it writes to the error stream changes neither output nor status.
 
-use crate::progress_report::{OutputProgress, ProgressReport, Visited};
-use crate::unknown_names::{NameHint, first_name_hint, warn_of_names};
-use lotos_check::Checked;
+use crate::output_progress::OutputProgress;
+use crate::unknown_names::unknown_names;
+use lotos_check::AcceptedText;
+use lotos_report::{
+    Messages, NameHint, NamePlaces, ProgressReport, Visited, first_name_hint, warn_of_names,
+};
 use lotos_search::Progress;
 use std::alloc::Global;
 use std::io::Write;
@@ -22,38 +25,37 @@ pub(crate) struct Observed<'a> {
 /// An observer that writes to an error stream: when a specification is accepted, which names in the words are none of
 /// its gates, if such words are not refused; and how far the search is, if that is asked for.
 #[derive(Drop)]
-pub(crate) struct SearchObserver<'a, E> {
+pub(crate) struct SearchObserver<'w, 'm, E> {
     alloc: Global,
-    observed: Observed<'a>,
-    progress: ProgressReport<'a, E>,
+    observed: Observed<'w>,
+    progress: ProgressReport<'m, E>,
     /// What is to be said if a word is refused because it names no gate.
     hint: Option<NameHint>,
 }
 
-impl<'a, E: Write> SearchObserver<'a, E> {
-    /// An observer of a command that has read nothing. `terminal` says whether the error stream is one.
+impl<'w, 'm, E: Write> SearchObserver<'w, 'm, E> {
+    /// An observer of a command that has read nothing.
     pub fn new(
         alloc: Global,
-        observed: Observed<'a>,
-        err: &'a mut E,
-        terminal: bool,
-    ) -> SearchObserver<'a, E> {
+        observed: Observed<'w>,
+        messages: &'m mut Messages<E>,
+    ) -> SearchObserver<'w, 'm, E> {
         SearchObserver {
             alloc,
             observed,
-            progress: ProgressReport::new(err, terminal, observed.visited),
+            progress: ProgressReport::new(messages, observed.visited),
             hint: None,
         }
     }
 
     /// Clears the line that a terminal shows, and returns what is to be said after the message of a refused word.
-    pub fn finish(&mut self) -> Option<NameHint> {
+    pub fn finish(mut self) -> Option<NameHint> {
         self.progress.clear();
         self.hint.take()
     }
 }
 
-impl<E: Write> Progress for SearchObserver<'_, E> {
+impl<E: Write> Progress for SearchObserver<'_, '_, E> {
     fn visit(&mut self, length: usize) {
         if self.observed.reports_progress {
             self.progress.visit(length);
@@ -61,17 +63,24 @@ impl<E: Write> Progress for SearchObserver<'_, E> {
     }
 }
 
-impl<E: Write> OutputProgress for SearchObserver<'_, E> {
-    fn accepted(&mut self, text: &[u8], found: &Checked) {
-        let words = self.observed.words;
+impl<E: Write> OutputProgress for SearchObserver<'_, '_, E> {
+    fn accepted(&mut self, text: &[u8], found: &AcceptedText) {
+        let gates = found.system.gates();
+        let Ok(names) = unknown_names(self.alloc, self.observed.words, gates) else {
+            return;
+        };
+        let places = NamePlaces {
+            gates,
+            text,
+            specification: &found.specification,
+        };
         if self.observed.refuses_unknown {
-            self.hint = first_name_hint(self.alloc, words, found.gates(), text);
+            self.hint = first_name_hint(self.alloc, names.as_slice(), &places);
         } else {
             warn_of_names(
                 self.alloc,
-                words,
-                found.gates(),
-                text,
+                names.as_slice(),
+                &places,
                 self.progress.stream(),
             );
         }

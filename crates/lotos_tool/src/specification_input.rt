@@ -4,25 +4,18 @@ ghost use Rattle.lotos_text.specs.Limits.{max_text_length};
 ghost use Rattle.lotos_check.specs.AcceptedText.{Accepted, IsRejectedFor, IsRejectedSpecification, accept_offset};
 ghost use Rattle.lotos_check.specs.CheckedView.{system_of};
 ghost use Rattle.lotos_check.specs.FaultOffsets.{offset_of};
-ghost use Rattle.lotos_tool.specs.AcceptedText.{ReadsAccepted};
-ghost use Rattle.lotos_tool.specs.RefusalCauses.{IsPositionOf};
+ghost use Rattle.lotos_tool.specs.QuestionParts.{ReadsAccepted};
+ghost use Rattle.lotos_tool.specs.RefusalCauses.{IsInputRefusal, IsPositionOf};
 ghost use Rattle.lotos_device.specs.TextInput.{ReadsAll};
-ghost use Rattle.lotos_tool.specs.RejectedText.{IsRejection, IsInputRejection, end_of, is_input_failure};
+ghost use Rattle.lotos_tool.specs.Rejections.{IsRejection, IsRejectionBy, is_input_failure};
 
-use crate::outcome::{Ended, Why};
-use crate::progress_report::OutputProgress;
-use crate::refusal::Refusal;
-use lotos_check::{AcceptFault, CheckFault, Checked, accept};
+use crate::output_progress::OutputProgress;
+use crate::rejection::Rejection;
+use lotos_check::{AcceptFault, AcceptedText, CheckFault, Checked, accept};
 use lotos_device::{ReadFault, Source, read_text};
+use lotos_report::Refusal;
 use lotos_text::{TEXT_LIMIT, TextFault, line_column};
 use std::alloc::Global;
-
-/// Why no specification was accepted: the input is refused, or memory ran out.
-#[derive(Debug, Drop)]
-pub enum Rejection {
-    Refused(Refusal),
-    Memory,
-}
 
 /// Reads a whole text and returns its specification if it is accepted. At most one byte more than a text may have is
 /// taken from the reader, whatever it returns. The text is refused with E47 if the reader fails, with E03 if it is too
@@ -35,25 +28,14 @@ pub fn read_specification<R: Source, P: OutputProgress>(
     requires { R.has_failed reader.old ≡ false }
     ensures accepted { IfOk result (λ found.
         ReadsAccepted (R.left reader.old) (R.left reader.new) (system_of found)) }
-    ensures refused { IfErr result (IsInputRejection (R.left reader.old) (R.left reader.new)) }
+    ensures refused { IfErr result (IsRejectionBy IsInputRefusal (R.left reader.old) (R.left reader.new)) }
     ensures given { R.given reader.new ≤ R.given reader.old + (max_text_length + 1) }
     ensures failed { R.has_failed reader.new ≡ is_input_failure result }
 {
     let text = read_input(alloc, reader)?;
-    let found = accept_text(alloc, text.as_slice());
-    report_accepted(text.as_slice(), &found, progress);
-    found
-}
-
-/// Tells the observer of a text if it is accepted.
-fn report_accepted<P: OutputProgress>(
-    text: &[u8],
-    found: &Result<Checked, Rejection>,
-    progress: &mut P,
-) {
-    if let Ok(found) = found {
-        progress.accepted(text, found);
-    }
+    let found = accept_text(alloc, text.as_slice())?;
+    progress.accepted(text.as_slice(), &found);
+    Ok(found.system)
 }
 
 /// Reads a whole text. At most one byte more than a text may have is taken from the reader, whatever it returns. The
@@ -62,7 +44,7 @@ pub fn read_input<R: Source>(alloc: Global, reader: &mut R) -> Result<Vec<u8>, R
     requires { R.has_failed reader.old ≡ false }
     ensures whole { IfOk result (λ text.
         ReadsAll (R.left reader.old) (R.left reader.new) max_text_length text.items) }
-    ensures refused { IfErr result (IsInputRejection (R.left reader.old) (R.left reader.new)) }
+    ensures refused { IfErr result (IsRejectionBy IsInputRefusal (R.left reader.old) (R.left reader.new)) }
     ensures given { R.given reader.new ≤ R.given reader.old + (max_text_length + 1) }
     ensures failed { R.has_failed reader.new ≡ is_input_failure result }
 {
@@ -77,10 +59,10 @@ pub fn read_input<R: Source>(alloc: Global, reader: &mut R) -> Result<Vec<u8>, R
     }
 }
 
-/// The specification of a text, if it is accepted.
-pub fn accept_text(alloc: Global, text: &[u8]) -> Result<Checked, Rejection>
+/// Accepts a text; the rejection of one that is not accepted has the line and the column of its fault.
+fn accept_text(alloc: Global, text: &[u8]) -> Result<AcceptedText, Rejection>
     requires { length text.now ≤ max_text_length }
-    ensures accepted { IfOk result (λ found. Accepted text.now (system_of found)) }
+    ensures accepted { IfOk result (λ found. Accepted text.now (system_of found.system)) }
     ensures refused { IfErr result (IsRejection text.now) }
 {
     match accept(alloc, text) {
@@ -89,21 +71,8 @@ pub fn accept_text(alloc: Global, text: &[u8]) -> Result<Checked, Rejection>
     }
 }
 
-/// How a check ends whose input is rejected.
-pub fn end_of(rejection: Rejection) -> Ended
-    ensures { result ≡ end_of rejection }
-{
-    match rejection {
-        Rejection::Refused(refusal) => Ended::Refused(refusal),
-        Rejection::Memory => Ended::Stopped {
-            last: None,
-            why: Why::Memory,
-        },
-    }
-}
-
 /// The rejection for a fault of a text, at the fault's position if it has one.
-fn reject(text: &[u8], fault: AcceptFault) -> Rejection
+pub fn reject(text: &[u8], fault: AcceptFault) -> Rejection
     requires fault { IsRejectedFor text.now fault }
     requires inside { IfSome (accept_offset fault) (λ at. at ≤ length text.now) }
     ensures { IsRejection text.now result }

@@ -1,100 +1,13 @@
-//! Names in the words of a pattern that are no gates of a specification: warnings and hints for standard error. What
-//! there is no memory for is left out.
+//! The names in the words of a pattern that are no gates of a specification.
 
-use crate::messages::NumberText;
 use crate::unknown_gates::is_unknown_gate;
 use indexmap::IndexSet;
-use lotos_explain::{formal_gate, hidden_gate, similar_name};
-use lotos_text::{Name, Specification, line_column, parse};
+use lotos_report::UnknownName;
+use lotos_text::Name;
 use std::alloc::{AllocError, Global};
-use std::fmt;
-use std::io::Write;
-
-/// The most names for which hints are looked for: each walk goes through the whole specification.
-const MOST_HINTS: usize = 8;
-
-/// A name in a word that is no gate of the specification.
-#[derive(Debug, Drop)]
-struct UnknownName<'a> {
-    /// The number of the word, counted from 1.
-    word: usize,
-    /// The name as the word has it.
-    name: &'a str,
-}
-
-/// What could be meant by a name that is no gate of the specification.
-#[derive(Debug, Drop)]
-pub(crate) struct NameHint {
-    /// The name in upper case.
-    name: String,
-    /// The most similar gate in the specification's own list.
-    similar: Option<Name>,
-    inside: Option<Inside>,
-}
-
-/// What a name is inside the specification.
-#[derive(Debug, Drop)]
-enum Inside {
-    /// A gate in the list of a `hide`, at this line and this column.
-    Hidden(usize, usize),
-    /// A formal gate of the process with this name.
-    Formal(Name),
-}
-
-/// Warns of each name that is no gate, once, and says what could be meant.
-pub(crate) fn warn_of_names<E: Write>(
-    alloc: Global,
-    words: &[String],
-    gates: &[Name],
-    text: &[u8],
-    err: &mut E,
-) {
-    let Ok(found) = unknown_names(alloc, words, gates) else {
-        return;
-    };
-    if found.is_empty() {
-        return;
-    }
-    let specification = parse(alloc, text).ok();
-    for k in 0..found.len() {
-        warn_of_name(&found[k], err);
-        if k < MOST_HINTS {
-            if let Ok(hint) = hint_for(alloc, found[k].name, gates, text, &specification) {
-                write_name_hint(&hint, err);
-            }
-        }
-    }
-}
-
-/// The hint for the first name that is no gate; none if all are gates, or if there is no memory for it.
-pub(crate) fn first_name_hint(
-    alloc: Global,
-    words: &[String],
-    gates: &[Name],
-    text: &[u8],
-) -> Option<NameHint> {
-    let found = unknown_names(alloc, words, gates).ok()?;
-    let first = found.as_slice().first()?;
-    let specification = parse(alloc, text).ok();
-    hint_for(alloc, first.name, gates, text, &specification).ok()
-}
-
-/// Writes a line for each thing that could be meant.
-pub(crate) fn write_name_hint<E: Write>(hint: &NameHint, err: &mut E) {
-    let _ = write!(err, "{hint}");
-}
-
-fn warn_of_name<E: Write>(found: &UnknownName<'_>, err: &mut E) {
-    let number = NumberText(found.word);
-    let name = found.name;
-    let _ = writeln!(
-        err,
-        "lotosseq: word {number}, {name}, is no gate of the specification and never matches"
-    );
-}
 
 /// The names in the words that are no gates, each once, in whatever case it is first.
-fn unknown_names<'a>(
+pub(crate) fn unknown_names<'a>(
     alloc: Global,
     words: &'a [String],
     gates: &[Name],
@@ -138,79 +51,4 @@ fn is_gate(name: &str, gates: &[Name]) -> bool {
     gates
         .iter()
         .any(|gate| gate.text().eq_ignore_ascii_case(name))
-}
-
-/// What could be meant by a name that is no gate. Without the specification nothing inside it is found.
-fn hint_for(
-    alloc: Global,
-    name: &str,
-    gates: &[Name],
-    text: &[u8],
-    specification: &Option<Specification>,
-) -> Result<NameHint, AllocError> {
-    let name = name.to_ascii_uppercase(alloc)?;
-    let similar = match similar_name(alloc, name.as_str(), gates)? {
-        Some(gate) => Some(gate.copy(alloc)?),
-        None => None,
-    };
-    let inside = match specification {
-        Some(specification) => find_inside(alloc, name.as_str(), text, specification)?,
-        None => None,
-    };
-    Ok(NameHint {
-        name,
-        similar,
-        inside,
-    })
-}
-
-/// What the name is inside the specification: a hidden gate, or else a formal gate of a process.
-fn find_inside(
-    alloc: Global,
-    name: &str,
-    text: &[u8],
-    specification: &Specification,
-) -> Result<Option<Inside>, AllocError> {
-    if let Some(at) = hidden_gate(specification, name) {
-        if at > text.len() {
-            return Ok(None);
-        }
-        let (line, column) = line_column(text, at);
-        return Ok(Some(Inside::Hidden(line, column)));
-    }
-    match formal_gate(specification, name) {
-        Some(process) => Ok(Some(Inside::Formal(process.copy(alloc)?))),
-        None => Ok(None),
-    }
-}
-
-impl fmt::Display for NameHint {
-    fn fmt<W: fmt::Write>(&self, f: &mut fmt::Formatter<W>) -> fmt::Result {
-        if let Some(gate) = &self.similar {
-            let gate = gate.text();
-            writeln!(
-                f,
-                "lotosseq: a gate of the specification has a similar name: {gate}"
-            )?;
-        }
-        let name = self.name.as_str();
-        match &self.inside {
-            Some(Inside::Hidden(line, column)) => {
-                let line = NumberText(*line);
-                let column = NumberText(*column);
-                writeln!(
-                    f,
-                    "lotosseq: {name} is hidden at {line}:{column}, so it is not observed"
-                )
-            }
-            Some(Inside::Formal(process)) => {
-                let process = process.text();
-                writeln!(
-                    f,
-                    "lotosseq: {name} is a formal gate of the process {process}, and stands for the gate that a call gives"
-                )
-            }
-            None => Ok(()),
-        }
-    }
 }

@@ -1,20 +1,20 @@
 -- The calls of a flat system are those of the specification by name.
-use Rattle.std.proofs.Common.{◌≡◌, ◌↔◌, ◌⊎◌, ℕ, ◌+◌, List, [], ◌∷◌, ◌++◌, refl, subst, inl, inr}
+use Rattle.std.proofs.Common.{◌≡◌, ◌↔◌, ◌⊎◌, ℕ, List, [], ◌++◌, refl, subst, inl, inr}
 use Rattle.lotos_text.specs.AstView as t
-use Rattle.lotos_text.specs.AstView.{BehaviourView, DefinitionView, def, DefinitionListView, no_defs, more_defs, name_of, formals_of, body_of, inner_of}
+use Rattle.lotos_text.specs.AstView.{BehaviourView, DefinitionView, formals_of, body_of}
 use Rattle.lotos_text.specs.declared.ast.Placed.{Placed}
 use Rattle.lotos_check.specs.NameLists.{Name, In, texts}
-use Rattle.lotos_check.specs.Scope.{Scope, Where, ScopedDefinition, Binds, IsDistinctScope, within, definitions_in_scope, processes_of, all_definitions, count}
+use Rattle.lotos_check.specs.Scope.{Scope, ScopedDefinition, Binds, IsDistinctScope, within, processes_of, all_definitions}
 use Rattle.lotos_check.specs.Subexpressions as parts
 use Rattle.lotos_check.specs.Subexpressions.{IsSubexpression, in_prefix, in_choice_left, in_choice_right, in_par_left, in_par_right, in_hide, in_enable_left, in_enable_right, in_disable_left, in_disable_right}
-use Rattle.lotos_check.specs.StaticFaults.{Occurs, IsDistinct}
+use Rattle.lotos_check.specs.StaticFaults.{Occurs}
 use Rattle.lotos_check.specs.Flat.{Flat, FlatProcess, System, Pairwise, IsProcess, Resolves, of_stop, of_exit, of_prefix, of_choice, of_par, of_par_all, of_hide, of_enable, of_disable, of_call}
 use Rattle.lotos_check.specs.Bodies.{ContainsCall, itself, under_prefix, left_choice, right_choice, left_par, right_par, under_hide, left_enable, right_enable, left_disable, right_disable, IsBodyOf, of_whole, of_process, GoesToNamed}
 use Rattle.lotos_check.specs.Acceptance.{IsAccepted}
 use Rattle.lotos_check.proofs.FlatSystemUnique.{paired_at}
-use Rattle.lotos_check.proofs.JoinedLists.{in_back, in_either, in_front}
 use Rattle.lotos_check.proofs.ListIndices.{get_in, in_get}
 use Rattle.lotos_check.proofs.Pairs.{pair_of_first}
+use Rattle.lotos_check.proofs.ScopedDefinitions.{visible_distinct}
 use Rattle.lotos_warn.specs.Additions.{ContainsCallOf, IsCalledByAny, IsCalledIn}
 
 body_called : (system : System) (k : ℕ) (b : Flat) → IsBodyOf system b → ContainsCallOf b k → ContainsCallOf system.start k ⊎ IsCalledByAny system.processes k
@@ -32,56 +32,6 @@ called_in system k = (
   (λ h. elim h [ inl c ↦ record { body = system.start; located = of_whole; calls = c } | inr c ↦ any_called system k c ]),
   (λ h. body_called system k h.body h.located h.calls),
 )
-
--- a `where` of the specification
-record IsWhereOf (spec : DefinitionView) (w : Where) : Type 0 where
-  scoped : ScopedDefinition
-  among : In scoped (all_definitions spec)
-  same : w.defs ≡ inner_of scoped.definition
-
-abbrev AllWheres : DefinitionView → Scope → Type 0
-AllWheres spec scope = (w : Where) → In w scope → IsWhereOf spec w
-
-more_wheres : (spec : DefinitionView) (w : Where) (scope : Scope) → IsWhereOf spec w → AllWheres spec scope → AllWheres spec (w ∷ scope)
-more_wheres spec w scope h each x (inl e) = subst (IsWhereOf spec) e h
-more_wheres spec w scope h each x (inr i) = each x i
-
-listed_wheres : (spec : DefinitionView) (scope : Scope) (k : ℕ) (ds : DefinitionListView) →
-    ((v : ScopedDefinition) → In v (definitions_in_scope scope k ds) → In v (all_definitions spec)) →
-    AllWheres spec scope → (v : ScopedDefinition) → In v (definitions_in_scope scope k ds) → AllWheres spec v.scope
-listed_wheres spec scope k no_defs sub each v i = absurd i
-listed_wheres spec scope k (more_defs (def name formals declared body inner) ds) sub each v i =
-    let own = record { defs = inner; first = k + 1 } ∷ scope in
-    let this : ScopedDefinition = record { scope = own; definition = def name formals declared body inner } in
-    let deep = definitions_in_scope own (k + 1) inner in
-    let rest = definitions_in_scope scope (k + 1 + count inner) ds in
-    let here : IsWhereOf spec (record { defs = inner; first = k + 1 }) = record { scoped = this; among = sub this (inl refl); same = refl } in
-    let within_own = more_wheres spec (record { defs = inner; first = k + 1 }) scope here each in
-    elim i [
-      | inl e ↦ subst (λ t. AllWheres spec t.scope) e within_own
-      | inr j ↦ elim (in_either v deep rest j) [
-        | inl d ↦ listed_wheres spec own (k + 1) inner (λ x y. sub x (inr (in_front x deep rest y))) within_own v d
-        | inr r ↦ listed_wheres spec scope (k + 1 + count inner) ds (λ x y. sub x (inr (in_back x deep rest y))) each v r
-      ]
-    ]
-
-visible_wheres : (spec : DefinitionView) (v : ScopedDefinition) → In v (all_definitions spec) → AllWheres spec v.scope
-visible_wheres spec v i =
-    let own : Where = record { defs = inner_of spec; first = 0 } in
-    let top : ScopedDefinition = record { scope = own ∷ []; definition = spec } in
-    let here : IsWhereOf spec own = record { scoped = top; among = inl refl; same = refl } in
-    let each = more_wheres spec own [] here (λ w x. absurd x) in
-    elim i [
-      | inl e ↦ subst (λ t. AllWheres spec t.scope) e each
-      | inr j ↦ listed_wheres spec (own ∷ []) 0 (inner_of spec) (λ x y. inr y) each v j
-    ]
-
--- where names are distinct, no visible `where` declares one twice
-visible_distinct : (spec : DefinitionView) → IsDistinct spec → (v : ScopedDefinition) → In v (all_definitions spec) → IsDistinctScope v.scope
-visible_distinct spec distinct v i w j p s =
-    let h = visible_wheres spec v i w j in
-    let e = h.same in
-    distinct.processes p (record { scope = h.scoped.scope; definition = h.scoped.definition; located = h.among; second = rw e at s })
 
 -- each name of the scope has one binding
 abbrev pub BindsOnce : Scope → Type 0

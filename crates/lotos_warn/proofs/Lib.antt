@@ -4,11 +4,7 @@ pub mod FreeGates
 pub mod GateAdditions
 pub mod CallAdditions
 pub mod ListWarnings
-pub mod DefinitionParts
 pub mod SortedWarnings
 pub mod CalledNames
 pub mod WholeWarnings
 pub mod DefinitionWarnings
-pub mod SpelledTexts
-pub mod Operands
-pub mod DefinitionOrder

@@ -1,10 +1,12 @@
 -- The warnings about a specification are those about its definitions.
-use Rattle.std.proofs.Common.{◌≡◌, ◌↔◌, ◌⊎◌, ℕ, ◌+◌, ◌-◌, ◌≤◌, length, take, drop, zero, suc, List, [], ◌∷◌, ◌++◌, Some, slice_get, map, refl, sym, ◌∙◌, ap, subst, inl, inr, arith}
-use Rattle.std.proofs.lemmas.List.{map-append, take_all}
-use Rattle.lotos_text.specs.AstView.{DefinitionView, def, DefinitionListView, no_defs, more_defs, name_of, formals_of, body_of, inner_of}
+use Rattle.std.proofs.Common.{◌≡◌, ◌↔◌, ◌⊎◌, ℕ, ◌+◌, ◌-◌, ◌≤◌, length, take, drop, zero, suc, List, [], ◌∷◌, Some, slice_get, map, refl, sym, ◌∙◌, ap, subst, inl, inr, arith}
+use Rattle.std.proofs.lemmas.List.{take_all}
+use Rattle.lotos_text.specs.AstView.{DefinitionView, name_of, formals_of, body_of, inner_of}
 use Rattle.lotos_text.specs.declared.ast.Placed.{Placed}
 use Rattle.lotos_check.specs.NameLists.{Name, In, texts}
-use Rattle.lotos_check.specs.Scope.{Scope, ScopedDefinition, IsDefinition, within, definitions_in_scope, processes_of, all_definitions, definitions_in, definitions_in_list, count}
+use Rattle.lotos_check.specs.Scope.{Scope, ScopedDefinition, IsDefinition, within, processes_of, all_definitions, definitions_in, definitions_in_list}
+use Rattle.lotos_check.proofs.DefinitionOrder.{in_order}
+use Rattle.lotos_check.proofs.ScopedDefinitions.{everywhere_in_order, listed_row, scope_of, without_scope}
 use Rattle.lotos_warn.specs.declared.warning.Side.{Side}
 use Rattle.lotos_warn.specs.declared.warning.Warning.{Warning}
 use Rattle.lotos_warn.specs.declared.warning.Warning.TheVariants.{UncalledProcess, UnusedGate, UnofferedGate}
@@ -12,27 +14,6 @@ use Rattle.lotos_warn.specs.Warnings.{IsUnusedGate, IsUnofferedGate, IsUncalledP
 use Rattle.lotos_warn.specs.Additions.{IsGateWarningOfAny, IsUncalledAmong}
 use Rattle.lotos_warn.proofs.ListWarnings.{to_form, from_form, warns_by_form, WarnsFrom}
 use Rattle.lotos_warn.proofs.CalledNames.{IsCalledByName}
-
--- which definitions are listed does not depend on the scope
-pub listed_row : (scope : Scope) (k : ℕ) (ds : DefinitionListView) → definitions_in_list ds ≡ map (λ v. v.definition) (definitions_in_scope scope k ds)
-listed_row scope k no_defs = refl
-listed_row scope k (more_defs (def name formals declared body inner) ds) =
-    let own = record { defs = inner; first = k + 1 } ∷ scope in
-    let i = listed_row own (k + 1) inner in
-    let r = listed_row scope (k + 1 + count inner) ds in
-    let j = map-append (λ v. v.definition) (definitions_in_scope own (k + 1) inner) (definitions_in_scope scope (k + 1 + count inner) ds) in
-    let both : definitions_in_list inner ++ definitions_in_list ds ≡ map (λ v. v.definition) (definitions_in_scope own (k + 1) inner ++ definitions_in_scope scope (k + 1 + count inner) ds) =
-    rw (i, r) (sym j) in
-    ap (λ t. def name formals declared body inner ∷ t) both
-
--- the definitions of a specification in order are those with their scopes
-everywhere : (whole : DefinitionView) → definitions_in whole ≡ map (λ v. v.definition) (all_definitions whole)
-everywhere (def name formals declared body inner) =
-    ap (λ t. def name formals declared body inner ∷ t) (listed_row (within (def name formals declared body inner) 0 []) 0 inner)
-
--- the definitions of a specification are itself and those inside it
-pub in_order : (whole : DefinitionView) → definitions_in whole ≡ whole ∷ definitions_in_list (inner_of whole)
-in_order (def name formals declared body inner) = refl
 
 -- the definitions after the first are those inside it
 pub after_first : {K : Type 0} (view : K → DefinitionView) (xs : List K) (whole : DefinitionView) → map view xs ≡ definitions_in whole →
@@ -44,22 +25,12 @@ after_first view (x ∷ xs) whole e =
     let others : map view xs ≡ definitions_in_list (inner_of whole) = cc in
     ap (map view) (take_all (length (x ∷ xs) - 1) xs within) ∙ others
 
-scope_of : (d : DefinitionView) (vs : List ScopedDefinition) → In d (map (λ v. v.definition) vs) → (scope : Scope) × In {X = ScopedDefinition} (record { scope = scope; definition = d }) vs
-scope_of d [] i = absurd i
-scope_of d (v ∷ vs) (inl e) = (v.scope, inl (ap (λ x. record { scope = v.scope; definition = x }) e))
-scope_of d (v ∷ vs) (inr i) = let r = scope_of d vs i in (r.0, inr r.1)
-
-without_scope : (scope : Scope) (d : DefinitionView) (vs : List ScopedDefinition) → In {X = ScopedDefinition} (record { scope = scope; definition = d }) vs → In d (map (λ v. v.definition) vs)
-without_scope scope d [] i = absurd i
-without_scope scope d (v ∷ vs) (inl e) = inl (ap (λ x. x.definition) e)
-without_scope scope d (v ∷ vs) (inr i) = inr (without_scope scope d vs i)
-
 module _ (whole : DefinitionView) where
   scoped : (d : DefinitionView) → In d (definitions_in whole) → (scope : Scope) × IsDefinition whole scope d
-  scoped d i = scope_of d (all_definitions whole) (subst (In d) (everywhere whole) i)
+  scoped d i = scope_of d (all_definitions whole) (subst (In d) (everywhere_in_order whole) i)
 
   unscoped : (scope : Scope) (d : DefinitionView) → IsDefinition whole scope d → In d (definitions_in whole)
-  unscoped scope d i = subst (In d) (sym (everywhere whole)) (without_scope scope d (all_definitions whole) i)
+  unscoped scope d i = subst (In d) (sym (everywhere_in_order whole)) (without_scope scope d (all_definitions whole) i)
 
   unused : (gate : Placed) (name : Name) → IsGateWarningOfAny (definitions_in whole) (UnusedGate gate name) ↔ IsUnusedGate whole gate name
   unused gate name = (

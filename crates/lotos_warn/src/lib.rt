@@ -1,11 +1,10 @@
 //! Warnings about accepted specifications.
 //!
-//! [`warnings`] takes a text and the checked specification that it spells, and returns what the static rules allow and
-//! is still likely to be a mistake: a process that no call names, a formal gate that is not used, and a gate of a
+//! [`warnings`] takes the AST of an accepted specification and the checked one, and returns what the static rules allow
+//! and is still likely to be a mistake: a process that no call names, a formal gate that is not used, and a gate of a
 //! parallel composition that one side never offers. The definitions that the contracts cite are in `specs/`.
 #![tactic(auto)]
 
-mod definition_order;
 mod definition_warnings;
 mod gate_names;
 mod offered_gates;

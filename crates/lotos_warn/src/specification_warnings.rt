@@ -1,77 +1,42 @@
 //! The warnings about a specification.
-ghost use Rattle.std.specs.Prelude.{◌≡◌, ◌↔◌, IfOk};
+ghost use Rattle.std.specs.Prelude.{◌↔◌, IfOk};
 ghost use Rattle.std.specs.List.Sorted.{IsStrictlySortedBy};
-ghost use Rattle.lotos_text.specs.AstView.{DefinitionView};
 ghost use Rattle.lotos_text.specs.AstOf.{definition_view};
-ghost use Rattle.lotos_text.specs.Spelled.{Spelled};
-ghost use Rattle.lotos_text.specs.TextFaults.{SpellsNoSpecification};
 ghost use Rattle.lotos_check.specs.Acceptance.{IsAccepted};
-ghost use Rattle.lotos_check.specs.AcceptedText.{Accepted, is_memory_fault};
 ghost use Rattle.lotos_check.specs.CheckedView.{system_of};
 ghost use Rattle.lotos_check.specs.NameLists.{In};
 ghost use Rattle.lotos_warn.specs.Warnings.{IsWarning};
 ghost use Rattle.lotos_warn.specs.WarningOrder.{warning_cmp};
 ghost use Rattle.lotos_warn.specs.declared.warning.Warning.{Warning as AnyWarning};
 
-use crate::definition_order::add_definitions;
-use crate::definition_warnings::{check_calls_of_all, check_gates_of_all};
+use crate::definition_warnings::{warn_of_gates, warn_of_uncalled};
 use crate::process_calls::called_processes;
 use crate::warning::Warning;
-use lotos_check::Checked;
 use lotos_check::laws::{binding_is_unique, calls_fit};
-use lotos_text::{Definition, TextFault, parse};
+use lotos_check::{Checked, add_definitions};
+use lotos_text::{Definition, Specification};
 use std::alloc::{AllocError, Global};
 
 /// The warnings about an accepted specification, each once, in the order of their offsets; of two about one gate the one
-/// about the left side comes first. `system` is what [`lotos_check::accept`] returns for the text.
+/// about the left side comes first. `system` is what [`lotos_check::check`] returns for the specification.
 ///
 /// # Errors
 ///
 /// If an allocation fails.
-pub fn warnings(alloc: Global, text: &[u8], system: &Checked) -> Result<Vec<Warning>, AllocError>
-    requires accepted { Accepted text.now (system_of system.now) }
-    ensures exact { IfOk result (λ found. (whole : DefinitionView) → Spelled text.now whole →
-        (w : AnyWarning) → In w found.items ↔ IsWarning whole w) }
-    ensures ascending { IfOk result (λ found. IsStrictlySortedBy warning_cmp found.items) }
-{
-    match parse(alloc, text) {
-        Ok(specification) => warnings_of(alloc, &specification.whole, system),
-        Err(fault) => Err(memory_error(text, system, &fault)),
-    }
-}
-
-/// The error of the allocator, for a fault of an accepted text.
-fn memory_error(text: &[u8], system: &Checked, fault: &TextFault) -> AllocError
-    requires accepted { Accepted text.now (system_of system.now) }
-    requires nothing { SpellsNoSpecification text.now fault.now }
-{
-    if !is_memory_fault(fault) {
-        unreachable!();
-    }
-    AllocError
-}
-
-fn is_memory_fault(fault: &TextFault) -> bool
-    ensures { result ≡ is_memory_fault fault.now }
-{
-    matches!(fault, TextFault::E99(_))
-}
-
-/// The warnings about the specification that the system is of.
-fn warnings_of(
+pub fn warnings(
     alloc: Global,
-    whole: &Definition,
+    specification: &Specification,
     system: &Checked,
 ) -> Result<Vec<Warning>, AllocError>
-    requires accepted { IsAccepted (definition_view whole.now) (system_of system.now) }
+    requires accepted { IsAccepted (definition_view specification.now.whole) (system_of system.now) }
     ensures exact { IfOk result (λ found. (w : AnyWarning) →
-        In w found.items ↔ IsWarning (definition_view whole.now) w) }
+        In w found.items ↔ IsWarning (definition_view specification.now.whole) w) }
     ensures ascending { IfOk result (λ found. IsStrictlySortedBy warning_cmp found.items) }
 {
-    let mut found = unsorted_warnings(alloc, whole, system)?;
-    found.sort_unstable();
-    found.dedup();
-    Ok(found)
+    let mut warnings = unsorted_warnings(alloc, &specification.whole, system)?;
+    warnings.sort_unstable();
+    warnings.dedup();
+    Ok(warnings)
 }
 
 fn unsorted_warnings(
@@ -88,8 +53,8 @@ fn unsorted_warnings(
     let mut definitions = Vec::new(alloc);
     add_definitions(whole, &mut definitions)?;
     let called = called_processes(alloc, system)?;
-    let mut found = Vec::new(alloc);
-    check_gates_of_all(alloc, definitions.as_slice(), &mut found)?;
-    check_calls_of_all(alloc, &definitions[1..], &called, &mut found)?;
-    Ok(found)
+    let mut warnings = Vec::new(alloc);
+    warn_of_gates(alloc, definitions.as_slice(), &mut warnings)?;
+    warn_of_uncalled(alloc, &definitions[1..], &called, &mut warnings)?;
+    Ok(warnings)
 }

@@ -1,12 +1,11 @@
 //! Warnings, their texts and their order.
-ghost use Rattle.std.specs.Prelude.{◌≡◌, IfOk, refl};
+ghost use Rattle.std.specs.Prelude.{◌≡◌, refl};
 ghost use Rattle.std.proofs.lemmas.Cmp.{eq_by_cmp_equiv};
 ghost use Rattle.std.specs.Cmp.{partial_equiv_from_equiv, partial_order_from_own_ties, partial_order_from_total};
 ghost use Rattle.std.specs.Ordering.{as_partial_cmp, eq_by_cmp};
 ghost use Rattle.lotos_warn.specs.WarningOrder.{context_of, offset_of, rank_of, side_rank, subject_of, warning_cmp, warning_total};
 
 use lotos_text::{Name, Placed};
-use std::alloc::{AllocError, Global};
 use std::cmp::Ordering;
 use std::fmt;
 
@@ -158,15 +157,4 @@ fn side_text(side: Side) -> &'static str {
         Side::Left => "left",
         Side::Right => "right",
     }
-}
-
-/// A copy of the name with its offset.
-pub(crate) fn copy_placed(alloc: Global, placed: &Placed) -> Result<Placed, AllocError>
-    ensures { IfOk result (λ p. p ≡ placed.now) }
-{
-    let name = placed.name.copy(alloc)?;
-    Ok(Placed {
-        name,
-        at: placed.at,
-    })
 }

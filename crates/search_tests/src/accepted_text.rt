@@ -1,5 +1,6 @@
 //! Tables of specifications that are accepted.
 use lotos_check::{Checked, accept};
+use lotos_normal::NormalTable;
 use lotos_terms::Table;
 use std::alloc::{AllocError, Global};
 use std::test::Fail;
@@ -14,7 +15,7 @@ pub fn joined(alloc: Global, parts: &[&str]) -> Result<String, AllocError> {
 }
 
 fn checked(alloc: Global, text: &str) -> Result<Checked, Fail> {
-    Ok(accept(alloc, text.as_bytes())?)
+    Ok(accept(alloc, text.as_bytes())?.system)
 }
 
 /// The table of a text.
@@ -24,4 +25,13 @@ pub fn table_of_text(alloc: Global, text: &str) -> Result<Box<Table>, Fail> {
 
 fn boxed_table(alloc: Global, checked: Checked) -> Result<Box<Table>, AllocError> {
     Ok(Box::new(alloc, Table::new(alloc, checked)?)?)
+}
+
+/// The normal table of a text.
+pub fn normal_table_of_text(alloc: Global, text: &str) -> Result<Box<NormalTable>, Fail> {
+    Ok(boxed_normal_table(alloc, checked(alloc, text)?)?)
+}
+
+fn boxed_normal_table(alloc: Global, checked: Checked) -> Result<Box<NormalTable>, AllocError> {
+    Ok(Box::new(alloc, NormalTable::new(alloc, checked)?)?)
 }

@@ -1,10 +1,11 @@
 //! First matches in small specifications.
 
-use super::accepted_text::{joined, table_of_text};
+use super::accepted_text::{joined, normal_table_of_text};
 use super::progress_tests::NONE;
 use lotos_ever::{Found, Halt, find_shortest_match, find_shortest_match_with_progress};
+use lotos_normal::NormalTable;
 use lotos_pattern::Pattern;
-use lotos_terms::{Label, Table};
+use lotos_terms::Label;
 use std::alloc::Global;
 use std::process::Abort;
 use std::test::Fail;
@@ -431,9 +432,9 @@ const STATES: &[Row] = &[
 ];
 
 /// The table of a specification, given by its functionality and its behaviour.
-pub fn boxed_table(alloc: Global, behaviour: &str) -> Result<Box<Table>, Fail> {
+pub fn boxed_table(alloc: Global, behaviour: &str) -> Result<Box<NormalTable>, Fail> {
     let text = joined(alloc, &["specification S [a,b] : ", behaviour, " endspec"])?;
-    table_of_text(alloc, text.as_str())
+    normal_table_of_text(alloc, text.as_str())
 }
 
 fn is_found(found: &Found, expected: Answer) -> bool {
@@ -459,7 +460,7 @@ fn is_answer(answer: Result<Option<Found>, Halt>, expected: Answer) -> bool {
 /// What the search for a match returns.
 fn search(
     alloc: Global,
-    table: &mut Table,
+    table: &mut NormalTable,
     pattern: &Pattern,
     states: usize,
 ) -> Result<Option<Found>, Halt> {
@@ -469,7 +470,7 @@ fn search(
 /// What the same search returns with an observer.
 fn observed_search(
     alloc: Global,
-    table: &mut Table,
+    table: &mut NormalTable,
     pattern: &Pattern,
     states: usize,
 ) -> Result<Option<Found>, Halt> {
@@ -477,7 +478,7 @@ fn observed_search(
     find_shortest_match_with_progress(alloc, table, pattern, states, &mut visits)
 }
 
-fn has_answer_in(alloc: Global, table: &mut Table, row: Row) -> Result<bool, Fail> {
+fn has_answer_in(alloc: Global, table: &mut NormalTable, row: Row) -> Result<bool, Fail> {
     let pattern = Pattern::read(alloc, row.words, row.strong)?;
     Ok(
         is_answer(search(alloc, table, &pattern, row.states), row.answer)

@@ -2,9 +2,9 @@
 use super::listing_run::{Question, begin};
 use super::match_tests::boxed_table;
 use lotos_ever::find_shortest_match_with_progress;
+use lotos_normal::NormalTable;
 use lotos_pattern::Pattern;
 use lotos_search::{Found, Halt, NoProgress, Progress, Search};
-use lotos_terms::Table;
 use std::alloc::Global;
 use std::process::Abort;
 use std::test::Fail;
@@ -263,7 +263,7 @@ const STORED: &[Stored] = &[
 /// What the observer of a search for a match is told.
 fn stored_in(
     alloc: Global,
-    table: &mut Table,
+    table: &mut NormalTable,
     words: &[&str],
     states: usize,
 ) -> Result<Visits, Fail> {

@@ -2,7 +2,7 @@
 //! side, reach 41 * 41 * 41 = 68,921 terms, just as many as are allowed.
 #![tactic(auto)]
 
-use lotos_tool::{FromRead, FromWrite, run_args_with_terminal};
+use lotos_tool::{FromRead, FromWrite, Messages, run_args};
 use std::env;
 use std::io::IsTerminal;
 use std::process::ExitCode;
@@ -10,14 +10,14 @@ use std::process::ExitCode;
 fn main(rt: HostRuntime) -> ExitCode {
     let mut reader = FromRead::new(rt.stdin());
     let mut out = FromWrite::new(rt.stdout());
-    let mut err = rt.stderr();
-    let terminal = err.is_terminal();
-    ExitCode::from(run_args_with_terminal(
+    let stream = rt.stderr();
+    let terminal = stream.is_terminal();
+    let mut messages = Messages { stream, terminal };
+    ExitCode::from(run_args(
         rt.alloc(),
         env::args(&rt),
         &mut reader,
         &mut out,
-        &mut err,
-        terminal,
+        &mut messages,
     ))
 }

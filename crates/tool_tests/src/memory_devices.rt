@@ -3,7 +3,7 @@ ghost use Rattle.std.specs.Prelude.{◌≡◌, ◌≤◌, Some, take};
 
 use super::large_runs::Expected;
 use lotos_device::{FromRead, FromWrite};
-use lotos_tool::run;
+use lotos_tool::{Messages, run};
 use std::alloc::Global;
 use std::io;
 use std::io::{Error, ErrorKind, Read, Write};
@@ -198,9 +198,29 @@ pub fn run_on<R: Read, W: Write>(
     out: W,
     err: ArrayWriter,
 ) -> (u8, R, W, ArrayWriter) {
+    let messages = Messages {
+        stream: err,
+        terminal: false,
+    };
+    run_with(alloc, words, reader, out, messages)
+}
+
+/// The same with messages to a terminal or to another stream.
+pub fn run_with<R: Read, W: Write>(
+    alloc: Global,
+    words: &[&str],
+    reader: R,
+    out: W,
+    messages: Messages<ArrayWriter>,
+) -> (u8, R, W, ArrayWriter) {
     let mut source = FromRead::new(reader);
     let mut sink = FromWrite::new(out);
-    let mut err = err;
-    let status = run(alloc, words, &mut source, &mut sink, &mut err);
-    (status, source.into_inner(), sink.into_inner(), err)
+    let mut messages = messages;
+    let status = run(alloc, words, &mut source, &mut sink, &mut messages);
+    (
+        status,
+        source.into_inner(),
+        sink.into_inner(),
+        messages.stream,
+    )
 }

@@ -3,11 +3,10 @@
 use super::expected_output::{repeated, repeated_words};
 use super::memory_devices::{ArrayWriter, SliceReader};
 use super::runs::{RUN, Ran, Run, Taken, WHOLE};
-use lotos_check::Checked;
+use lotos_check::AcceptedText;
 use lotos_device::{FromRead, FromWrite};
 use lotos_tool::{
-    EverRequest, OutputProgress, Progress, Request, ever_with_progress, list_with_progress,
-    request, run_args_with_terminal,
+    EverRequest, Messages, OutputProgress, Progress, Request, ever, list, request, run_args,
 };
 use std::alloc::{AllocError, Global};
 use std::io::{Error, ErrorKind};
@@ -246,7 +245,7 @@ impl Progress for Counter {
 }
 
 impl OutputProgress for Counter {
-    fn accepted(&mut self, _text: &[u8], _found: &Checked) {
+    fn accepted(&mut self, _text: &[u8], _found: &AcceptedText) {
         self.accepted = self.accepted.saturating_add(1);
     }
 
@@ -270,7 +269,7 @@ fn ever_observed(
 fn ever_observed_in(alloc: Global, question: &EverRequest, text: &[u8], counter: &mut Counter) {
     let mut reader = FromRead::new(SliceReader::new(text, 4096));
     let mut out = FromWrite::new(ArrayWriter::new(4096));
-    let _ = ever_with_progress(alloc, question, &mut reader, &mut out, counter);
+    let _ = ever(alloc, question, &mut reader, &mut out, counter);
 }
 
 /// What an observer of the command is told.
@@ -284,7 +283,7 @@ fn observe(alloc: Global, words: &[&str]) -> Result<Counter, AllocError> {
         Ok(Request::Search(search)) => {
             let mut reader = FromRead::new(SliceReader::new(ONE_GATE, 4096));
             let mut out = FromWrite::new(ArrayWriter::new(4096));
-            let _ = list_with_progress(alloc, &search, &mut reader, &mut out, &mut counter);
+            let _ = list(alloc, &search, &mut reader, &mut out, &mut counter);
         }
         Ok(Request::Ever(question)) => ever_observed(alloc, &question, &mut counter)?,
         Ok(Request::Check) => {}
@@ -322,10 +321,16 @@ fn an_observer_is_told_of_all_visits_and_lines(rt: HostRuntime) -> Result<(), Al
 fn assert_unreadable(rt: &impl Abort, alloc: Global, terminal: bool) {
     let mut reader = FromRead::new(SliceReader::new(ONE_GATE, 4096));
     let mut out = FromWrite::new(ArrayWriter::new(4096));
-    let mut err = ArrayWriter::new(4096);
+    let mut messages = Messages {
+        stream: ArrayWriter::new(4096),
+        terminal,
+    };
     let args = Err(Error::from(ErrorKind::InvalidData));
-    let status = run_args_with_terminal(alloc, args, &mut reader, &mut out, &mut err, terminal);
-    assert_eq!(rt; err.got(), b"lotosseq: E99 out of memory\n".as_slice());
+    let status = run_args(alloc, args, &mut reader, &mut out, &mut messages);
+    assert_eq!(rt;
+        messages.stream.got(),
+        b"lotosseq: E99 out of memory\n".as_slice()
+    );
     assert_eq!(rt; status, 5);
     assert!(rt; out.into_inner().got().is_empty());
 }

@@ -1,8 +1,7 @@
 //! Runs of the command over a reader and writers in memory, and what is expected of them.
 
-use super::memory_devices::{ArrayWriter, SliceReader, WhenFull, run_on};
-use lotos_device::{FromRead, FromWrite};
-use lotos_tool::run_with_terminal;
+use super::memory_devices::{ArrayWriter, SliceReader, WhenFull, run_with};
+use lotos_tool::Messages;
 use std::alloc::Global;
 use std::process::Abort;
 
@@ -107,35 +106,24 @@ impl Ran {
 impl Run<'_, '_> {
     /// Runs the command.
     pub fn finish(&self, alloc: Global) -> Ran {
-        let reader = self.reader();
-        let output = writer(self.output);
-        let message = writer(self.message);
-        let (status, reader, output, message) = run_on(alloc, self.words, reader, output, message);
-        Ran {
-            output,
-            message,
-            reads: reader.reads,
-            status,
-        }
+        self.finish_with_terminal(alloc, false)
     }
 
     /// Runs the command with an error stream that is a terminal or is none.
     pub fn finish_with_terminal(&self, alloc: Global, terminal: bool) -> Ran {
-        let mut reader = FromRead::new(self.reader());
-        let mut output = FromWrite::new(writer(self.output));
-        let mut message = writer(self.message);
-        let status = run_with_terminal(
-            alloc,
-            self.words,
-            &mut reader,
-            &mut output,
-            &mut message,
+        let messages = Messages {
+            stream: writer(self.message),
             terminal,
+        };
+        let reader = self.reader();
+        let output = writer(self.output);
+        let (status, reader, output, message) = run_with(
+            alloc, self.words, reader, output, messages,
         );
         Ran {
-            output: output.into_inner(),
+            output,
             message,
-            reads: reader.into_inner().reads,
+            reads: reader.reads,
             status,
         }
     }

@@ -4,10 +4,10 @@ use Rattle.std.specs.Prelude.{Contains, None}
 use Rattle.std.proofs.lemmas.List.Elements.{All-contains}
 use Rattle.std.proofs.lemmas.Option.{slice_get_within, slice_get-get_or}
 use Rattle.lotos_check.specs.NameLists.{In}
+use Rattle.lotos_store.specs.Terms.{stop}
+use Rattle.lotos_store.specs.declared.label.Label.{Label}
 use Rattle.lotos_terms.specs.TableView.{AreSuccessors, Grows, IsInTable, IsLabel, TableView}
 use Rattle.lotos_terms.specs.Steps.{Step}
-use Rattle.lotos_terms.specs.Terms.{stop}
-use Rattle.lotos_terms.specs.declared.label.Label.{Label}
 use Rattle.uses.specs.TermRuns.{IsDeadlock, IsStep, RunTo}
 
 first_in : {A : Type 0} (xs : List A) (x : A) → Some x ≡ slice_get xs 0 → Contains xs x × In x xs

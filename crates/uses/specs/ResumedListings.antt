@@ -1,7 +1,7 @@
 -- Single items of a listing: the first after a line, and the second of all.
 use Rattle.std.specs.Prelude.{◌≡◌, ◌⊎◌, ℕ, List, Option, Some, None, Ok, slice_get}
+use Rattle.lotos_store.specs.declared.label.Label.{Label as TermLabel}
 use Rattle.lotos_terms.specs.TableView.{TableView}
-use Rattle.lotos_terms.specs.declared.label.Label.{Label as TermLabel}
 use Rattle.lotos_pattern.specs.Patterns.{Pattern}
 use Rattle.lotos_pattern.specs.Spelling.{Text}
 use Rattle.lotos_search.specs.Order.{Label}

@@ -1,9 +1,9 @@
 -- Runs of a specification, step by step in its table.
 use Rattle.std.specs.Prelude.{◌≡◌, ◌<◌, ◌≤◌, ℕ, List, [], ◌∷◌, Option, Some, None, length, slice_get}
+use Rattle.lotos_store.specs.Terms.{Term}
+use Rattle.lotos_store.specs.declared.label.Label.{Label}
 use Rattle.lotos_terms.specs.TableView.{TableView, IsLabel}
 use Rattle.lotos_terms.specs.Steps.{Step}
-use Rattle.lotos_terms.specs.Terms.{Term}
-use Rattle.lotos_terms.specs.declared.label.Label.{Label}
 
 -- a step of the table from the term with the number `here`: its label, and the number of the term that it leads to
 pub record IsStep (table : TableView) (here : ℕ) (step : Label × ℕ) : Type 0 where

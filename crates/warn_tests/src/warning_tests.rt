@@ -1,8 +1,9 @@
 //! Accepted specifications with their warnings.
-ghost use Rattle.lotos_check.specs.AcceptedText.{Accepted};
+ghost use Rattle.lotos_text.specs.AstOf.{definition_view};
+ghost use Rattle.lotos_check.specs.Acceptance.{IsAccepted};
 ghost use Rattle.lotos_check.specs.CheckedView.{system_of};
 
-use lotos_check::{AcceptFault, Checked, accept};
+use lotos_check::{AcceptFault, AcceptedText, accept};
 use lotos_warn::{Side, Warning, warnings};
 use std::alloc::{AllocError, Global};
 use std::process::Abort;
@@ -193,17 +194,17 @@ const NOT_ACCEPTED: &str = "not accepted";
 /// The warnings about a specification, a line for each.
 fn warning_lines(alloc: Global, text: &str) -> Result<String, AllocError> {
     match accept(alloc, text.as_bytes()) {
-        Ok(system) => lines_of(alloc, text, &system),
+        Ok(accepted) => lines_of(alloc, &accepted),
         Err(AcceptFault::Memory) => Err(AllocError),
         Err(_) => String::from_str(alloc, NOT_ACCEPTED),
     }
 }
 
-fn lines_of(alloc: Global, text: &str, system: &Checked) -> Result<String, AllocError>
-    requires { Accepted text.now (system_of system.now) }
+fn lines_of(alloc: Global, accepted: &AcceptedText) -> Result<String, AllocError>
+    requires { IsAccepted (definition_view accepted.now.specification.whole) (system_of accepted.now.system) }
 {
     let mut lines = String::new(alloc);
-    let found = warnings(alloc, text.as_bytes(), system)?;
+    let found = warnings(alloc, &accepted.specification, &accepted.system)?;
     for warning in &found {
         add_line(alloc, &mut lines, warning)?;
     }
@@ -336,15 +337,15 @@ fn is_right(warning: &Warning) -> bool {
 /// How many warnings a specification has, and how many of these are about the right side.
 fn warning_counts(alloc: Global, text: &str) -> Result<(usize, usize), AllocError> {
     match accept(alloc, text.as_bytes()) {
-        Ok(system) => counts_of(alloc, text, &system),
+        Ok(accepted) => counts_of(alloc, &accepted),
         Err(_) => Ok((0, 0)),
     }
 }
 
-fn counts_of(alloc: Global, text: &str, system: &Checked) -> Result<(usize, usize), AllocError>
-    requires { Accepted text.now (system_of system.now) }
+fn counts_of(alloc: Global, accepted: &AcceptedText) -> Result<(usize, usize), AllocError>
+    requires { IsAccepted (definition_view accepted.now.specification.whole) (system_of accepted.now.system) }
 {
-    let found = warnings(alloc, text.as_bytes(), system)?;
+    let found = warnings(alloc, &accepted.specification, &accepted.system)?;
     Ok((found.as_slice().len(), count_right(found.as_slice())))
 }
 

@@ -5,28 +5,31 @@ use Rattle.lotos_text.specs.AstView.{inner_of}
 use Rattle.lotos_text.specs.AstOf.{definition_view, definitions_view}
 use Rattle.lotos_check.specs.Scope.{count, within, definitions_in_scope, definition_in_scope}
 use Rattle.lotos_check.specs.Resolution.{AddsBodies, IsNameFaultIn}
-use Rattle.lotos_check.proofs.DefinitionParts.{inner_shown}
-use Rattle.lotos_check.proofs.BodyResolutions.{adds_append, adds_none, adds_first, listed_more, count_more, misnamed_left, misnamed_right, misnamed_here, misnamed_inside, carried_on, no_memory, rest_at, shows_inside}
+use Rattle.lotos_text.proofs.DefinitionParts.{inner_shown}
+use Rattle.lotos_check.proofs.BodyResolutions.{adds_append, adds_none, adds_first, misnamed_left, misnamed_right, misnamed_here, misnamed_inside, no_memory, shows_inside}
+use Rattle.lotos_check.proofs.Pairs.{drop_at}
+use Rattle.lotos_check.proofs.SameFault.{passed_on}
+use Rattle.lotos_check.proofs.ScopedDefinitions.{count_more, listed_more}
 use Rattle.lotos_check.proofs.body_resolution.+resolve_bodies.Goals as goal
 
 pub returns-in_err-own-clause-name_fault : goal.returns-in_err-own-clause-name_fault
 returns-in_err-own-clause-name_fault t c =
-    carried_on c.from_residual.result _ _ c.from_residual.ensures.1
+    passed_on _ c.from_residual.result _ c.from_residual.ensures.1
     (λ scope shows. no_memory scope c.args.first (definition_view c.args.definition.now) _)
 
 pub returns-in_err-push-clause-name_fault : goal.returns-in_err-push-clause-name_fault
 returns-in_err-push-clause-name_fault t c =
-    carried_on c.from_residual-in_err-push.result _ _ c.from_residual-in_err-push.ensures.1
+    passed_on _ c.from_residual-in_err-push.result _ c.from_residual-in_err-push.ensures.1
     (λ scope shows. no_memory scope c.args.first (definition_view c.args.definition.now) _)
 
 pub returns-in_err-push-2-clause-name_fault : goal.returns-in_err-push-2-clause-name_fault
 returns-in_err-push-2-clause-name_fault t c =
-    carried_on c.from_residual-in_err-push-2.result _ _ c.from_residual-in_err-push-2.ensures.1
+    passed_on _ c.from_residual-in_err-push-2.result _ c.from_residual-in_err-push-2.ensures.1
     (λ scope shows. no_memory scope c.args.first (definition_view c.args.definition.now) _)
 
 pub returns-in_err-found-clause-name_fault : goal.returns-in_err-found-clause-name_fault
 returns-in_err-found-clause-name_fault t c =
-    carried_on c.from_residual-in_err-found.result _ _ c.from_residual-in_err-found.ensures.1 (λ scope shows.
+    passed_on _ c.from_residual-in_err-found.result _ c.from_residual-in_err-found.ensures.1 (λ scope shows.
     let of = c.args.definition.now in
     let d = definition_view of in
     let w = within d c.args.first scope in
@@ -37,7 +40,7 @@ returns-in_err-found-clause-name_fault t c =
 
 pub returns-in_err-number-clause-name_fault : goal.returns-in_err-number-clause-name_fault
 returns-in_err-number-clause-name_fault t c =
-    carried_on c.from_residual-in_err-number.result _ _ c.from_residual-in_err-number.ensures.1 (λ scope shows.
+    passed_on _ c.from_residual-in_err-number.result _ c.from_residual-in_err-number.ensures.1 (λ scope shows.
     let of = c.args.definition.now in
     let d = definition_view of in
     let w = within d c.args.first scope in
@@ -46,7 +49,7 @@ returns-in_err-number-clause-name_fault t c =
     let items = c.deref-inner-items.result.now in
     let index = c.loop-inner.inner-index in
     let below : index < length items = omega arith in
-    let left = rest_at items index c.inner-item.result below c.inner-item.is in
+    let left = drop_at items index _ c.inner-item.result below c.inner-item.is in
     let one = definition_view c.inner-item.result in
     let rest = definitions_view (drop (index + 1) items) in
     let fault = c.in_err-number.field-0.0 in
@@ -73,7 +76,7 @@ loop-inner-preserved t c =
     let items = c.deref-inner-items.result.now in
     let index = c.loop-inner.inner-index in
     let below : index < length items = omega arith in
-    let left = rest_at items index c.inner-item.result below c.inner-item.is in
+    let left = drop_at items index _ c.inner-item.result below c.inner-item.is in
     let one = definition_view c.inner-item.result in
     let rest = definitions_view (drop (index + 1) items) in
     let more = count_more one rest in

@@ -24,7 +24,7 @@ check_inner-returns-then-not-branch-clause-fails t c =
     let next = drop_at c.deref-inner-items.result.now c.loop-inner.inner-index _ c.inner-item.result within c.inner-item.is in
     passed_again (λ k. k.now)
     c.loop-inner.names.keys c.insert.new.self.keys c.text.result c.deref-inner-items.result.now _ _ c.inner-item.result c.text.result.now
-    c.loop-inner.invariant next c.text.ensures.bytes _ c.in_ok-insert.ensures.added c.args.whole.now c.deref-inner-items.ensures.value _ c.in_ok-copy_placed.ensures c.if-not-branch.true
+    c.loop-inner.invariant next c.text.ensures.bytes _ c.in_ok-insert.ensures.added c.args.whole.now c.deref-inner-items.ensures.value _ c.in_ok-copy.ensures c.if-not-branch.true
 
 pub check_inner-returns-in_err-check_distinct-clause-fails : goal.check_inner-returns-in_err-check_distinct-clause-fails
 check_inner-returns-in_err-check_distinct-clause-fails t c =

@@ -12,7 +12,7 @@ returns-then-not-branch c =
     let second = seen_again (λ k. k.now)
     c.loop-placed.seen.keys c.insert.new.self.keys c.text.result c.args.names.now _ _ c.placed-item.result c.text.result.now
     c.loop-placed.invariant next c.text.ensures.bytes _ c.in_ok-insert.ensures.added c.if-not-branch.true in
-    subst (λ p. IsDuplicate p c.args.names.now) (sym c.in_ok-copy_placed.ensures) second
+    subst (λ p. IsDuplicate p c.args.names.now) (sym c.in_ok-copy.ensures) second
 
 pub loop-placed-preserved : goal.loop-placed-preserved
 loop-placed-preserved c =

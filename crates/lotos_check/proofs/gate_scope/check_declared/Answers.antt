@@ -9,7 +9,7 @@ returns-then-not-contains-clause-undeclared c names knows =
     let within : c.loop-gate.gate-index < length c.args.gates.now = omega arith in
     found_unknown (λ k. k.now) c.args.scope.now.keys c.args.gates.now _ _ c.gate-item.result c.text.result.now c.loop-gate.invariant
     (drop_at c.args.gates.now c.loop-gate.gate-index _ c.gate-item.result within c.gate-item.is)
-    c.text.ensures.bytes _ c.contains.ensures c.if-not-contains.true names knows c.in_ok-copy_placed.field-0 c.in_ok-copy_placed.ensures
+    c.text.ensures.bytes _ c.contains.ensures c.if-not-contains.true names knows c.in_ok-copy.field-0 c.in_ok-copy.ensures
 
 pub loop-gate-preserved : goal.loop-gate-preserved
 loop-gate-preserved c =

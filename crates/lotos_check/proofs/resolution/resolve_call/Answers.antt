@@ -1,23 +1,23 @@
 use Rattle.std.proofs.Common.{refl, sym, ap, ◌∙◌, length}
 use Rattle.lotos_text.specs.AstOf.{definition_view}
 use Rattle.lotos_check.specs.Flat.{call}
-use Rattle.lotos_check.proofs.DefinitionParts.{formals_shown, declared_shown}
+use Rattle.lotos_text.proofs.DefinitionParts.{formals_shown, declared_shown}
 use Rattle.lotos_check.proofs.ResolvedForms.{carried}
 use Rattle.lotos_check.proofs.OwnFaults.{misnamed_actual, unseen_call, unfit_call, found_call}
 use Rattle.lotos_check.proofs.resolution.resolve_call.Goals as goal
 
 pub returns-in_default : goal.returns-in_default
 returns-in_default c = λ scope known shows knows.
-    unseen_call scope known c.args.name.now c.args.actuals.now c.text.result.now c.in_ok-copy_placed.field-0 c.text.ensures.bytes
-    c.in_ok-copy_placed.ensures (c.in_default.ensures scope shows)
+    unseen_call scope known c.args.name.now c.args.actuals.now c.text.result.now c.in_ok-copy.field-0 c.text.ensures.bytes
+    c.in_ok-copy.ensures (c.in_default.ensures scope shows)
 
 pub returns-then-formal-actuals : goal.returns-then-formal-actuals
 returns-then-formal-actuals c = λ scope known shows knows.
     let of = c.in-Some.binding.definition.now in
-    unfit_call scope known c.args.name.now c.args.actuals.now c.text.result.now c.in_ok-copy_placed-2.field-0
+    unfit_call scope known c.args.name.now c.args.actuals.now c.text.result.now c.in_ok-copy-2.field-0
     c.in-Some.binding.process (definition_view of) (length c.as_slice-formals.result.now)
     (length c.args.actuals.now) c.text.ensures.bytes
-    c.in_ok-copy_placed-2.ensures (c.in-Some.ensures scope shows) (ap length (c.as_slice-formals.ensures.value ∙ formals_shown of)) refl
+    c.in_ok-copy-2.ensures (c.in-Some.ensures scope shows) (ap length (c.as_slice-formals.ensures.value ∙ formals_shown of)) refl
     c.if-formal-actuals.true
 
 pub returns-in_err-check_declared : goal.returns-in_err-check_declared

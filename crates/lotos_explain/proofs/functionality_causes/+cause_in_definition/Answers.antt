@@ -3,7 +3,7 @@ use Rattle.std.proofs.Common.{◌∙◌, ap, sym}
 use Rattle.lotos_text.specs.AstView.{inner_of}
 use Rattle.lotos_text.specs.AstOf.{definition_view, definitions_view}
 use Rattle.lotos_check.specs.Scope.{within}
-use Rattle.lotos_explain.proofs.DefinitionParts.{body_shown, inner_shown, name_shown}
+use Rattle.lotos_text.proofs.DefinitionParts.{body_shown, inner_shown, name_shown}
 use Rattle.lotos_explain.proofs.DefinitionScopes.{continues_all, continues_next, continues_here}
 use Rattle.lotos_explain.proofs.FunctionalityCauses.{cause_here, cause_inside, enclosing_inside}
 use Rattle.lotos_explain.proofs.SimilarNames.{some_weaker}

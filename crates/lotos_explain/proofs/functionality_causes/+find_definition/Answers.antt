@@ -2,7 +2,7 @@ use Rattle.std.specs.Prelude.{◌≡◌, ◌∷◌, map}
 use Rattle.std.proofs.Common.{rules, ap, ◌∙◌}
 use Rattle.lotos_text.specs.AstView.{inner_of}
 use Rattle.lotos_text.specs.AstOf.{definition_view, definitions_view}
-use Rattle.lotos_explain.proofs.DefinitionParts.{inner_shown}
+use Rattle.lotos_text.proofs.DefinitionParts.{inner_shown}
 use Rattle.lotos_explain.proofs.FunctionalityCauses.{bound_here, bound_past}
 use Rattle.lotos_explain.proofs.functionality_causes.+find_definition.Goals as goal
 

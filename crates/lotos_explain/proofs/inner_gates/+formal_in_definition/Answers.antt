@@ -2,7 +2,7 @@ use Rattle.std.proofs.Common.{◌∙◌, ap}
 use Rattle.lotos_text.specs.AstView.{inner_of}
 use Rattle.lotos_text.specs.AstOf.{definition_view, definitions_view}
 use Rattle.lotos_check.specs.Scope.{within}
-use Rattle.lotos_explain.proofs.DefinitionParts.{formals_shown, inner_shown, name_shown}
+use Rattle.lotos_text.proofs.DefinitionParts.{formals_shown, inner_shown, name_shown}
 use Rattle.lotos_explain.proofs.DefinitionScopes.{continues_all, continues_next, continues_here}
 use Rattle.lotos_explain.proofs.InnerGates.{formal_here, formal_inside, named_text}
 use Rattle.lotos_explain.proofs.inner_gates.+formal_in_definition.Goals as goal

@@ -27,16 +27,16 @@ returns-in-None t c = λ around.
 
 pub returns-in-Some-hidden_in_behaviour : goal.returns-in-Some-hidden_in_behaviour
 returns-in-Some-hidden_in_behaviour t c = λ around.
-    let left = c.in-Choice.left in
-    let found = rw c.in-Some-hidden_in_behaviour.is at (c.hidden_in_behaviour-in-Choice.ensures around) in
+    let left = c.in-Par.left in
+    let found = rw c.in-Some-hidden_in_behaviour.is at (c.hidden_in_behaviour-in-Par.ensures around) in
     hides_deeper around c.args.name.now c.in-Some-hidden_in_behaviour.at around (behaviour_view left.value) (behaviour_view c.args.behaviour.now)
-    (λ there t. in_left_operand around there t c.args.behaviour.now left c.in-Choice.right c.in-Choice.is)
-    (rw c.deref-in-Choice.ensures at found)
+    (λ there t. in_left_operand around there t c.args.behaviour.now left c.in-Par.right c.in-Par.is)
+    (rw c.deref-in-Par.ensures at found)
 
 pub returns-in-None-hidden_in_behaviour : goal.returns-in-None-hidden_in_behaviour
 returns-in-None-hidden_in_behaviour t c = λ around.
-    let right = c.in-Choice.right in
+    let right = c.in-Par.right in
     some_weaker c.hidden_in_behaviour-in-None-hidden_in_behaviour.result
     (λ at. hides_deeper around c.args.name.now at around (behaviour_view right.value) (behaviour_view c.args.behaviour.now)
-    (λ there t. in_right_operand around there t c.args.behaviour.now c.in-Choice.left right c.in-Choice.is))
+    (λ there t. in_right_operand around there t c.args.behaviour.now c.in-Par.left right c.in-Par.is))
     (rw c.deref-in-None-hidden_in_behaviour.ensures at (c.hidden_in_behaviour-in-None-hidden_in_behaviour.ensures around))

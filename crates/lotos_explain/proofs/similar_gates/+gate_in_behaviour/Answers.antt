@@ -29,16 +29,16 @@ returns-in_ok-best-in-Hide t c = λ around h.
 
 pub returns-in-Some : goal.returns-in-Some
 returns-in-Some t c = λ around h.
-    let left = c.in-Choice.left in
-    let found = rw c.in-Some.is at (c.in_ok-found-in-Choice.ensures around h) in
+    let left = c.in-Par.left in
+    let found = rw c.in-Some.is at (c.in_ok-found-in-Par.ensures around h) in
     deeper around c.args.at around (behaviour_view left.value) (behaviour_view c.args.behaviour.now)
-    (λ there t. in_left_operand around there t c.args.behaviour.now left c.in-Choice.right c.in-Choice.is) c.in-Some.found.now
-    (rw c.deref-in-Choice.ensures at found)
+    (λ there t. in_left_operand around there t c.args.behaviour.now left c.in-Par.right c.in-Par.is) c.in-Some.found.now
+    (rw c.deref-in-Par.ensures at found)
 
 pub returns-in-None : goal.returns-in-None
 returns-in-None t c = λ around h.
-    let right = c.in-Choice.right in
+    let right = c.in-Par.right in
     IfOk-weaker c.gate_in_behaviour-in-None.result _ _
     (λ found. some_weaker found (λ n. deeper around c.args.at around (behaviour_view right.value) (behaviour_view c.args.behaviour.now)
-    (λ there t. in_right_operand around there t c.args.behaviour.now c.in-Choice.left right c.in-Choice.is) n.now))
+    (λ there t. in_right_operand around there t c.args.behaviour.now c.in-Par.left right c.in-Par.is) n.now))
     (rw c.deref-in-None.ensures at (c.gate_in_behaviour-in-None.ensures around h))

@@ -13,14 +13,14 @@ returns-in-Call t c = λ around same.
 
 pub returns-then-calls_at : goal.returns-then-calls_at
 returns-then-calls_at t c = λ around same.
-    calls_deeper around c.args.at around (behaviour_view c.in-Choice.left.value) (behaviour_view c.args.behaviour.now)
-    (λ there t. in_left_operand around there t c.args.behaviour.now c.in-Choice.left c.in-Choice.right c.in-Choice.is)
+    calls_deeper around c.args.at around (behaviour_view c.in-Par.left.value) (behaviour_view c.args.behaviour.now)
+    (λ there t. in_left_operand around there t c.args.behaviour.now c.in-Par.left c.in-Par.right c.in-Par.is)
     (rw c.deref.ensures at (c.calls_at.ensures around same))
 
 pub returns-else-calls_at : goal.returns-else-calls_at
 returns-else-calls_at t c = λ around same.
-    calls_deeper around c.args.at around (behaviour_view c.in-Choice.right.value) (behaviour_view c.args.behaviour.now)
-    (λ there t. in_right_operand around there t c.args.behaviour.now c.in-Choice.left c.in-Choice.right c.in-Choice.is)
+    calls_deeper around c.args.at around (behaviour_view c.in-Par.right.value) (behaviour_view c.args.behaviour.now)
+    (λ there t. in_right_operand around there t c.args.behaviour.now c.in-Par.left c.in-Par.right c.in-Par.is)
     (rw c.deref-else-calls_at.ensures at (c.calls_at-else-calls_at.ensures around same))
 
 pub returns-in-Prefix : goal.returns-in-Prefix

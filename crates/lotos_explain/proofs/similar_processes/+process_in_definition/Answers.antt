@@ -3,7 +3,7 @@ use Rattle.lotos_text.specs.AstView.{formals_of, inner_of}
 use Rattle.lotos_text.specs.AstOf.{definition_view, definitions_view}
 use Rattle.lotos_check.specs.NameLists.{texts}
 use Rattle.lotos_check.specs.Scope.{within}
-use Rattle.lotos_explain.proofs.DefinitionParts.{body_shown, inner_shown}
+use Rattle.lotos_text.proofs.DefinitionParts.{body_shown, inner_shown}
 use Rattle.lotos_explain.proofs.DefinitionScopes.{continues_all, continues_next, continues_here, process_here, process_inside, bound_inside}
 use Rattle.lotos_explain.proofs.SimilarNames.{some_weaker}
 use Rattle.lotos_explain.proofs.similar_processes.+process_in_definition.Goals as goal

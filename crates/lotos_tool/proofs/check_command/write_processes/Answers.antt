@@ -11,4 +11,4 @@ returns-in-Ok-write_bytes-clause-outcome g c =
     let lines = c.as_slice.ensures.value ∙ c.in-Ok.ensures ∙ ap (flat_map process_line) c.processes.ensures in
     let written = subst (Appends _ _) lines c.in-Ok-write_bytes.ensures.whole in
     let count = process_count c.processes-in-Ok-write_bytes.result.now _ c.processes-in-Ok-write_bytes.ensures in
-    processes_ended _ _ _ (system_of c.args.found.now) _ c.flush_complete.result written count c.flush_complete.ensures.finished
+    processes_ended _ _ _ (system_of c.args.system.now) _ c.flush_complete.result written count c.flush_complete.ensures.finished

@@ -2,8 +2,8 @@ use Rattle.std.proofs.Common.{ap, refl, subst, ◌∙◌}
 use Rattle.std.specs.Prelude.{Err}
 use Rattle.std.proofs.lemmas.Result.{err_from_is_err_and}
 use Rattle.lotos_ever.specs.MatchQuestions.{IsAnswer, IsFound, match_question_of}
-use Rattle.lotos_tool.specs.EverSetup.{IsEverQuestionFor}
-use Rattle.lotos_tool.specs.EverOutcomeContracts.{item_of}
+use Rattle.lotos_tool.specs.EverParts.{IsEverQuestionFor}
+use Rattle.lotos_tool.specs.EverOutcome.{item_of}
 use Rattle.lotos_tool.proofs.MatchOutcomes.{handed_on, out_of_memory, shown_now}
 use Rattle.lotos_tool.proofs.ever_command.find_line_in.Goals as goal
 

@@ -1,5 +1,5 @@
 use Rattle.std.proofs.Common.{◌≡◌, ◌∙◌, Err, ap, false, refl, rules, true}
-use Rattle.lotos_tool.specs.SearchSetup.{is_at_limit}
+use Rattle.lotos_tool.specs.SearchParts.{is_at_limit}
 use Rattle.lotos_tool.proofs.Calls.{halt_failed, told_end, told_halt, returned_item}
 use Rattle.lotos_tool.proofs.ListingProgress.{below_limit, ends_finished, ends_halted, ends_limited, ends_unwritten, item_of, its_labels_now, none_below, progress_more, progress_none, within_more}
 use Rattle.lotos_tool.proofs.listing_output.write_listing.Goals as goal

@@ -1,7 +1,7 @@
 use Rattle.std.proofs.Common.{◌≡◌, List, length, false}
 use Rattle.lotos_search.specs.Remaining.{remaining}
 use Rattle.lotos_search.specs.SearchSteps.{running}
-use Rattle.lotos_tool.specs.ListingOutcome.{IsBelowLimit}
+use Rattle.lotos_tool.specs.SearchOutcome.{IsBelowLimit}
 use Rattle.lotos_tool.specs.OutputLines.{Item}
 use Rattle.lotos_tool.proofs.ListingProgress.{Progress}
 use Rattle.lotos_tool.proofs.listing_output.write_listing.Given as goal

@@ -3,7 +3,7 @@ use Rattle.std.proofs.lemmas.List.{drop_more}
 use Rattle.std.proofs.lemmas.Result.{IfOk-weaker}
 use Rattle.std.proofs.lemmas.Str.{IsUtf8-append, IsUtf8-from_ascii}
 use Rattle.std.proofs.lemmas.Str.Ascii.{IsAscii-cons, IsAscii-nil}
-use Rattle.lotos_terms.specs.declared.label.Label.TheVariants.{Gate}
+use Rattle.lotos_store.specs.declared.label.Label.TheVariants.{Gate}
 use Rattle.lotos_tool.proofs.FormattedLines.{left_at_first, left_behind, left_none, left_shown, none_spelled}
 use Rattle.lotos_tool.proofs.output_lines.format_sequence.Goals as goal
 

@@ -1,6 +1,13 @@
-use Rattle.lotos_tool.proofs.RefusalCauses.{unread_answer}
+use Rattle.std.proofs.Common.{subst}
+use Rattle.lotos_check.proofs.SameFault.{passed_on}
+use Rattle.lotos_tool.specs.RefusalCauses.{IsInputRefusal}
+use Rattle.lotos_tool.specs.Rejections.{IsRejection, IsRejectionBy}
+use Rattle.lotos_tool.proofs.Rejections.{unread}
 use Rattle.lotos_tool.proofs.specification_input.read_specification.Goals as goal
 
-pub returns-clause-refused : goal.returns-clause-refused
-returns-clause-refused g c =
-    unread_answer _ _ _ _ c.accept_text-found.result c.as_slice.ensures.value c.in_ok-text.ensures.whole c.accept_text-found.ensures.refused
+pub returns-in_err-found-clause-refused : goal.returns-in_err-found-clause-refused
+returns-in_err-found-clause-refused g c =
+    let cause = c.in_err-found.field-0.0 in
+    passed_on (IsRejectionBy IsInputRefusal (g.R.Source.left c.args.reader.now) (g.R.Source.left c.read_input.new.reader))
+    c.from_residual-in_err-found.result cause c.from_residual-in_err-found.ensures.1
+    (unread _ _ _ cause c.in_ok-text.ensures.whole (subst (λ t. IsRejection t cause) c.as_slice.ensures.value c.in_err-found.ensures.refused))

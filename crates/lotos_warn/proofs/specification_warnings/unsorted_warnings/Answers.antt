@@ -28,12 +28,12 @@ returns c =
     ap (map (λ d. definition_view d.now)) c.as_slice.ensures.value ∙ all in
     let others = after_first (λ d. definition_view d.now) c.deref.result.now whole
     (ap (map (λ d. definition_view d.now)) c.deref.ensures.value ∙ all) in
-    let old = c.new-found.result.items in
-    let mid = c.check_gates_of_all.new.found.items in
-    let new = c.check_calls_of_all.new.found.items in
-    let gates = subst (λ ds. Adds old mid (IsGateWarningOfAny ds)) slice c.in_ok-check_gates_of_all.ensures in
-    let calls = subst (λ ds. Adds mid new (IsUncalledAmong called 0 ds)) others c.in_ok-check_calls_of_all.ensures in
-    adds_alone old new (IsWarning whole) c.new-found.ensures.items
+    let old = c.new-warnings.result.items in
+    let mid = c.warn_of_gates.new.warnings.items in
+    let new = c.warn_of_uncalled.new.warnings.items in
+    let gates = subst (λ ds. Adds old mid (IsGateWarningOfAny ds)) slice c.in_ok-warn_of_gates.ensures in
+    let calls = subst (λ ds. Adds mid new (IsUncalledAmong called 0 ds)) others c.in_ok-warn_of_uncalled.ensures in
+    adds_alone old new (IsWarning whole) c.new-warnings.ensures.items
     (adds_as old new (λ w. IsGateWarningOfAny (definitions_in whole) w ⊎ IsUncalledAmong called 0 (definitions_in_list (inner_of whole)) w) (IsWarning whole)
     (all_warnings whole called by_name)
     (adds_both old mid new (IsGateWarningOfAny (definitions_in whole)) (IsUncalledAmong called 0 (definitions_in_list (inner_of whole))) gates calls))

@@ -1,18 +1,16 @@
-use Rattle.std.proofs.Common.{◌↔◌, sym, subst}
-use Rattle.std.proofs.lemmas.Result.{IfOk-weaker}
-use Rattle.lotos_check.specs.Acceptance.{IsAccepted}
-use Rattle.lotos_check.specs.CheckedView.{system_of}
-use Rattle.lotos_check.specs.NameLists.{In}
-use Rattle.lotos_warn.specs.Warnings.{IsWarning}
+use Rattle.std.proofs.lemmas.Cmp.{eq_by_cmp_equiv}
+use Rattle.lotos_warn.specs.WarningOrder.{warning_total}
+use Rattle.lotos_warn.proofs.SortedWarnings.{same_left, in_order}
 use Rattle.lotos_warn.proofs.specification_warnings.warnings.Goals as goal
 
-pub warnings_of-requires : goal.warnings_of-requires
-warnings_of-requires c =
-    let a = c.requires.accepted in
-    record { accepted = subst (λ d. IsAccepted d (system_of c.args.system.now)) (c.in-Ok.ensures.only a.whole a.spelled) a.accepted }
+pub returns-clause-exact : goal.returns-clause-exact
+returns-clause-exact c = λ w.
+    let same = same_left warning_total (eq_by_cmp_equiv warning_total) c.in_ok-warnings.warnings.items c.sort_unstable.new.self.items c.dedup.new.self.items
+    c.sort_unstable.ensures.permutation c.dedup.ensures.filtered w in
+    let all = c.in_ok-warnings.ensures w in
+    ((λ i. all.0 (same.0 i)), (λ h. same.1 (all.1 h)))
 
-pub returns-in-Ok-clause-exact : goal.returns-in-Ok-clause-exact
-returns-in-Ok-clause-exact c =
-    IfOk-weaker c.warnings_of.result _ _
-    (λ found h whole s w. subst (λ d. In w found.items ↔ IsWarning d w) (sym (c.in-Ok.ensures.only whole s)) (h w))
-    c.warnings_of.ensures.exact
+pub returns-clause-ascending : goal.returns-clause-ascending
+returns-clause-ascending c =
+    in_order warning_total (eq_by_cmp_equiv warning_total) c.in_ok-warnings.warnings.items c.sort_unstable.new.self.items c.dedup.new.self.items
+    c.sort_unstable.ensures.permutation c.dedup.ensures.filtered c.sort_unstable.ensures.sorted

@@ -3,7 +3,7 @@ use Rattle.std.proofs.lemmas.Result.{on_ok_weaker}
 use Rattle.lotos_text.specs.AstOf.{behaviour_view, sync_view}
 use Rattle.lotos_warn.specs.Additions.{Adds}
 use Rattle.lotos_warn.specs.Warnings.{UsesFree}
-use Rattle.lotos_warn.proofs.Operands.{by_operands}
+use Rattle.lotos_text.proofs.TwoOperands.{by_operands}
 use Rattle.lotos_warn.proofs.GateAdditions.{uses_prefix, uses_choice, uses_par, uses_hide, uses_enable, uses_disable, uses_call}
 use Rattle.lotos_warn.proofs.used_gates.+add_used.Goals as goal
 

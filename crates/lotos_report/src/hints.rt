@@ -1,0 +1,136 @@
+//! Hints for standard error, after a refusal: a word names a file, though a specification is read from standard input,
+//! a word is almost an element, or a name is no gate. A hint for which there is no memory is left out.
+
+use crate::messages::{Messages, NumberText};
+use crate::name_hints::{NameHint, write_name_hint};
+use crate::refusal::Refusal;
+use lotos_command::CommandFault;
+use lotos_pattern::PatternFault;
+use std::alloc::{AllocError, Global};
+use std::io::Write;
+use strsim::levenshtein;
+
+/// What the name of a file with a specification ends in.
+const EXTENSION: &str = ".lotos";
+
+/// The words of elements that are not labels.
+const ELEMENT_WORDS: [&str; 5] = ["<any>", "<not>", "<until>", "<while>", "<deadlock>"];
+
+/// The most bytes of a word that may be almost an element.
+const LONGEST: usize = 16;
+
+/// Gives a hint if a command is refused for a word that names a file, that is almost an element, or that names no gate:
+/// for the last `hint` is what could be meant. `command` is the command's own words.
+pub fn hint_after_refusal<E: Write>(
+    alloc: Global,
+    command: &str,
+    refusal: Option<&Refusal>,
+    words: &[String],
+    hint: &Option<NameHint>,
+    messages: &mut Messages<E>,
+) {
+    if let Some(refusal) = refusal {
+        hint_at_word(alloc, command, refusal, words, &mut messages.stream);
+        hint_at_unknown_gate(refusal, hint, &mut messages.stream);
+    }
+}
+
+/// Gives the hint if the words fit no command and are those of a check and a file. The first of them is the program's
+/// own name.
+pub fn hint_after_fault<E: Write>(fault: &CommandFault, words: &[&str], err: &mut E) {
+    if matches!(fault, CommandFault::Wrong(_)) && is_check_of_file(words) {
+        write_hint("check", err);
+    }
+}
+
+/// Gives a hint if the word that is refused names a file or is almost an element.
+fn hint_at_word<E: Write>(
+    alloc: Global,
+    command: &str,
+    refusal: &Refusal,
+    words: &[String],
+    err: &mut E,
+) {
+    let Some(number) = doubtful_word(refusal) else {
+        return;
+    };
+    let Some(word) = words.get(number.saturating_sub(1)) else {
+        return;
+    };
+    if word.as_str().ends_with(EXTENSION) {
+        write_hint(command, err);
+    } else if let Ok(Some(element)) = similar_element(alloc, word.as_str()) {
+        let number = NumberText(number);
+        let _ = writeln!(
+            err,
+            "lotosseq: word {number}, {word}, may be meant as {element}"
+        );
+    }
+}
+
+/// Says what could be meant if a word is refused because it names no gate.
+fn hint_at_unknown_gate<E: Write>(refusal: &Refusal, hint: &Option<NameHint>, err: &mut E) {
+    if let (Refusal::E49(_), Some(hint)) = (refusal, hint) {
+        write_name_hint(hint, err);
+    }
+}
+
+/// The number, counted from 1, of the word that may be meant otherwise, if the refusal is for one: the word itself, or
+/// the one after a word that needs another.
+fn doubtful_word(refusal: &Refusal) -> Option<usize> {
+    match refusal {
+        Refusal::Pattern(PatternFault::E41(number)) | Refusal::E49(number) => Some(*number),
+        Refusal::Pattern(
+            PatternFault::E42(number) | PatternFault::E48(number) | PatternFault::E50(number),
+        ) => number.checked_add(1),
+        _ => None,
+    }
+}
+
+/// The first element's word that this one almost is: between the signs, at most two bytes are wrong and at most half of
+/// them; at most a quarter if the word has no sign, since it may be a name. A word that is not printed as it is almost
+/// is none.
+fn similar_element(alloc: Global, word: &str) -> Result<Option<&'static str>, AllocError> {
+    let bytes = word.as_bytes();
+    if bytes.len() > LONGEST || !bytes.iter().all(|byte| byte.is_ascii_graphic()) {
+        return Ok(None);
+    }
+    let lower = word.to_ascii_lowercase(alloc)?;
+    let name = lower.as_str().trim_matches(is_sign);
+    for element in ELEMENT_WORDS {
+        if lower.as_str() == element {
+            return Ok(None);
+        }
+        let meant = element.trim_matches(is_sign);
+        let most = if name.len() < bytes.len() {
+            (meant.len() / 2).min(2)
+        } else {
+            meant.len() / 4
+        };
+        if levenshtein(alloc, name, meant)? <= most {
+            return Ok(Some(element));
+        }
+    }
+    Ok(None)
+}
+
+fn is_sign(letter: char) -> bool {
+    letter == '<' || letter == '>'
+}
+
+/// Whether the words name the command `check`, and one of the others is no option.
+fn is_check_of_file(words: &[&str]) -> bool {
+    match words {
+        [_program, command, others @ ..] => {
+            *command == "check" && others.iter().any(|word| !word.starts_with("-"))
+        }
+        _ => false,
+    }
+}
+
+fn write_hint<E: Write>(command: &str, err: &mut E) {
+    let _ = writeln!(
+        err,
+        "lotosseq: a specification is read from standard input: lotosseq {command} <FILE"
+    );
+}

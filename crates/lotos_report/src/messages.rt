@@ -1,0 +1,104 @@
+//! Messages for standard error. They do not allocate, and write errors are ignored.
+
+use crate::outcome::{EverWhy, Why};
+use crate::refusal::Refusal;
+use itoa::Buffer;
+use std::fmt;
+use std::io::Write;
+
+/// Where messages go: standard error, or another stream in its place.
+#[derive(Drop)]
+pub struct Messages<E> {
+    pub stream: E,
+    /// Whether the stream is a terminal. There a report of progress is one line, which is renewed.
+    pub terminal: bool,
+}
+
+/// Reports why a command is refused.
+pub fn report_refusal<E: Write>(err: &mut E, refusal: &Refusal) {
+    let _ = writeln!(err, "lotosseq: {refusal}");
+}
+
+/// Reports after which sequence a listing stopped, if a line was written, and why. `terms` is the bound on the terms of
+/// a prefix.
+pub fn report_stop<E: Write>(err: &mut E, last: &Option<String>, why: &Why, terms: usize) {
+    let cause = CauseText { why, terms };
+    let _ = match last {
+        Some(sequence) => writeln!(err, "lotosseq: stopped after {sequence}: {cause}"),
+        None => writeln!(err, "lotosseq: stopped before the first line: {cause}"),
+    };
+}
+
+/// Reports why a run without a listing failed.
+pub fn report_failure<E: Write>(err: &mut E, why: &Why) {
+    let _ = writeln!(err, "lotosseq: {}", CauseText { why, terms: 0 });
+}
+
+/// Reports that there is no match of any length.
+pub fn report_no_match<E: Write>(err: &mut E) {
+    let _ = writeln!(err, "lotosseq: it happens at no depth");
+}
+
+/// Reports why a search for a match stopped. `states` is the bound on the product states.
+pub fn report_ever_stop<E: Write>(err: &mut E, why: &EverWhy, states: usize) {
+    match why {
+        EverWhy::TooManyStates => {
+            let _ = writeln!(
+                err,
+                "lotosseq: stopped: more than {} states",
+                NumberText(states)
+            );
+        }
+        EverWhy::Memory => report_failure(err, &Why::Memory),
+        EverWhy::Write | EverWhy::Flush => report_failure(err, &Why::Write),
+    }
+}
+
+/// Writes a text as it is, with its own line feeds.
+pub fn report_text<E: Write>(err: &mut E, text: &str) {
+    let _ = write!(err, "{text}");
+}
+
+/// The text of a cause; `terms` is the bound on the terms of a prefix.
+#[derive(Drop)]
+struct CauseText<'a> {
+    why: &'a Why,
+    terms: usize,
+}
+
+impl fmt::Display for CauseText<'_> {
+    fn fmt<W: fmt::Write>(&self, f: &mut fmt::Formatter<W>) -> fmt::Result {
+        match self.why {
+            Why::Limit => f.write_str("limit reached"),
+            Why::OverTerms(prefix) => {
+                write!(f, "more than {} terms at {prefix}", NumberText(self.terms))
+            }
+            Why::Memory => f.write_str("E99 out of memory"),
+            Why::Write => f.write_str("output cannot be written"),
+        }
+    }
+}
+
+/// A number in decimal digits.
+#[derive(Clone, Copy, Debug)]
+pub struct NumberText(pub usize);
+
+impl fmt::Display for NumberText {
+    fn fmt<W: fmt::Write>(&self, f: &mut fmt::Formatter<W>) -> fmt::Result {
+        let mut digits = Buffer::new();
+        f.write_str(digits.format(self.0))
+    }
+}
+
+/// `line:column: ` before a message, or nothing.
+#[derive(Clone, Copy, Debug)]
+pub struct PositionText(pub Option<(usize, usize)>);
+
+impl fmt::Display for PositionText {
+    fn fmt<W: fmt::Write>(&self, f: &mut fmt::Formatter<W>) -> fmt::Result {
+        match self.0 {
+            Some((line, column)) => write!(f, "{}:{}: ", NumberText(line), NumberText(column)),
+            None => Ok(()),
+        }
+    }
+}

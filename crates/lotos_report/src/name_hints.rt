@@ -1,0 +1,160 @@
+//! Names in the words of a pattern that are no gates of a specification: warnings of them, and what could be meant. What
+//! there is no memory for is left out.
+
+use crate::messages::NumberText;
+use lotos_explain::{formal_gate, hidden_gate, similar_name};
+use lotos_text::{Name, Specification, line_column};
+use std::alloc::{AllocError, Global};
+use std::fmt;
+use std::io::Write;
+
+/// The most names for which hints are looked for: each walk goes through the whole specification.
+const MOST_HINTS: usize = 8;
+
+/// A name in a word that is no gate of the specification.
+#[derive(Debug, Drop)]
+pub struct UnknownName<'a> {
+    /// The number of the word, counted from 1.
+    pub word: usize,
+    /// The name as the word has it.
+    pub name: &'a str,
+}
+
+/// Where it is looked for what could be meant by a name: the gates in the specification's own list, its text, and the
+/// specification.
+#[derive(Clone, Copy, Drop)]
+pub struct NamePlaces<'a, 'b, 'c> {
+    pub gates: &'a [Name],
+    pub text: &'b [u8],
+    pub specification: &'c Specification,
+}
+
+/// What could be meant by a name that is no gate of the specification.
+#[derive(Debug, Drop)]
+pub struct NameHint {
+    /// The name in upper case.
+    name: String,
+    /// The most similar gate in the specification's own list.
+    similar: Option<Name>,
+    inside: Option<Inside>,
+}
+
+/// What a name is inside the specification.
+#[derive(Debug, Drop)]
+enum Inside {
+    /// A gate in the list of a `hide`, at this line and this column.
+    Hidden(usize, usize),
+    /// A formal gate of the process with this name.
+    Formal(Name),
+}
+
+/// Warns of each of these names that are no gates, and says what could be meant.
+pub fn warn_of_names<E: Write>(
+    alloc: Global,
+    names: &[UnknownName<'_>],
+    places: &NamePlaces<'_, '_, '_>,
+    err: &mut E,
+) {
+    for k in 0..names.len() {
+        warn_of_name(&names[k], err);
+        if k < MOST_HINTS {
+            if let Ok(hint) = hint_for(alloc, names[k].name, places) {
+                write_name_hint(&hint, err);
+            }
+        }
+    }
+}
+
+/// The hint for the first of these names that are no gates; none if there is no such name, or no memory for it.
+pub fn first_name_hint(
+    alloc: Global,
+    names: &[UnknownName<'_>],
+    places: &NamePlaces<'_, '_, '_>,
+) -> Option<NameHint> {
+    let first = names.first()?;
+    hint_for(alloc, first.name, places).ok()
+}
+
+/// Writes a line for each thing that could be meant.
+pub fn write_name_hint<E: Write>(hint: &NameHint, err: &mut E) {
+    let _ = write!(err, "{hint}");
+}
+
+fn warn_of_name<E: Write>(found: &UnknownName<'_>, err: &mut E) {
+    let number = NumberText(found.word);
+    let name = found.name;
+    let _ = writeln!(
+        err,
+        "lotosseq: word {number}, {name}, is no gate of the specification and never matches"
+    );
+}
+
+/// What could be meant by a name that is no gate.
+fn hint_for(
+    alloc: Global,
+    name: &str,
+    places: &NamePlaces<'_, '_, '_>,
+) -> Result<NameHint, AllocError> {
+    let name = name.to_ascii_uppercase(alloc)?;
+    let similar = match similar_name(alloc, name.as_str(), places.gates)? {
+        Some(gate) => Some(gate.copy(alloc)?),
+        None => None,
+    };
+    let inside = find_inside(alloc, name.as_str(), places.text, places.specification)?;
+    Ok(NameHint {
+        name,
+        similar,
+        inside,
+    })
+}
+
+/// What the name is inside the specification: a hidden gate, or else a formal gate of a process.
+fn find_inside(
+    alloc: Global,
+    name: &str,
+    text: &[u8],
+    specification: &Specification,
+) -> Result<Option<Inside>, AllocError> {
+    if let Some(at) = hidden_gate(specification, name) {
+        if at > text.len() {
+            return Ok(None);
+        }
+        let (line, column) = line_column(text, at);
+        return Ok(Some(Inside::Hidden(line, column)));
+    }
+    match formal_gate(specification, name) {
+        Some(process) => Ok(Some(Inside::Formal(process.copy(alloc)?))),
+        None => Ok(None),
+    }
+}
+
+impl fmt::Display for NameHint {
+    fn fmt<W: fmt::Write>(&self, f: &mut fmt::Formatter<W>) -> fmt::Result {
+        if let Some(gate) = &self.similar {
+            let gate = gate.text();
+            writeln!(
+                f,
+                "lotosseq: a gate of the specification has a similar name: {gate}"
+            )?;
+        }
+        let name = self.name.as_str();
+        match &self.inside {
+            Some(Inside::Hidden(line, column)) => {
+                let line = NumberText(*line);
+                let column = NumberText(*column);
+                writeln!(
+                    f,
+                    "lotosseq: {name} is hidden at {line}:{column}, so it is not observed"
+                )
+            }
+            Some(Inside::Formal(process)) => {
+                let process = process.text();
+                writeln!(
+                    f,
+                    "lotosseq: {name} is a formal gate of the process {process}, and stands for the gate that a call gives"
+                )
+            }
+            None => Ok(()),
+        }
+    }
+}

@@ -1,0 +1,74 @@
+//! The outcomes of the commands.
+
+use crate::refusal::Refusal;
+
+/// How a search or a check ended.
+#[derive(Debug, Drop)]
+pub enum Ended {
+    /// Everything was written and flushed: `lines` lines, or more if this is the greatest `u64`.
+    Complete { lines: u64 },
+    /// Nothing was written, for this reason.
+    Refused(Refusal),
+    /// The output stopped. `last` is the text of the last sequence whose line was written completely, if there is one;
+    /// a check has none.
+    Stopped { last: Option<String>, why: Why },
+}
+
+impl Ended {
+    /// Why the command is refused, if it is.
+    pub fn refusal(&self) -> Option<&Refusal> {
+        match self {
+            Ended::Refused(refusal) => Some(refusal),
+            _ => None,
+        }
+    }
+}
+
+/// Why a search or a check stopped. A check stops only for [`Why::Memory`] and [`Why::Write`].
+#[derive(Debug, Drop)]
+pub enum Why {
+    /// As many lines as the limit were written.
+    Limit,
+    /// The text of the first oversized prefix: a prefix that can still match and reaches more terms than the bound.
+    OverTerms(String),
+    /// Out of memory.
+    Memory,
+    /// The output could not be written or flushed.
+    Write,
+}
+
+/// How a search for a match of any length ended.
+#[derive(Debug, Drop)]
+pub enum EverEnded {
+    /// There is a match, and the line of the first of the shortest ones was written and flushed.
+    Matched,
+    /// There is no match of any length. Nothing was written.
+    NoMatch,
+    /// Nothing was written, for this reason.
+    Refused(Refusal),
+    /// The search or the output stopped, for this reason.
+    Stopped(EverWhy),
+}
+
+impl EverEnded {
+    /// Why the command is refused, if it is.
+    pub fn refusal(&self) -> Option<&Refusal> {
+        match self {
+            EverEnded::Refused(refusal) => Some(refusal),
+            _ => None,
+        }
+    }
+}
+
+/// Why a search for a match of any length, or its output, stopped.
+#[derive(Clone, Copy, Debug)]
+pub enum EverWhy {
+    /// More product states than the request allows were found before any match. Nothing was written.
+    TooManyStates,
+    /// Out of memory. Nothing was written.
+    Memory,
+    /// There is a match, and its line could not be written or flushed. A prefix of the line may have been written.
+    Write,
+    /// There is no match of any length, and the output could not be flushed. Nothing was written.
+    Flush,
+}

@@ -1,0 +1,117 @@
+//! The progress of a search, as it is reported on standard error. Errors of the error stream are ignored.
+
+use crate::messages::{Messages, NumberText};
+use std::fmt;
+use std::io::Write;
+
+/// What a search visits.
+#[derive(Clone, Copy, Debug)]
+pub enum Visited {
+    Prefixes,
+    States,
+}
+
+/// The number of visits at the first report.
+const FIRST_REPORT: usize = 1 << 10;
+
+/// The greatest number of visits between two reports.
+const MAX_INTERVAL: usize = 1 << 20;
+
+/// Reports to an error stream how far a search is. A terminal has one line, which is renewed, and
+/// which is cleared before a line of the output; another stream has a line for each report.
+#[derive(Drop)]
+pub struct ProgressReport<'a, E> {
+    messages: &'a mut Messages<E>,
+    /// Whether the terminal shows a report.
+    shown: bool,
+    counts: Counts,
+    /// The number of visits at the next report.
+    next: usize,
+}
+
+impl<'a, E: Write> ProgressReport<'a, E> {
+    /// A report of a search that has visited nothing. Nothing is written yet.
+    pub fn new(messages: &'a mut Messages<E>, visited: Visited) -> ProgressReport<'a, E> {
+        ProgressReport {
+            messages,
+            shown: false,
+            counts: Counts {
+                visited,
+                visits: 0,
+                length: 0,
+                lines: 0,
+            },
+            next: FIRST_REPORT,
+        }
+    }
+
+    /// The error stream.
+    pub fn stream(&mut self) -> &mut E {
+        &mut self.messages.stream
+    }
+
+    /// Notes a visit of a prefix or a state of this length, and reports when it is time to.
+    pub fn visit(&mut self, length: usize) {
+        self.counts.visits = self.counts.visits.saturating_add(1);
+        self.counts.length = self.counts.length.max(length);
+        if self.counts.visits == self.next {
+            self.report();
+            self.next = next_report(self.next);
+        }
+    }
+
+    /// Notes that a line of the output is written next, and clears the line that a terminal shows.
+    pub fn before_line(&mut self) {
+        self.counts.lines = self.counts.lines.saturating_add(1);
+        self.clear();
+    }
+
+    /// Clears the line that a terminal shows.
+    pub fn clear(&mut self) {
+        if self.shown {
+            let _ = write!(self.messages.stream, "\r\x1b[K");
+            self.shown = false;
+        }
+    }
+
+    /// No number of a report ever falls, so a renewed line covers the one before.
+    fn report(&mut self) {
+        let _ = if self.messages.terminal {
+            write!(self.messages.stream, "\rlotosseq: {}", self.counts)
+        } else {
+            writeln!(self.messages.stream, "lotosseq: {}", self.counts)
+        };
+        self.shown = self.messages.terminal;
+    }
+}
+
+/// The number of visits at the report after the one at `visits`: twice as many, up to `MAX_INTERVAL` more.
+fn next_report(visits: usize) -> usize {
+    visits.saturating_add(visits.min(MAX_INTERVAL))
+}
+
+/// How far a search is.
+#[derive(Clone, Copy, Debug)]
+struct Counts {
+    visited: Visited,
+    /// The number of visits.
+    visits: usize,
+    /// The greatest length of what was visited: of prefixes in labels, of states in steps.
+    length: usize,
+    /// The number of lines.
+    lines: usize,
+}
+
+impl fmt::Display for Counts {
+    fn fmt<W: fmt::Write>(&self, f: &mut fmt::Formatter<W>) -> fmt::Result {
+        let length = NumberText(self.length);
+        let visits = NumberText(self.visits);
+        match self.visited {
+            Visited::Prefixes => {
+                let lines = NumberText(self.lines);
+                write!(f, "length {length}, {visits} prefixes, {lines} lines")
+            }
+            Visited::States => write!(f, "{length} steps, {visits} states"),
+        }
+    }
+}

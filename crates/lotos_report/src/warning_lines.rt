@@ -1,0 +1,49 @@
+//! The lines of warnings on standard error. Errors of the error stream are ignored.
+
+use crate::messages::PositionText;
+use lotos_warn::Warning;
+use std::io::Write;
+
+/// Writes a line for each warning about the text. The warnings are in the order of their offsets, so the text is read
+/// once.
+pub fn write_warnings<E: Write>(err: &mut E, text: &[u8], warnings: &[Warning]) {
+    let mut position = Position {
+        at: 0,
+        line: 1,
+        column: 1,
+    };
+    for warning in warnings {
+        position = position.moved(text, warning.at());
+        let place = PositionText(Some((position.line, position.column)));
+        let _ = writeln!(err, "lotosseq: {place}warning: {warning}");
+    }
+}
+
+/// An offset in a text, with its line and its column, both counted from 1.
+#[derive(Clone, Copy)]
+struct Position {
+    at: usize,
+    line: usize,
+    column: usize,
+}
+
+impl Position {
+    /// The position of a later offset.
+    fn moved(self, text: &[u8], to: usize) -> Position {
+        let mut line = self.line;
+        let mut column = self.column;
+        for k in self.at..to.min(text.len()) {
+            if text[k] == b'\n' {
+                line = line.saturating_add(1);
+                column = 1;
+            } else {
+                column = column.saturating_add(1);
+            }
+        }
+        Position {
+            at: to,
+            line,
+            column,
+        }
+    }
+}

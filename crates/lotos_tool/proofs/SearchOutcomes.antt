@@ -1,0 +1,144 @@
+-- The question and the outcome of a search, from the request and the text.
+use Rattle.std.proofs.Common.{◌≡◌, ℕ, List, Option, false, true, inl, inr, refl, sym, subst}
+use Rattle.std.proofs.KnownBytes.{Keeps-refl}
+use Rattle.std.specs.declared.string.String.{String}
+use Rattle.std.specs.declared.alloc.Global.{Global}
+use Rattle.lotos_check.specs.Flat.{System}
+use Rattle.lotos_terms.specs.TableView.{TableView}
+use Rattle.lotos_pattern.specs.Patterns.{Pattern}
+use Rattle.lotos_pattern.specs.Spelling.{PatternOf}
+use Rattle.lotos_search.specs.Order.{Label}
+use Rattle.lotos_search.specs.SearchSteps.{IsBegun, SearchState}
+use Rattle.lotos_search.specs.Question.{IsQuestionOf, Question}
+use Rattle.lotos_tool.specs.OutcomeFlags.{is_input_fault}
+use Rattle.lotos_tool.specs.QuestionParts.{IsMarkOf, ReadsAccepted, words_of}
+use Rattle.lotos_tool.specs.RefusalCauses.{IsInputRefusal, IsSearchRefusal}
+use Rattle.lotos_tool.specs.Rejections.{IsGateRejection, IsMarkRejection, IsPatternRejection, IsRejectionBy, end_of}
+use Rattle.lotos_tool.specs.Rejections.IsMarkRejection.{mark_memory, no_mark}
+use Rattle.lotos_tool.specs.SearchOutcome.{AreSearchParts, IsQuestionOfText, SearchOutcome}
+use Rattle.lotos_tool.specs.SearchParts.{IsOutcomeFor, IsSearchFor, ListingOutcome}
+use Rattle.lotos_report.specs.declared.refusal.Refusal.{Refusal}
+use Rattle.lotos_report.specs.declared.refusal.Refusal.TheVariants as refusal
+use Rattle.lotos_tool.specs.declared.rejection.Rejection.{Rejection}
+use Rattle.lotos_tool.specs.declared.rejection.Rejection.TheVariants as rejection
+use Rattle.lotos_report.specs.declared.outcome.Ended.{Ended}
+use Rattle.lotos_report.specs.declared.outcome.Ended.TheVariants.{Complete, Refused, Stopped}
+use Rattle.lotos_report.specs.declared.outcome.Why.TheVariants as why
+use Rattle.lotos_command.specs.declared.command.SearchRequest.{SearchRequest}
+use Rattle.lotos_tool.proofs.Rejections.{gate_means, input_means, nothing_taken, pattern_means, taken_all}
+
+-- a search of the system that began with the request's depth and terms is one for the request
+pub asked_of : (request : SearchRequest) (system : System) (held : TableView) (p : Pattern) (mark : Option (List Label)) (search : SearchState) →
+    IsQuestionOf system search.question → IsBegun held p request.depth mark request.terms search → IsSearchFor request system p mark search
+asked_of request system held p mark search question begun = record {
+  question = question;
+  pattern = begun.pattern_is;
+  depth = begun.depth_is;
+  terms = begun.terms_is;
+  cursor = begun.cursor;
+  stage = begun.stage;
+}
+
+-- the question of a search for the request is that of the request and the text
+pub asks : (request : SearchRequest) (left left' : Option (List ℕ)) (system : System) (p : Pattern) (mark : Option (List Label)) (search : SearchState) →
+    AreSearchParts request left left' system p mark → IsSearchFor request system p mark search →
+    IsQuestionOfText request left left' (search.question, search.cursor)
+asks request left left' system p mark search parts begun = record {
+  system = system;
+  parts = subst (λ c. AreSearchParts request left left' system search.question.pattern c) (sym begun.cursor)
+      (subst (λ pattern. AreSearchParts request left left' system pattern mark) (sym begun.pattern) parts);
+  question = begun.question;
+  depth = begun.depth;
+  terms = begun.terms;
+}
+
+-- no outcome of a listing is an input fault
+pub no_input_fault : (request : SearchRequest) (got got' : Option (List ℕ)) (q : Question) (mark : Option (List Label)) (ended : Ended) →
+    ListingOutcome request q mark got got' ended → is_input_fault ended ≡ false
+no_input_fault request got got' q mark (Complete lines) h = refl
+no_input_fault request got got' q mark (Refused cause) h = absurd h
+no_input_fault request got got' q mark (Stopped last why) h = refl
+
+-- the outcome of the listing is that of the search
+pub answered : (request : SearchRequest) (left left' got got' : Option (List ℕ)) (q : Question) (mark : Option (List Label)) (ended : Ended) →
+    IsQuestionOfText request left left' (q, mark) → ListingOutcome request q mark got got' ended → SearchOutcome request left left' got got' ended
+answered request left left' got got' q mark (Complete lines) asks h = ((q, mark), asks, h)
+answered request left left' got got' q mark (Refused cause) asks h = absurd h
+answered request left left' got got' q mark (Stopped last why.Limit) asks h = ((q, mark), asks, h)
+answered request left left' got got' q mark (Stopped last (why.OverTerms prefix)) asks h = ((q, mark), asks, h)
+answered request left left' got got' q mark (Stopped last why.Memory) asks h = inr ((q, mark), asks, h)
+answered request left left' got got' q mark (Stopped last why.Write) asks h = ((q, mark), asks, h)
+
+-- the outcome for the system is that of the search
+pub told : (request : SearchRequest) (left left' got got' : Option (List ℕ)) (system : System) (p : Pattern) (mark : Option (List Label)) (ended : Ended) →
+    AreSearchParts request left left' system p mark → IsOutcomeFor request system p mark got got' ended → SearchOutcome request left left' got got' ended
+told request left left' got got' system p mark ended parts h = elim h [
+  | inl begun ↦ answered request left left' got got' begun.0.question begun.0.cursor ended
+      (asks request left left' system p mark begun.0 parts begun.1) begun.2
+  | inr stopped ↦ subst (SearchOutcome request left left' got got') (sym stopped.0)
+      (inl (record { unwritten = record { taken = taken_all left left' system parts.read.read; kept = stopped.1 }; no_line = refl }))
+]
+
+-- no outcome for the system is an input fault
+pub told_was_read : (request : SearchRequest) (got got' : Option (List ℕ)) (system : System) (p : Pattern) (mark : Option (List Label)) (ended : Ended) →
+    IsOutcomeFor request system p mark got got' ended → is_input_fault ended ≡ false
+told_was_read request got got' system p mark ended h = elim h [
+  | inl begun ↦ no_input_fault request got got' begun.0.question begun.0.cursor ended begun.2
+  | inr stopped ↦ subst (λ (e : Ended). is_input_fault e ≡ false) (sym stopped.0) refl
+]
+
+-- ---- parts that are rejected
+
+-- what was rejected was not written
+pub rejected : (request : SearchRequest) (left left' got : Option (List ℕ)) (u : Rejection) → IsRejectionBy (IsSearchRefusal request) left left' u →
+    SearchOutcome request left left' got got (end_of u)
+rejected request left left' got (rejection.Refused cause) h = (h, Keeps-refl got)
+rejected request left left' got rejection.Memory h = inl (record { unwritten = record { taken = h; kept = Keeps-refl got }; no_line = refl })
+
+module _ (request : SearchRequest) (left : Option (List ℕ)) where
+  -- words that spell no pattern
+  pub pattern_rejects : (u : Rejection) → IsPatternRejection request.strong (words_of request.words) u → IsRejectionBy (IsSearchRefusal request) left left u
+  pattern_rejects u h = pattern_means (IsSearchRefusal request) request.strong (words_of request.words) left u (λ fault is. is) h
+
+  -- a line that is not one of a listing
+  pub mark_rejects : (p : Pattern) (u : Rejection) → PatternOf request.strong (words_of request.words) p → IsMarkRejection request.strong request.after u →
+      IsRejectionBy (IsSearchRefusal request) left left u
+  mark_rejects p u spelled h = go request.after refl u h
+    where
+      go : (after : Option (String Global)) → request.after ≡ after → (u : Rejection) → IsMarkRejection request.strong after u →
+          IsRejectionBy (IsSearchRefusal request) left left u
+      go _ given _ (no_mark line none) = record {
+        kept = Keeps-refl left;
+        pattern = p;
+        spelled = spelled;
+        line = line;
+        given = given;
+        never = none;
+      }
+      go _ given _ (mark_memory line) = nothing_taken left
+
+module _ (request : SearchRequest) (left left' : Option (List ℕ)) where
+  -- a text that is refused
+  pub input_rejects : (u : Rejection) → IsRejectionBy IsInputRefusal left left' u → IsRejectionBy (IsSearchRefusal request) left left' u
+  input_rejects u h = input_means (IsSearchRefusal request) left left' u means h
+    where
+      means : (cause : Refusal) → IsInputRefusal left left' cause → IsSearchRefusal request left left' cause
+      means (refusal.Text fault place) h = h
+      means (refusal.Check fault line column) h = h
+      means (refusal.Pattern fault) h = absurd h
+      means (refusal.Mark fault) h = absurd h
+      means refusal.E47 h = h
+      means (refusal.E49 n) h = absurd h
+
+  -- a word that names an unknown gate, if the request refuses that
+  pub gate_rejects : (system : System) (p : Pattern) (mark : Option (List Label)) (u : Rejection) → ReadsAccepted left left' system →
+      PatternOf request.strong (words_of request.words) p → IsMarkOf request.strong request.after mark →
+      (request.known ≡ true) × IsGateRejection system.formals (words_of request.words) u → IsRejectionBy (IsSearchRefusal request) left left' u
+  gate_rejects system p mark u read spelled marked h =
+      gate_means (IsSearchRefusal request) (words_of request.words) left left' system u read
+      (λ n unknown. record {
+        known_gates = h.0;
+        mark = mark;
+        marked = marked;
+        refused = record { system = system; pattern = p; read = record { read = read; spelled = spelled }; unknown_gate = unknown };
+      }) h.1

@@ -1,0 +1,58 @@
+use Rattle.std.proofs.Common.{◌≡◌, ℕ, Bool, List, Option, inl, inr, rules, subst}
+use Rattle.lotos_tool.specs.CheckOutcome.{CheckOutcome}
+use Rattle.lotos_tool.specs.OutcomeFlags.{is_input_fault}
+use Rattle.lotos_command.specs.Request.{RequestOf, request_view}
+use Rattle.lotos_tool.specs.ProgramRuns.{CheckRan, CheckReported, EverRan, EverReported, SearchRan, SearchReported, check_status_of}
+use Rattle.lotos_report.specs.declared.outcome.Ended.{Ended}
+use Rattle.lotos_command.specs.declared.command.Request.{Request}
+use Rattle.lotos_command.specs.declared.command.Request.TheVariants as one
+use Rattle.lotos_command.specs.declared.command.DiagnoseRequest.{DiagnoseRequest}
+use Rattle.lotos_command.specs.declared.command.EverRequest.{EverRequest}
+use Rattle.lotos_command.specs.declared.command.SearchRequest.{SearchRequest}
+use Rattle.lotos_tool.proofs.UnreadWords.{answered}
+use Rattle.lotos_tool.proofs.program.run.Goals as goal
+
+module _ (words : List (List ℕ)) (left left' got got' : Option (List ℕ)) (broken : Bool) (status : ℕ) where
+  searched : (asked : Request) (request : SearchRequest) → SearchReported request left left' got got' broken status → asked ≡ one.Search request
+      → RequestOf words (request_view asked) → SearchRan words left left' got got' broken status
+  searched asked request reported is asks =
+      let Asks : Request → Type 0 = λ r. RequestOf words (request_view r) in
+      record { request = request; asked = subst Asks is asks; reported = reported }
+
+  inspected : (asked : Request) (ended : Ended) → CheckOutcome left left' got got' ended → broken ≡ is_input_fault ended → status ≡ check_status_of ended
+      → asked ≡ one.Check → RequestOf words (request_view asked) → CheckRan words left left' got got' broken status
+  inspected asked ended answers input status_is is asks =
+      let Asks : Request → Type 0 = λ r. RequestOf words (request_view r) in
+      record { asked = inl (subst Asks is asks); reported = record { ended = ended; answered = answers; input = input; status_is = status_is } }
+
+  diagnosed : (asked : Request) (request : DiagnoseRequest) → CheckReported left left' got got' broken status → asked ≡ one.Diagnose request
+      → RequestOf words (request_view asked) → CheckRan words left left' got got' broken status
+  diagnosed asked request reported is asks =
+      let Asks : Request → Type 0 = λ r. RequestOf words (request_view r) in
+      record { asked = inr (request, subst Asks is asks); reported = reported }
+
+  questioned : (asked : Request) (request : EverRequest) → EverReported request left left' got got' broken status → asked ≡ one.Ever request
+      → RequestOf words (request_view asked) → EverRan words left left' got got' broken status
+  questioned asked request reported is asks =
+      let Asks : Request → Type 0 = λ r. RequestOf words (request_view r) in
+      record { request = request; asked = subst Asks is asks; reported = reported }
+
+pub returns-in-Ok-Ever-clause-ran : goal.returns-in-Ok-Ever-clause-ran
+returns-in-Ok-Ever-clause-ran g c =
+    inr (inr (inl (questioned _ _ _ _ _ _ _ c.in-Ok-Ever.field-0 c.in-Ok-Ever.asked c.run_ever.ensures.reported (search rules) c.in-Ok-Ever.ensures.is)))
+
+pub returns-in-Ok-Check-clause-ran : goal.returns-in-Ok-Check-clause-ran
+returns-in-Ok-Check-clause-ran g c =
+    inr (inl (inspected _ _ _ _ _ _ _ _ c.check_text.result c.check_text.ensures.answers c.check_text.ensures.input c.report_check.ensures.status (search rules) c.in-Ok-Check.ensures.is))
+
+pub returns-in-Ok-Diagnose-clause-ran : goal.returns-in-Ok-Diagnose-clause-ran
+returns-in-Ok-Diagnose-clause-ran g c =
+    inr (inl (diagnosed _ _ _ _ _ _ _ c.in-Ok-Diagnose.field-0 c.in-Ok-Diagnose.asked c.diagnose.ensures.reported (search rules) c.in-Ok-Diagnose.ensures.is))
+
+pub returns-in-Ok-Search-clause-ran : goal.returns-in-Ok-Search-clause-ran
+returns-in-Ok-Search-clause-ran g c =
+    inl (searched _ _ _ _ _ _ _ c.in-Ok-Search.field-0 c.in-Ok-Search.asked c.run_search.ensures.reported (search rules) c.in-Ok-Search.ensures.is)
+
+pub returns-in-Err-clause-ran : goal.returns-in-Err-clause-ran
+returns-in-Err-clause-ran g c =
+    inr (inr (inr (answered _ c.in-Err.fault _ _ _ _ _ (search rules) c.in-Err.ensures.fault c.in-Err.ensures.taken c.end_without_command.ensures.answer)))

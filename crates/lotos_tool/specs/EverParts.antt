@@ -1,0 +1,67 @@
+-- What the parts of the command `ever` return.
+use Rattle.std.specs.Prelude.{◌≡◌, ℕ, List, Option, None, Some}
+use Rattle.std.specs.Io.KnownBytes.{Appends, Keeps}
+use Rattle.std.specs.declared.vec.Vec.{Vec}
+use Rattle.std.specs.declared.alloc.Global.{Global}
+use Rattle.lotos_check.specs.Flat.{System}
+use Rattle.lotos_pattern.specs.Patterns.{Pattern}
+use Rattle.lotos_search.specs.Order.{Label}
+use Rattle.lotos_ever.specs.MatchQuestions.{IsMatchQuestionOf, IsMatchOf, ReachesMoreThanFor, MatchQuestion, IsFirstMatchOf}
+use Rattle.lotos_ever.specs.declared.found.Halt.{Halt}
+use Rattle.lotos_ever.specs.declared.found.Halt.TheVariants as halt
+use Rattle.lotos_device.specs.ByteOutput.{AppendsBeginning}
+use Rattle.lotos_tool.specs.EverOutcome.{IsMatchWritten, IsMatchLineCut, IsNoMatch, IsTooManyStates, item_of}
+use Rattle.lotos_tool.specs.OutputLines.{line_of}
+use Rattle.lotos_tool.specs.QuestionParts.{ForQuestion}
+use Rattle.lotos_report.specs.declared.outcome.EverEnded.{EverEnded}
+use Rattle.lotos_report.specs.declared.outcome.EverEnded.TheVariants.{Matched, NoMatch, Refused, Stopped}
+use Rattle.lotos_report.specs.declared.outcome.EverWhy.TheVariants as why
+use Rattle.lotos_command.specs.declared.command.EverRequest.{EverRequest}
+
+-- the question is about this system and this pattern
+pub record IsEverQuestionFor (system : System) (p : Pattern) (q : MatchQuestion) : Type 0 where
+  pub question : IsMatchQuestionOf system q
+  pub pattern : q.pattern ≡ p
+
+-- the line of the first match, or `None` if the question has no match
+abbrev pub IsLineOf : EverRequest → MatchQuestion → Option (Vec ℕ Global) → Type 0
+IsLineOf request q None = (word : List Label) → IsMatchOf q word → ⊥
+IsLineOf request q (Some line) =
+    (word : List Label) × IsFirstMatchOf q word × (line.items ≡ line_of request.explain (item_of q word))
+
+-- the line of the first match of the pattern in the system, or `None` if there is no match
+abbrev pub HasLine : EverRequest → System → Pattern → Option (Vec ℕ Global) → Type 0
+HasLine request system p line = ForQuestion (IsEverQuestionFor system p) (λ q. IsLineOf request q line)
+
+-- why there is no line: more product states are reached than the request allows, or memory ran out
+abbrev pub HasNoLine : EverRequest → System → Pattern → Halt → Type 0
+HasNoLine request system p halt.TooManyStates =
+    ForQuestion (IsEverQuestionFor system p) (λ q. ReachesMoreThanFor q request.states)
+HasNoLine request system p halt.Memory = Unit {0}
+
+-- the line was written, or the output failed after a prefix of it
+abbrev pub IsWritten : List ℕ → Option (List ℕ) → Option (List ℕ) → EverEnded → Type 0
+IsWritten line got got' Matched = Appends got got' line
+IsWritten line got got' (Stopped why.Write) = AppendsBeginning got got' line
+IsWritten line got got' _ = ⊥
+
+-- there is no match and the output was flushed, or the flush failed; nothing was written
+abbrev pub IsEndWithoutMatch : Option (List ℕ) → Option (List ℕ) → EverEnded → Type 0
+IsEndWithoutMatch got got' NoMatch = Keeps got got'
+IsEndWithoutMatch got got' (Stopped why.Flush) = Keeps got got'
+IsEndWithoutMatch got got' _ = ⊥
+
+-- what each outcome of a search for a match of the pattern in the system means
+abbrev pub IsOutcomeFor : EverRequest → System → Pattern → Option (List ℕ) → Option (List ℕ) → EverEnded → Type 0
+IsOutcomeFor request system p got got' Matched =
+    ForQuestion (IsEverQuestionFor system p) (λ q. IsMatchWritten request q got got')
+IsOutcomeFor request system p got got' NoMatch =
+    ForQuestion (IsEverQuestionFor system p) (λ q. IsNoMatch request q got got')
+IsOutcomeFor request system p got got' (Refused cause) = ⊥
+IsOutcomeFor request system p got got' (Stopped why.TooManyStates) =
+    ForQuestion (IsEverQuestionFor system p) (λ q. IsTooManyStates request q got got')
+IsOutcomeFor request system p got got' (Stopped why.Memory) = Keeps got got'
+IsOutcomeFor request system p got got' (Stopped why.Write) =
+    ForQuestion (IsEverQuestionFor system p) (λ q. IsMatchLineCut request q got got')
+IsOutcomeFor request system p got got' (Stopped why.Flush) =
+    ForQuestion (IsEverQuestionFor system p) (λ q. IsNoMatch request q got got')

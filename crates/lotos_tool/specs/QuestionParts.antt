@@ -1,0 +1,38 @@
+-- What a command reads of its words and its text, and the question that they make.
+use Rattle.std.specs.Prelude.{◌≡◌, ℕ, Bool, List, map, Option, None, Some, string_bytes}
+use Rattle.std.specs.declared.string.String.{String}
+use Rattle.std.specs.declared.vec.Vec.{Vec}
+use Rattle.std.specs.declared.alloc.Global.{Global}
+use Rattle.lotos_text.specs.Limits.{max_text_length}
+use Rattle.lotos_check.specs.AcceptedText.{Accepted}
+use Rattle.lotos_check.specs.Flat.{System}
+use Rattle.lotos_pattern.specs.Patterns.{Pattern}
+use Rattle.lotos_pattern.specs.Spelling.{PatternOf}
+use Rattle.lotos_search.specs.Order.{Label}
+use Rattle.lotos_search.specs.Marks.{MarkOf}
+use Rattle.lotos_device.specs.TextInput.{ReadsAll}
+
+-- the words of a pattern
+abbrev pub words_of : Vec (String Global) Global → List (List ℕ)
+words_of words = map string_bytes words.items
+
+-- the mark of a line, if one is given
+abbrev pub IsMarkOf : (strong : Bool) → Option (String Global) → Option (List Label) → Type 0
+IsMarkOf strong None mark = mark ≡ None
+IsMarkOf strong (Some line) mark = (s : List Label) × (mark ≡ Some s) × MarkOf strong (string_bytes line) s
+
+-- all that the reader had left was read, and is the text of an accepted specification
+pub record ReadsAccepted (left left' : Option (List ℕ)) (system : System) : Type 0 where
+  pub text : List ℕ
+  pub read : ReadsAll left left' max_text_length text
+  pub accepted : Accepted text system
+
+-- all that the reader had left was read, and is accepted as this system, and the words spell this pattern
+pub record ReadsQuestion (strong : Bool) (words : List (List ℕ)) (left left' : Option (List ℕ)) (system : System)
+    (p : Pattern) : Type 0 where
+  pub read : ReadsAccepted left left' system
+  pub spelled : PatternOf strong words p
+
+-- something is asked, and `Said` holds of it
+abbrev pub ForQuestion : {Q : Type 0} → (Asked Said : Q → Type 0) → Type 0
+ForQuestion {Q = Q} Asked Said = (q : Q) × Asked q × Said q

@@ -1,0 +1,95 @@
+-- What a rejection means, by the part that is rejected, and how the commands end with it.
+use Rattle.std.specs.Prelude.{ℕ, ◌+◌, Bool, true, false, List, Option, None, Some, Result, Err, if◌then◌else◌, string_bytes}
+use Rattle.std.specs.Io.KnownBytes.{Keeps}
+use Rattle.std.specs.declared.string.String.{String}
+use Rattle.std.specs.declared.alloc.Global.{Global}
+use Rattle.lotos_text.specs.Limits.{max_text_length}
+use Rattle.lotos_check.specs.NameLists.{Name}
+use Rattle.lotos_pattern.specs.declared.fault.PatternFault.{PatternFault}
+use Rattle.lotos_search.specs.Marks.{IsMarkFault}
+use Rattle.lotos_search.specs.declared.fault.MarkFault.{MarkFault}
+use Rattle.lotos_search.specs.declared.fault.MarkFault.TheVariants as mark_fault
+use Rattle.lotos_device.specs.TextInput.{TakesAtMost}
+use Rattle.lotos_tool.specs.RefusalCauses.{IsCheckFault, IsPatternRefused, IsTextFault, is_memory}
+use Rattle.lotos_tool.specs.UnknownGates.{IsFirstUnknownGate}
+use Rattle.lotos_report.specs.declared.outcome.Ended.{Ended}
+use Rattle.lotos_report.specs.declared.outcome.Ended.TheVariants as ended
+use Rattle.lotos_report.specs.declared.outcome.Why.TheVariants as why
+use Rattle.lotos_report.specs.declared.outcome.EverEnded.{EverEnded}
+use Rattle.lotos_report.specs.declared.outcome.EverEnded.TheVariants as ever
+use Rattle.lotos_report.specs.declared.outcome.EverWhy.TheVariants as ever_why
+use Rattle.lotos_report.specs.declared.refusal.Refusal.{Refusal}
+use Rattle.lotos_report.specs.declared.refusal.Refusal.TheVariants as refusal
+use Rattle.lotos_tool.specs.declared.rejection.Rejection.{Rejection}
+use Rattle.lotos_tool.specs.declared.rejection.Rejection.TheVariants.{Refused, Memory}
+
+-- what a rejection of a text that is not too long means
+abbrev pub IsRejection : List ℕ → Rejection → Type 0
+IsRejection text (Refused (refusal.Text fault place)) = IsTextFault text fault place
+IsRejection text (Refused (refusal.Check fault line column)) = IsCheckFault text fault line column
+IsRejection text (Refused _) = ⊥
+IsRejection text Memory = Unit {0}
+
+-- ---- the parts of a question
+
+-- what a rejection means, if `Means` is what a refusal means: that, or memory ran out, and at most one byte more than a
+-- text may have was taken from the reader
+abbrev pub IsRejectionBy : (Means : Option (List ℕ) → Option (List ℕ) → Refusal → Type 0) → (left left' : Option (List ℕ)) →
+    Rejection → Type 0
+IsRejectionBy Means left left' (Refused cause) = Means left left' cause
+IsRejectionBy Means left left' Memory = TakesAtMost left left' (max_text_length + 1)
+
+-- the words spell no pattern, or memory ran out
+pub data IsPatternRejection (strong : Bool) (words : List (List ℕ)) : Rejection → Type 0 where
+  no_pattern : (fault : PatternFault) → ((left : Option (List ℕ)) → IsPatternRefused strong words left left fault) →
+      IsPatternRejection strong words (Refused (refusal.Pattern fault))
+  pattern_memory : IsPatternRejection strong words Memory
+
+-- a line is given that is none of a listing, or memory ran out
+pub data IsMarkRejection (strong : Bool) : Option (String Global) → Rejection → Type 0 where
+  no_mark : (line : String Global) → IsMarkFault strong (string_bytes line) mark_fault.E46 →
+      IsMarkRejection strong (Some line) (Refused (refusal.Mark mark_fault.E46))
+  mark_memory : (line : String Global) → IsMarkRejection strong (Some line) Memory
+
+-- a word names a gate other than these, or memory ran out
+pub data IsGateRejection (gates : List Name) (words : List (List ℕ)) : Rejection → Type 0 where
+  no_gate : (n : ℕ) → IsFirstUnknownGate gates words n → IsGateRejection gates words (Refused (refusal.E49 n))
+  gate_memory : IsGateRejection gates words Memory
+
+-- the rejection for a fault of the words of a pattern
+abbrev pub pattern_rejection : PatternFault → Rejection
+pattern_rejection fault = if is_memory fault then Memory else Refused (refusal.Pattern fault)
+
+-- the rejection for a fault of the line of a mark
+abbrev pub mark_rejection : MarkFault → Rejection
+mark_rejection mark_fault.E46 = Refused (refusal.Mark mark_fault.E46)
+mark_rejection (mark_fault.E99 e) = Memory
+
+-- ---- how the commands end
+
+-- memory ran out: nothing was written, and at most one byte more than a text may have was taken from the reader
+pub record IsOutOfMemory (left left' got got' : Option (List ℕ)) : Type 0 where
+  pub taken : TakesAtMost left left' (max_text_length + 1)
+  pub kept : Keeps got got'
+
+-- how a search or a check ends whose parts are rejected
+abbrev pub end_of : Rejection → Ended
+end_of (Refused cause) = ended.Refused cause
+end_of Memory = ended.Stopped None why.Memory
+
+-- how a search for a match ends whose parts are rejected
+abbrev pub ever_end_of : Rejection → EverEnded
+ever_end_of (Refused cause) = ever.Refused cause
+ever_end_of Memory = ever.Stopped ever_why.Memory
+
+-- ---- the reader
+
+-- the refusal is that the reader failed
+abbrev pub is_unreadable : Refusal → Bool
+is_unreadable refusal.E47 = true
+is_unreadable _ = false
+
+-- the result is that the reader failed
+abbrev pub is_input_failure : {T : Type 0} → Result T Rejection → Bool
+is_input_failure (Err (Refused cause)) = is_unreadable cause
+is_input_failure _ = false

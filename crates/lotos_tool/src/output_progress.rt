@@ -1,0 +1,20 @@
+//! Observers of a command that searches.
+
+use lotos_check::AcceptedText;
+use lotos_search::{NoProgress, Progress};
+
+/// An observer of a command that searches. It is told when a specification is accepted, what the search visits, and
+/// when a line is written.
+pub trait OutputProgress: Progress {
+    /// Is told that the text is accepted, and what was found of it.
+    fn accepted(&mut self, text: &[u8], found: &AcceptedText);
+
+    /// Is told that a line of the output is written next.
+    fn before_line(&mut self);
+}
+
+impl OutputProgress for NoProgress {
+    fn accepted(&mut self, _text: &[u8], _found: &AcceptedText) {}
+
+    fn before_line(&mut self) {}
+}

@@ -1,0 +1,76 @@
+//! The parts of a question that the words of a command give: the pattern, the mark, and that its gates are known.
+ghost use Rattle.std.specs.Prelude.{◌≡◌, IfErr, IfOk, OnOk, false, map, string_bytes, true};
+ghost use Rattle.lotos_check.specs.CheckedView.{system_of};
+ghost use Rattle.lotos_pattern.specs.Spelling.{PatternOf, texts_of};
+ghost use Rattle.lotos_tool.specs.QuestionParts.{IsMarkOf, words_of};
+ghost use Rattle.lotos_tool.specs.Rejections.{IsGateRejection, IsMarkRejection, IsPatternRejection, is_input_failure};
+ghost use Rattle.lotos_tool.specs.UnknownGates.{HasNoUnknownGate};
+
+use crate::rejection::Rejection;
+use crate::unknown_gates::first_unknown_gate_of;
+use lotos_check::Checked;
+use lotos_pattern::Pattern;
+use lotos_report::Refusal;
+use lotos_search::Mark;
+use std::alloc::{AllocError, Global};
+
+/// The pattern that the words spell, which observes internal steps if `strong` is set. Words that spell none are
+/// refused with the fault of [`Pattern::read`].
+pub fn read_pattern(alloc: Global, words: &Vec<String>, strong: bool) -> Result<Pattern, Rejection>
+    ensures pattern { IfOk result (PatternOf strong (words_of words.now)) }
+    ensures rejected { IfErr result (IsPatternRejection strong (words_of words.now)) }
+    ensures unread { is_input_failure result ≡ false }
+{
+    let texts = borrow_texts(alloc, words.as_slice())?;
+    Ok(Pattern::read(alloc, texts.as_slice(), strong)?)
+}
+
+/// The mark of the line, if one is given. A line that is not one of a listing is refused with E46.
+pub fn read_mark(
+    alloc: Global,
+    line: &Option<String>,
+    strong: bool,
+) -> Result<Option<Mark>, Rejection>
+    ensures mark { IfOk result (IsMarkOf strong line.now) }
+    ensures rejected { IfErr result (IsMarkRejection strong line.now) }
+    ensures unread { is_input_failure result ≡ false }
+{
+    match line {
+        Some(line) => Ok(Some(Mark::read(alloc, line.as_str(), strong)?)),
+        None => Ok(None),
+    }
+}
+
+/// Refuses words of which one names a gate not in the specification's own list, with E49 and the number of the first, if
+/// `refuses` is set.
+pub fn refuse_unknown_gates(
+    alloc: Global,
+    words: &Vec<String>,
+    refuses: bool,
+    system: &Checked,
+) -> Result<(), Rejection>
+    ensures known { OnOk result (refuses ≡ true →
+        HasNoUnknownGate (system_of system.now).formals (words_of words.now)) }
+    ensures rejected { IfErr result (λ rejection. (refuses ≡ true) ×
+        IsGateRejection (system_of system.now).formals (words_of words.now) rejection) }
+    ensures unread { is_input_failure result ≡ false }
+{
+    if !refuses {
+        return Ok(());
+    }
+    match first_unknown_gate_of(alloc, words, system)? {
+        Some(number) => Err(Rejection::Refused(Refusal::E49(number))),
+        None => Ok(()),
+    }
+}
+
+/// The words as borrowed texts.
+pub fn borrow_texts<'a>(alloc: Global, words: &'a [String]) -> Result<Vec<&'a str>, AllocError>
+    ensures { IfOk result (λ v. texts_of v.items ≡ map string_bytes words.now) }
+{
+    let mut texts = Vec::new(alloc);
+    for word in words {
+        texts.push(word.as_str())?;
+    }
+    Ok(texts)
+}

@@ -1,0 +1,84 @@
+//! Why a command gets no question: one of its parts is refused, or memory runs out.
+ghost use Rattle.std.specs.Prelude.{◌≡◌};
+ghost use Rattle.lotos_tool.specs.RefusalCauses.{is_memory};
+ghost use Rattle.lotos_tool.specs.Rejections.{end_of, ever_end_of};
+
+use lotos_pattern::PatternFault;
+use lotos_report::{Ended, EverEnded, EverWhy, Refusal, Why};
+use lotos_search::MarkFault;
+use std::alloc::AllocError;
+
+/// Why the words and the text of a command make no question: one of them is refused, or memory ran out.
+#[derive(Debug, Drop)]
+pub enum Rejection {
+    Refused(Refusal),
+    Memory,
+}
+
+impl From<AllocError> for Rejection {
+    ghost use Rattle.std.specs.Prelude.{◌≡◌};
+    ghost use Rattle.lotos_tool.specs.declared.rejection.Rejection.TheVariants.{Memory};
+
+    ghost from_gives = { λ _ rejection. rejection ≡ Memory };
+
+    fn from(_error: AllocError) -> Rejection {
+        Rejection::Memory
+    }
+}
+
+impl From<PatternFault> for Rejection {
+    ghost use Rattle.std.specs.Prelude.{◌≡◌};
+    ghost use Rattle.lotos_tool.specs.Rejections.{pattern_rejection};
+
+    ghost from_gives = { λ fault rejection. rejection ≡ pattern_rejection fault };
+
+    fn from(fault: PatternFault) -> Rejection {
+        if is_memory(&fault) {
+            return Rejection::Memory;
+        }
+        Rejection::Refused(Refusal::Pattern(fault))
+    }
+}
+
+impl From<MarkFault> for Rejection {
+    ghost use Rattle.std.specs.Prelude.{◌≡◌};
+    ghost use Rattle.lotos_tool.specs.Rejections.{mark_rejection};
+
+    ghost from_gives = { λ fault rejection. rejection ≡ mark_rejection fault };
+
+    fn from(fault: MarkFault) -> Rejection {
+        match fault {
+            MarkFault::E46 => Rejection::Refused(Refusal::Mark(fault)),
+            MarkFault::E99(_) => Rejection::Memory,
+        }
+    }
+}
+
+fn is_memory(fault: &PatternFault) -> bool
+    ensures { result ≡ is_memory fault.now }
+{
+    matches!(fault, PatternFault::E99(_))
+}
+
+/// How a search or a check ends whose parts are rejected.
+pub fn end_of(rejection: Rejection) -> Ended
+    ensures { result ≡ end_of rejection }
+{
+    match rejection {
+        Rejection::Refused(refusal) => Ended::Refused(refusal),
+        Rejection::Memory => Ended::Stopped {
+            last: None,
+            why: Why::Memory,
+        },
+    }
+}
+
+/// How a search for a match ends whose parts are rejected.
+pub fn ever_end_of(rejection: Rejection) -> EverEnded
+    ensures { result ≡ ever_end_of rejection }
+{
+    match rejection {
+        Rejection::Refused(refusal) => EverEnded::Refused(refusal),
+        Rejection::Memory => EverEnded::Stopped(EverWhy::Memory),
+    }
+}

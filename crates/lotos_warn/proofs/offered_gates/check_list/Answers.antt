@@ -1,5 +1,0 @@
-use Rattle.std.proofs.lemmas.Result.{on_ok_weaker}
-use Rattle.lotos_warn.proofs.offered_gates.check_list.Goals as goal
-
-pub returns-in-Gates : goal.returns-in-Gates
-returns-in-Gates c = rw c.in-Gates.is (rw c.as_slice.ensures.value at (on_ok_weaker c.check_gates.result (λ h. h) c.check_gates.ensures))
