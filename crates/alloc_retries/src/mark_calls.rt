@@ -2,7 +2,7 @@
 
 use crate::lines::Line;
 use crate::retry_heap::{Heap, Stop};
-use lotos_search::{Mark, MarkFault};
+use lotos_listing::{Mark, MarkFault};
 use std::fmt::Write;
 
 /// A line, and whether internal steps are observed.

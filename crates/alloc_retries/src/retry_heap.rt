@@ -1,8 +1,8 @@
 //! The heap with its count of failed calls, and why the program stops.
 
 use lotos_check::AcceptFault;
+use lotos_listing::MarkFault;
 use lotos_pattern::PatternFault;
-use lotos_search::MarkFault;
 use std::alloc::{AllocError, AllocFailed, Global};
 use std::{fmt, io};
 

@@ -1,12 +1,13 @@
 //! Listings. A search that runs out of memory is begun again after its last item.
-ghost use Rattle.lotos_search.specs.Question.{HaveTexts};
+ghost use Rattle.lotos_listing.specs.Question.{HaveTexts};
 
 use crate::front_end::table_of;
 use crate::lines::{Line, put, put_blank};
 use crate::mark_calls::mark_of;
 use crate::pattern_calls::pattern_of;
 use crate::retry_heap::{Heap, Stop};
-use lotos_search::{Found, Halt, Search};
+use lotos_listing::{Found, Halt};
+use lotos_search::Search;
 use lotos_terms::Label;
 use std::alloc::{AllocError, Global};
 

@@ -2,8 +2,8 @@
 
 use crate::messages::PositionText;
 use lotos_check::CheckFault;
+use lotos_listing::MarkFault;
 use lotos_pattern::PatternFault;
-use lotos_search::MarkFault;
 use lotos_text::TextFault;
 use thiserror::Error;
 

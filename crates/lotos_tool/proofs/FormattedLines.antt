@@ -6,8 +6,8 @@ use Rattle.lotos_check.specs.NameLists.{Name}
 use Rattle.lotos_store.specs.declared.label.Label.{Label as TermLabel}
 use Rattle.lotos_terms.specs.TableView.{IsPrintedAs}
 use Rattle.lotos_terms.proofs.PrintedLabels.{one_text}
-use Rattle.lotos_search.specs.Order.{Label}
-use Rattle.lotos_search.specs.Question.{ArePrinted, none_printed, more_printed}
+use Rattle.lotos_listing.specs.Order.{Label}
+use Rattle.lotos_listing.specs.Question.{ArePrinted, none_printed, more_printed}
 use Rattle.lotos_tool.specs.OutputLines.{sequence_text}
 
 -- the texts of a list of labels: that of the first label, and those of the others

@@ -12,9 +12,9 @@ use Rattle.lotos_check.specs.NameLists.{Name}
 use Rattle.lotos_pattern.specs.PatternFaults.{IsCause, SpellsNone}
 use Rattle.lotos_pattern.specs.declared.fault.PatternFault.{PatternFault}
 use Rattle.lotos_pattern.specs.declared.fault.PatternFault.TheVariants as pattern
-use Rattle.lotos_search.specs.Marks.{IsMarkFault}
-use Rattle.lotos_search.specs.declared.fault.MarkFault.{MarkFault}
-use Rattle.lotos_search.specs.declared.fault.MarkFault.TheVariants as mark_fault
+use Rattle.lotos_listing.specs.Marks.{IsMarkFault}
+use Rattle.lotos_listing.specs.declared.fault.MarkFault.{MarkFault}
+use Rattle.lotos_listing.specs.declared.fault.MarkFault.TheVariants as mark_fault
 use Rattle.lotos_device.specs.TextInput.{ReadsAll, TakesAtMost}
 use Rattle.lotos_tool.specs.QuestionParts.{ReadsAccepted}
 use Rattle.lotos_tool.specs.RefusalCauses.{IsInputRefusal, IsPatternRefused, IsRefusal, IsTextFault, IsTextRefusal}

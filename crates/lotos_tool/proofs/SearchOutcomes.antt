@@ -7,9 +7,9 @@ use Rattle.lotos_check.specs.Flat.{System}
 use Rattle.lotos_terms.specs.TableView.{TableView}
 use Rattle.lotos_pattern.specs.Patterns.{Pattern}
 use Rattle.lotos_pattern.specs.Spelling.{PatternOf}
-use Rattle.lotos_search.specs.Order.{Label}
+use Rattle.lotos_listing.specs.Order.{Label}
 use Rattle.lotos_search.specs.SearchSteps.{IsBegun, SearchState}
-use Rattle.lotos_search.specs.Question.{IsQuestionOf, Question}
+use Rattle.lotos_listing.specs.Question.{IsQuestionOf, Question}
 use Rattle.lotos_tool.specs.OutcomeFlags.{is_input_fault}
 use Rattle.lotos_tool.specs.QuestionParts.{IsMarkOf, ReadsAccepted, words_of}
 use Rattle.lotos_tool.specs.RefusalCauses.{IsInputRefusal, IsSearchRefusal}

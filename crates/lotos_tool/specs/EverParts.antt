@@ -5,7 +5,7 @@ use Rattle.std.specs.declared.vec.Vec.{Vec}
 use Rattle.std.specs.declared.alloc.Global.{Global}
 use Rattle.lotos_check.specs.Flat.{System}
 use Rattle.lotos_pattern.specs.Patterns.{Pattern}
-use Rattle.lotos_search.specs.Order.{Label}
+use Rattle.lotos_listing.specs.Order.{Label}
 use Rattle.lotos_ever.specs.MatchQuestions.{IsMatchQuestionOf, IsMatchOf, ReachesMoreThanFor, MatchQuestion, IsFirstMatchOf}
 use Rattle.lotos_ever.specs.declared.found.Halt.{Halt}
 use Rattle.lotos_ever.specs.declared.found.Halt.TheVariants as halt

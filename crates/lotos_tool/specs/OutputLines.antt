@@ -6,8 +6,8 @@ use Rattle.lotos_text.specs.declared.ast.Functionality.TheVariants.{Exit, NoExit
 use Rattle.lotos_check.specs.Flat.{FlatProcess, System}
 use Rattle.lotos_check.specs.NameLists.{Name}
 use Rattle.lotos_store.specs.declared.label.Label.{Label as TermLabel}
-use Rattle.lotos_search.specs.Order.{Label}
-use Rattle.lotos_search.specs.Question.{ArePrinted}
+use Rattle.lotos_listing.specs.Order.{Label}
+use Rattle.lotos_listing.specs.Question.{ArePrinted}
 
 -- an item of a listing: a sequence, and its least run; or what is observed of a match, and its run
 pub record Item : Type 0 where

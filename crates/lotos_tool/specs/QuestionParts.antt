@@ -8,8 +8,8 @@ use Rattle.lotos_check.specs.AcceptedText.{Accepted}
 use Rattle.lotos_check.specs.Flat.{System}
 use Rattle.lotos_pattern.specs.Patterns.{Pattern}
 use Rattle.lotos_pattern.specs.Spelling.{PatternOf}
-use Rattle.lotos_search.specs.Order.{Label}
-use Rattle.lotos_search.specs.Marks.{MarkOf}
+use Rattle.lotos_listing.specs.Order.{Label}
+use Rattle.lotos_listing.specs.Marks.{MarkOf}
 use Rattle.lotos_device.specs.TextInput.{ReadsAll}
 
 -- the words of a pattern

@@ -6,9 +6,9 @@ use Rattle.std.specs.declared.alloc.Global.{Global}
 use Rattle.lotos_text.specs.Limits.{max_text_length}
 use Rattle.lotos_check.specs.NameLists.{Name}
 use Rattle.lotos_pattern.specs.declared.fault.PatternFault.{PatternFault}
-use Rattle.lotos_search.specs.Marks.{IsMarkFault}
-use Rattle.lotos_search.specs.declared.fault.MarkFault.{MarkFault}
-use Rattle.lotos_search.specs.declared.fault.MarkFault.TheVariants as mark_fault
+use Rattle.lotos_listing.specs.Marks.{IsMarkFault}
+use Rattle.lotos_listing.specs.declared.fault.MarkFault.{MarkFault}
+use Rattle.lotos_listing.specs.declared.fault.MarkFault.TheVariants as mark_fault
 use Rattle.lotos_device.specs.TextInput.{TakesAtMost}
 use Rattle.lotos_tool.specs.RefusalCauses.{IsCheckFault, IsPatternRefused, IsTextFault, is_memory}
 use Rattle.lotos_tool.specs.UnknownGates.{IsFirstUnknownGate}

@@ -11,8 +11,8 @@ use crate::rejection::end_of;
 use crate::specification_input::read_specification;
 use lotos_check::Checked;
 use lotos_device::{DeviceFailed, Sink, Source, write_bytes};
+use lotos_listing::NoProgress;
 use lotos_report::{Ended, Why};
-use lotos_search::NoProgress;
 use std::alloc::Global;
 
 /// Reads a specification, checks it, and writes a line for each of its processes: its name, the number of its formal

@@ -22,10 +22,10 @@ use lotos_command::EverRequest;
 use lotos_device::{DeviceFailed, Sink, Source};
 use lotos_ever::laws::table_has_match_question;
 use lotos_ever::{Found, Halt, find_shortest_match_with_progress};
+use lotos_listing::Progress;
 use lotos_normal::NormalTable;
 use lotos_pattern::Pattern;
 use lotos_report::{EverEnded, EverWhy};
-use lotos_search::Progress;
 use std::alloc::{AllocError, Global};
 
 /// Reads a specification and searches it for a derivation, of any number of steps, that matches the request's pattern.

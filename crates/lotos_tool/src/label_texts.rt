@@ -2,7 +2,7 @@
 ghost use Rattle.std.specs.Prelude.{List};
 ghost use Rattle.lotos_check.specs.NameLists.{Name};
 ghost use Rattle.lotos_terms.specs.TableView.{IsPrintedAs};
-ghost use Rattle.lotos_search.specs.Order.{Label as Text};
+ghost use Rattle.lotos_listing.specs.Order.{Label as Text};
 
 use lotos_normal::NormalTable;
 use lotos_search::Search;

@@ -33,8 +33,8 @@ pub use lotos_command::{
     CommandFault, DiagnoseRequest, EverRequest, Request, SearchRequest, request,
 };
 pub use lotos_device::{DeviceFailed, FromRead, FromWrite, Sink, Source};
+pub use lotos_listing::{NoProgress, Progress};
 pub use lotos_report::{Ended, EverEnded, EverWhy, Messages, Refusal, Why};
-pub use lotos_search::{NoProgress, Progress};
 pub use output_progress::OutputProgress;
 pub use program::{answer_fault, report_check, report_ever, report_search, run};
 pub use search_command::list;

@@ -1,8 +1,8 @@
 //! The output of a listing, item by item as the search returns them.
 ghost use Rattle.std.specs.Prelude.{◌≡◌, ◌⊎◌, ◌≤◌, ℕ, List, IfErr, IfOk, IfSome, IsErrOf, OnOk, Option, false, string_bytes};
 ghost use Rattle.std.specs.Io.KnownBytes.{Appends, Keeps};
-ghost use Rattle.lotos_search.specs.Order.{Label as Text};
-ghost use Rattle.lotos_search.specs.Question.{ArePrinted};
+ghost use Rattle.lotos_listing.specs.Order.{Label as Text};
+ghost use Rattle.lotos_listing.specs.Question.{ArePrinted};
 ghost use Rattle.lotos_search.specs.SearchSteps.{running};
 ghost use Rattle.lotos_tool.specs.OutcomeFlags.{is_output_fault};
 ghost use Rattle.lotos_tool.specs.OutputLines.{Item, IsItemOf, line_of, sequence_text};
@@ -15,9 +15,10 @@ use crate::output_lines::{format_line, format_sequence};
 use crate::output_progress::OutputProgress;
 use lotos_command::SearchRequest;
 use lotos_device::{DeviceFailed, Sink, write_bytes};
+use lotos_listing::laws::{items_decrease_remaining, strict_order};
+use lotos_listing::{Found, Halt};
 use lotos_report::{Ended, Why};
-use lotos_search::laws::{items_decrease_remaining, strict_order};
-use lotos_search::{Found, Halt, Search};
+use lotos_search::Search;
 use lotos_terms::Label;
 use std::alloc::{AllocError, Global};
 

@@ -1,8 +1,8 @@
 //! Sequences and processes as text.
 ghost use Rattle.std.specs.Prelude.{◌≡◌, ◌∷◌, [], ◌++◌, IfOk, List, OnOk, flat_map, map, string_bytes, true};
 ghost use Rattle.lotos_check.specs.CheckedView.{process_of};
-ghost use Rattle.lotos_search.specs.Order.{Label as Text};
-ghost use Rattle.lotos_search.specs.Question.{ArePrinted};
+ghost use Rattle.lotos_listing.specs.Order.{Label as Text};
+ghost use Rattle.lotos_listing.specs.Question.{ArePrinted};
 ghost use Rattle.lotos_tool.specs.OutputLines.{run_text, functionality_text, process_line, sequence_text};
 
 use crate::label_texts::LabelTexts;

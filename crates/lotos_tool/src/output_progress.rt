@@ -1,7 +1,7 @@
 //! Observers of a command that searches.
 
 use lotos_check::AcceptedText;
-use lotos_search::{NoProgress, Progress};
+use lotos_listing::{NoProgress, Progress};
 
 /// An observer of a command that searches. It is told when a specification is accepted, what the search visits, and
 /// when a line is written.

@@ -9,9 +9,9 @@ ghost use Rattle.lotos_tool.specs.UnknownGates.{HasNoUnknownGate};
 use crate::rejection::Rejection;
 use crate::unknown_gates::first_unknown_gate_of;
 use lotos_check::Checked;
+use lotos_listing::Mark;
 use lotos_pattern::Pattern;
 use lotos_report::Refusal;
-use lotos_search::Mark;
 use std::alloc::{AllocError, Global};
 
 /// The pattern that the words spell, which observes internal steps if `strong` is set. Words that spell none are

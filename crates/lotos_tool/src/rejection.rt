@@ -3,9 +3,9 @@ ghost use Rattle.std.specs.Prelude.{◌≡◌};
 ghost use Rattle.lotos_tool.specs.RefusalCauses.{is_memory};
 ghost use Rattle.lotos_tool.specs.Rejections.{end_of, ever_end_of};
 
+use lotos_listing::MarkFault;
 use lotos_pattern::PatternFault;
 use lotos_report::{Ended, EverEnded, EverWhy, Refusal, Why};
-use lotos_search::MarkFault;
 use std::alloc::AllocError;
 
 /// Why the words and the text of a command make no question: one of them is refused, or memory ran out.

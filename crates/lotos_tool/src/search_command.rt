@@ -19,10 +19,11 @@ use crate::specification_input::read_specification;
 use lotos_check::Checked;
 use lotos_command::SearchRequest;
 use lotos_device::{Sink, Source};
+use lotos_listing::Mark;
 use lotos_pattern::Pattern;
 use lotos_report::{Ended, Why};
+use lotos_search::Search;
 use lotos_search::laws::begun_search_has_question;
-use lotos_search::{Mark, Search};
 use lotos_terms::Table;
 use std::alloc::{AllocError, Global};
 

@@ -3,10 +3,10 @@
 use crate::output_progress::OutputProgress;
 use crate::unknown_names::unknown_names;
 use lotos_check::AcceptedText;
+use lotos_listing::Progress;
 use lotos_report::{
     Messages, NameHint, NamePlaces, ProgressReport, Visited, first_name_hint, warn_of_names,
 };
-use lotos_search::Progress;
 use std::alloc::Global;
 use std::io::Write;
 

@@ -1,6 +1,7 @@
 //! Calls after the end and after a halt, and the order of sequences.
 use super::listing_run::{Question, assert_text, begin};
-use lotos_search::{Halt, Search, compare};
+use lotos_listing::{Halt, compare};
+use lotos_search::Search;
 use std::alloc::{AllocError, Global};
 use std::test::Fail;
 

@@ -1,10 +1,11 @@
 //! A search and all that it returns.
 ghost use Rattle.std.specs.Prelude.{◌≤◌};
-ghost use Rattle.lotos_search.specs.Question.{HaveTexts};
+ghost use Rattle.lotos_listing.specs.Question.{HaveTexts};
 
 use super::accepted_text::{joined, table_of_text};
+use lotos_listing::{Halt, Mark};
 use lotos_pattern::Pattern;
-use lotos_search::{Halt, Mark, Search};
+use lotos_search::Search;
 use lotos_terms::{Label, Table};
 use std::alloc::{AllocError, Global};
 use std::process::Abort;

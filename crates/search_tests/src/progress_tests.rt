@@ -2,9 +2,10 @@
 use super::listing_run::{Question, begin};
 use super::match_tests::boxed_table;
 use lotos_ever::find_shortest_match_with_progress;
+use lotos_listing::{Found, Halt, NoProgress, Progress};
 use lotos_normal::NormalTable;
 use lotos_pattern::Pattern;
-use lotos_search::{Found, Halt, NoProgress, Progress, Search};
+use lotos_search::Search;
 use std::alloc::Global;
 use std::process::Abort;
 use std::test::Fail;

@@ -2,8 +2,8 @@
 ghost use Rattle.std.specs.Prelude.{◌≤◌};
 
 use super::accepted_text::table_of_text;
+use lotos_listing::{Found, Halt};
 use lotos_pattern::Pattern;
-use lotos_search::{Found, Halt};
 use lotos_terms::{Label, Table};
 use std::alloc::Global;
 use std::process::Abort;

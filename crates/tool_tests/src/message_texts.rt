@@ -3,8 +3,8 @@
 use super::memory_devices::ArrayWriter;
 use lotos_check::CheckFault;
 use lotos_device::FromWrite;
+use lotos_listing::MarkFault;
 use lotos_pattern::PatternFault;
-use lotos_search::MarkFault;
 use lotos_text::TextFault;
 use lotos_tool::{
     CommandFault, Ended, EverEnded, EverWhy, Refusal, Why, answer_fault, report_check, report_ever,

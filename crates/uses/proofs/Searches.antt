@@ -4,12 +4,12 @@ use Rattle.std.specs.Prelude.{None}
 use Rattle.lotos_terms.specs.TableView.{TableView}
 use Rattle.lotos_pattern.specs.Patterns.{Pattern}
 use Rattle.lotos_pattern.specs.Spelling.{Text}
-use Rattle.lotos_search.specs.Marks.{MarkOf}
-use Rattle.lotos_search.specs.Order.{Label}
+use Rattle.lotos_listing.specs.Marks.{MarkOf}
+use Rattle.lotos_listing.specs.Order.{Label}
 use Rattle.lotos_search.specs.SearchSteps.{RunningReturns, IsBegun, IsNextItem, NextReturns, NextReturnsAt, SearchState, running}
-use Rattle.lotos_search.specs.declared.found.Found.{Found}
-use Rattle.lotos_search.specs.declared.found.Halt.{Halt}
-use Rattle.lotos_search.specs.declared.found.Halt.TheVariants.{OverTerms, Memory, Failed}
+use Rattle.lotos_listing.specs.declared.found.Found.{Found}
+use Rattle.lotos_listing.specs.declared.found.Halt.{Halt}
+use Rattle.lotos_listing.specs.declared.found.Halt.TheVariants.{OverTerms, Memory, Failed}
 use Rattle.uses.specs.ResumedListings.{IsFirstItem, IsSecondItem, IsSearchIn, IsHaltOf, IsHaltAfter, IsSecondHalt, before, after_item}
 
 module _ (table : TableView) (pattern : Pattern) (depth terms : ℕ) where

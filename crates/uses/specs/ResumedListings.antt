@@ -4,13 +4,13 @@ use Rattle.lotos_store.specs.declared.label.Label.{Label as TermLabel}
 use Rattle.lotos_terms.specs.TableView.{TableView}
 use Rattle.lotos_pattern.specs.Patterns.{Pattern}
 use Rattle.lotos_pattern.specs.Spelling.{Text}
-use Rattle.lotos_search.specs.Order.{Label}
-use Rattle.lotos_search.specs.Marks.{MarkOf}
+use Rattle.lotos_listing.specs.Order.{Label}
+use Rattle.lotos_listing.specs.Marks.{MarkOf}
 use Rattle.lotos_search.specs.SearchSteps.{RunningReturns, IsEndOfListing, IsFirstOversized, IsNextItem, SearchState, Stage}
-use Rattle.lotos_search.specs.Question.{ArePrinted, Question}
-use Rattle.lotos_search.specs.declared.found.Found.{Found}
-use Rattle.lotos_search.specs.declared.found.Halt.{Halt}
-use Rattle.lotos_search.specs.declared.found.Halt.TheVariants.{OverTerms, Memory, Failed}
+use Rattle.lotos_listing.specs.Question.{ArePrinted, Question}
+use Rattle.lotos_listing.specs.declared.found.Found.{Found}
+use Rattle.lotos_listing.specs.declared.found.Halt.{Halt}
+use Rattle.lotos_listing.specs.declared.found.Halt.TheVariants.{OverTerms, Memory, Failed}
 use Rattle.uses.specs.declared.resumed_listing.ItemFault.{ItemFault}
 use Rattle.uses.specs.declared.resumed_listing.ItemFault.TheVariants as fault
 

@@ -3,8 +3,9 @@ ghost use Rattle.std.specs.Prelude.{◌≤◌, IfErr, IfOk};
 ghost use Rattle.lotos_search.specs.SearchSteps.{IsBegun};
 ghost use Rattle.uses.specs.ResumedListings.{IsItemAfter, IsFirstItem, IsSecondItem, IsHaltOf, IsItemFault, IsSecondHalt};
 
+use lotos_listing::{Found, Halt, Mark, MarkFault};
 use lotos_pattern::Pattern;
-use lotos_search::{Found, Halt, Mark, MarkFault, Search};
+use lotos_search::Search;
 use lotos_terms::Table;
 use std::alloc::{AllocError, Global};
 

@@ -1,5 +1,5 @@
 use Rattle.std.proofs.Common.{sym, subst}
-use Rattle.lotos_search.specs.Question.{ArePrinted}
+use Rattle.lotos_listing.specs.Question.{ArePrinted}
 use Rattle.lotos_tool.specs.SearchParts.{IsHalt}
 use Rattle.lotos_tool.proofs.Calls.{over_cause}
 use Rattle.lotos_tool.proofs.listing_output.cause_of_halt.Goals as goal

@@ -1,5 +1,5 @@
 use Rattle.std.proofs.Common.{◌≡◌, List, length, false}
-use Rattle.lotos_search.specs.Remaining.{remaining}
+use Rattle.lotos_listing.specs.Remaining.{remaining}
 use Rattle.lotos_search.specs.SearchSteps.{running}
 use Rattle.lotos_tool.specs.SearchOutcome.{IsBelowLimit}
 use Rattle.lotos_tool.specs.OutputLines.{Item}

@@ -1,7 +1,7 @@
 use Rattle.std.proofs.Common.{◌≡◌, ◌++◌, ◌∷◌, IsUtf8, List, drop}
 use Rattle.std.specs.List.{flat_map}
-use Rattle.lotos_search.specs.Order.{Label}
-use Rattle.lotos_search.specs.Question.{ArePrinted}
+use Rattle.lotos_listing.specs.Order.{Label}
+use Rattle.lotos_listing.specs.Question.{ArePrinted}
 use Rattle.lotos_tool.specs.OutputLines.{sequence_text}
 use Rattle.lotos_tool.proofs.output_lines.format_sequence.Given as goal
 

@@ -1,6 +1,6 @@
 use Rattle.std.proofs.Common.{subst, sym}
 use Rattle.lotos_check.proofs.SameFault.{passed_on}
-use Rattle.lotos_search.specs.Marks.{IsMarkFault}
+use Rattle.lotos_listing.specs.Marks.{IsMarkFault}
 use Rattle.lotos_tool.specs.Rejections.{IsMarkRejection, mark_rejection}
 use Rattle.lotos_tool.proofs.Rejections.{mark_rejected_for}
 use Rattle.lotos_tool.proofs.question_parts.read_mark.Goals as goal

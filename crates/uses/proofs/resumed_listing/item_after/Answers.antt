@@ -1,6 +1,6 @@
 use Rattle.std.proofs.Common.{List, subst}
-use Rattle.lotos_search.specs.Marks.{IsMarkFault, MarkOf}
-use Rattle.lotos_search.specs.Order.{Label}
+use Rattle.lotos_listing.specs.Marks.{IsMarkFault, MarkOf}
+use Rattle.lotos_listing.specs.Order.{Label}
 use Rattle.uses.proofs.resumed_listing.item_after.Goals as goal
 
 pub returns-in-Err-E46-clause-stopped : goal.returns-in-Err-E46-clause-stopped

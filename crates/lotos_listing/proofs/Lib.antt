@@ -1,0 +1,15 @@
+pub mod SequenceOrder
+pub mod FirstEvents
+pub mod WalkDescent
+pub mod WalkNext
+pub mod Labels
+pub mod LastLabels
+pub mod ListingFronts
+pub mod RemainingCount
+pub mod AscendingLabels
+pub mod NumberedPlaces
+pub mod MarkComparison
+pub mod LabelSpelling
+pub mod MarkLines
+pub mod UniqueQuestion
+pub mod ListEntries

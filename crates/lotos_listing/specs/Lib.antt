@@ -1,0 +1,11 @@
+pub mod Order
+pub mod Alphabet
+pub mod Derivations
+pub mod Listing
+pub mod Question
+pub mod Lookups
+pub mod PrefixWalk
+pub mod Marks
+pub mod MarkErrors
+pub mod NumberedPlaces
+pub mod Remaining

@@ -1,0 +1,27 @@
+//! What a listing is: sequences of labels in one strict order, those that derivations put into it, and the walk that
+//! finds them.
+//!
+//! The definitions are those of derivations and of what is observed of them, of the order of sequences, of listings and
+//! of their members. A [`PrefixTree`] is walked by [`next_hit`], one length after the other, each length in order. A
+//! [`Mark`] is a sequence after which a listing starts, since the order of sequences depends only on their labels.
+//! [`compile`] compiles a pattern against the labels of a system, and [`place_after`] follows it, label by label.
+#![tactic(auto)]
+
+mod alphabet;
+mod fault;
+mod found;
+pub mod laws;
+mod mark;
+mod order;
+mod place_step;
+mod prefix_walk;
+mod progress;
+
+pub use alphabet::{compile, label_number};
+pub use fault::MarkFault;
+pub use found::{Found, Halt};
+pub use mark::Mark;
+pub use order::compare;
+pub use place_step::place_after;
+pub use prefix_walk::{PrefixTree, next_hit};
+pub use progress::{NoProgress, Progress};
