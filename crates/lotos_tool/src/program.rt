@@ -3,7 +3,8 @@ ghost use Rattle.std.specs.Prelude.{◌≡◌, ◌+◌, ◌≤◌, ◌==◌, fal
 ghost use Rattle.lotos_text.specs.Limits.{max_text_length};
 ghost use Rattle.lotos_tool.specs.OutcomeFlags.{is_output_cause, is_output_fault};
 ghost use Rattle.lotos_tool.specs.EverOutcome.{is_ever_output_cause, is_ever_output_fault};
-ghost use Rattle.lotos_command.specs.Request.{HasSearchBounds, texts_of};
+ghost use Rattle.lotos_command.specs.Request.{HasSearchBounds};
+ghost use Rattle.lotos_pattern.specs.Spelling.{texts_of};
 ghost use Rattle.lotos_tool.specs.ProgramRuns.{EverReported, HelpWritten, IsAnswerTo, Ran, SearchReported, check_status_of, ever_status_of, ever_stop_status_of, status_of, stop_status_of};
 
 use crate::check_command::check_text;
