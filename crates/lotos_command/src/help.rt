@@ -124,11 +124,11 @@ is not looked at. It need not be a line of this listing. In a shell it is quoted
 example, `--after \"A B\"` goes on behind the line `A B`, and `--after \"<empty>\"`
 behind the empty sequence.";
 
-pub(crate) const EXPLAIN_HELP: &str = "Writes the least word of each sequence too";
+pub(crate) const EXPLAIN_HELP: &str = "Writes the least run of each sequence too";
 
-pub(crate) const EXPLAIN_LONG_HELP: &str = "Writes the least word of each sequence too
+pub(crate) const EXPLAIN_LONG_HELP: &str = "Writes the least run of each sequence too
 
-A line is then the sequence, ` : ` and a word: the labels of a derivation that shows
+A line is then the sequence, ` : ` and a run: the labels of a derivation that shows
 the sequence, internal steps included. It is the shortest one, and of those the first
 in the order of labels, `i` being the last of these. For example, `i; i; a; stop` with
 `--depth 3 --explain A` lists
@@ -239,11 +239,11 @@ reached before a match is found, the search stops with status 4. Each takes some
 0.3 to 1.5 KiB of memory. For example, for `a; b; stop` and the pattern `A B` the
 search stops with `--states 1`.";
 
-pub(crate) const EVER_EXPLAIN_HELP: &str = "Writes the word of the derivation too";
+pub(crate) const EVER_EXPLAIN_HELP: &str = "Writes the run of the derivation too";
 
-pub(crate) const EVER_EXPLAIN_LONG_HELP: &str = "Writes the word of the derivation too
+pub(crate) const EVER_EXPLAIN_LONG_HELP: &str = "Writes the run of the derivation too
 
-The line is then the sequence, ` : ` and a word: the labels of the derivation, internal
+The line is then the sequence, ` : ` and a run: the labels of the derivation, internal
 steps included. For example, `i; i; a; stop` with `--explain A` gives
   A : i i A";
 

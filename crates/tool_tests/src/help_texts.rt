@@ -138,9 +138,9 @@ Options:
           behind the empty sequence.
 
       --explain
-          Writes the least word of each sequence too
+          Writes the least run of each sequence too
          \x20
-          A line is then the sequence, ` : ` and a word: the labels of a derivation that shows
+          A line is then the sequence, ` : ` and a run: the labels of a derivation that shows
           the sequence, internal steps included. It is the shortest one, and of those the first
           in the order of labels, `i` being the last of these. For example, `i; i; a; stop` with
           `--depth 3 --explain A` lists
@@ -250,9 +250,9 @@ Options:
           [default: 1000000]
 
       --explain
-          Writes the word of the derivation too
+          Writes the run of the derivation too
          \x20
-          The line is then the sequence, ` : ` and a word: the labels of the derivation, internal
+          The line is then the sequence, ` : ` and a run: the labels of the derivation, internal
           steps included. For example, `i; i; a; stop` with `--explain A` gives
             A : i i A
 
@@ -372,7 +372,7 @@ Options:
       --limit <N>     The most lines that are written, 1 to 1000000000
       --terms <N>     The most terms that a prefix may reach, 1 to 1000000 [default: 100000]
       --after <LINE>  Lists only what stands after this line of a listing
-      --explain       Writes the least word of each sequence too
+      --explain       Writes the least run of each sequence too
       --strong        Makes the internal action `i` a label like others
       --known         Refuses words that name no gate of the specification
       --progress      Tells on standard error how far the search is
@@ -399,7 +399,7 @@ Arguments:
 
 Options:
       --states <N>  The most states that may be reached, 1 to 100000000 [default: 1000000]
-      --explain     Writes the word of the derivation too
+      --explain     Writes the run of the derivation too
       --strong      Makes the internal action `i` a label like others
       --progress    Tells on standard error how far the search is
   -h, --help        Print help (see more with '--help')
