@@ -77,21 +77,24 @@ pub fn reject(text: &[u8], fault: AcceptFault) -> Rejection
     requires inside { IfSome (accept_offset fault) (λ at. at ≤ length text.now) }
     ensures { IsRejection text.now result }
 {
-    let place = position_of(text, &fault);
+    let position = position_of(text, &fault);
     match fault {
-        AcceptFault::Text(fault) => Rejection::Refused(Refusal::Text { fault, place }),
-        AcceptFault::Check(fault) => reject_check(text, fault, place),
+        AcceptFault::Text(fault) => Rejection::Refused(Refusal::Text {
+            fault,
+            place: position,
+        }),
+        AcceptFault::Check(fault) => reject_check(text, fault, position),
         AcceptFault::Memory => Rejection::Memory,
     }
 }
 
 /// The rejection for a fault of the static check, which has a position.
-fn reject_check(text: &[u8], fault: CheckFault, place: Option<(usize, usize)>) -> Rejection
+fn reject_check(text: &[u8], fault: CheckFault, position: Option<(usize, usize)>) -> Rejection
     requires fault { IsRejectedSpecification text.now fault }
-    requires place { IsPositionOf text.now (offset_of fault) place }
+    requires position { IsPositionOf text.now (offset_of fault) position }
     ensures { IsRejection text.now result }
 {
-    match place {
+    match position {
         Some((line, column)) => Rejection::Refused(Refusal::Check {
             fault,
             line,
