@@ -39,8 +39,8 @@ pub fn run<R: Source, W: Sink, E: Write>(
 ) -> u8
     requires reader { R.has_failed reader.old ≡ false }
     requires out { W.has_failed out.old ≡ false }
-    ensures ran { Ran (texts_of words.now) (R.left reader.old) (R.left reader.new)
-        (W.got out.old) (W.got out.new) (R.has_failed reader.new) result }
+    ensures ran { Ran (texts_of words.now) (R.remaining reader.old) (R.remaining reader.new)
+        (W.written out.old) (W.written out.new) (R.has_failed reader.new) result }
     ensures given { R.given reader.new ≤ R.given reader.old + (max_text_length + 1) }
     ensures output { W.has_failed out.new ≡ (result == 6) }
 {
@@ -65,8 +65,8 @@ fn run_search<R: Source, W: Sink, E: Write>(
     requires bounds { HasSearchBounds request.now }
     requires reader { R.has_failed reader.old ≡ false }
     requires out { W.has_failed out.old ≡ false }
-    ensures reported { SearchReported request.now (R.left reader.old) (R.left reader.new)
-        (W.got out.old) (W.got out.new) (R.has_failed reader.new) result }
+    ensures reported { SearchReported request.now (R.remaining reader.old) (R.remaining reader.new)
+        (W.written out.old) (W.written out.new) (R.has_failed reader.new) result }
     ensures given { R.given reader.new ≤ R.given reader.old + (max_text_length + 1) }
     ensures output { W.has_failed out.new ≡ (result == 6) }
 {
@@ -102,8 +102,8 @@ fn run_ever<R: Source, W: Sink, E: Write>(
 ) -> u8
     requires reader { R.has_failed reader.old ≡ false }
     requires out { W.has_failed out.old ≡ false }
-    ensures reported { EverReported request.now (R.left reader.old) (R.left reader.new)
-        (W.got out.old) (W.got out.new) (R.has_failed reader.new) result }
+    ensures reported { EverReported request.now (R.remaining reader.old) (R.remaining reader.new)
+        (W.written out.old) (W.written out.new) (R.has_failed reader.new) result }
     ensures given { R.given reader.new ≤ R.given reader.old + (max_text_length + 1) }
     ensures output { W.has_failed out.new ≡ (result == 6) }
 {
@@ -136,7 +136,7 @@ fn end_without_command<W: Sink, E: Write>(
     err: &mut E,
 ) -> u8
     requires { W.has_failed out.old ≡ false }
-    ensures answer { IsAnswerTo fault.now (W.got out.old) (W.got out.new) result }
+    ensures answer { IsAnswerTo fault.now (W.written out.old) (W.written out.new) result }
     ensures output { W.has_failed out.new ≡ (result == 6) }
 {
     let status = answer_fault(fault, out, err);
@@ -149,7 +149,7 @@ fn end_without_command<W: Sink, E: Write>(
 /// have failed before. The text that says why words fit no command has line feeds of its own.
 pub fn answer_fault<W: Sink, E: Write>(fault: &CommandFault, out: &mut W, err: &mut E) -> u8
     requires { W.has_failed out.old ≡ false }
-    ensures answer { IsAnswerTo fault.now (W.got out.old) (W.got out.new) result }
+    ensures answer { IsAnswerTo fault.now (W.written out.old) (W.written out.new) result }
     ensures output { W.has_failed out.new ≡ (result == 6) }
 {
     match fault {
@@ -253,7 +253,7 @@ fn stop_status(why: &Why) -> u8
 /// Writes the help and returns the status, 0, or 6 if the output fails.
 fn write_help<W: Sink, E: Write>(text: &str, out: &mut W, err: &mut E) -> u8
     requires { W.has_failed out.old ≡ false }
-    ensures printed { HelpWritten (W.got out.old) (W.got out.new) text.now result }
+    ensures printed { HelpWritten (W.written out.old) (W.written out.new) text.now result }
     ensures output { W.has_failed out.new ≡ (result == 6) }
 {
     match write_and_flush(out, text.as_bytes()) {

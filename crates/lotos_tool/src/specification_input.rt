@@ -27,8 +27,9 @@ pub fn read_specification<R: Source, P: OutputProgress>(
 ) -> Result<Checked, Rejection>
     requires { R.has_failed reader.old ≡ false }
     ensures accepted { IfOk result (λ found.
-        ReadsAccepted (R.left reader.old) (R.left reader.new) (system_of found)) }
-    ensures refused { IfErr result (IsRejectionBy IsInputRefusal (R.left reader.old) (R.left reader.new)) }
+        ReadsAccepted (R.remaining reader.old) (R.remaining reader.new) (system_of found)) }
+    ensures refused { IfErr result
+        (IsRejectionBy IsInputRefusal (R.remaining reader.old) (R.remaining reader.new)) }
     ensures given { R.given reader.new ≤ R.given reader.old + (max_text_length + 1) }
     ensures failed { R.has_failed reader.new ≡ is_input_failure result }
 {
@@ -43,8 +44,9 @@ pub fn read_specification<R: Source, P: OutputProgress>(
 pub fn read_input<R: Source>(alloc: Global, reader: &mut R) -> Result<Vec<u8>, Rejection>
     requires { R.has_failed reader.old ≡ false }
     ensures whole { IfOk result (λ text.
-        ReadsAll (R.left reader.old) (R.left reader.new) max_text_length text.items) }
-    ensures refused { IfErr result (IsRejectionBy IsInputRefusal (R.left reader.old) (R.left reader.new)) }
+        ReadsAll (R.remaining reader.old) (R.remaining reader.new) max_text_length text.items) }
+    ensures refused { IfErr result
+        (IsRejectionBy IsInputRefusal (R.remaining reader.old) (R.remaining reader.new)) }
     ensures given { R.given reader.new ≤ R.given reader.old + (max_text_length + 1) }
     ensures failed { R.has_failed reader.new ≡ is_input_failure result }
 {

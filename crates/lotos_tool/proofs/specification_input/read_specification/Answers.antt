@@ -8,6 +8,6 @@ use Rattle.lotos_tool.proofs.specification_input.read_specification.Goals as goa
 pub returns-in_err-found-clause-refused : goal.returns-in_err-found-clause-refused
 returns-in_err-found-clause-refused g c =
     let cause = c.in_err-found.field-0.0 in
-    passed_on (IsRejectionBy IsInputRefusal (g.R.Source.left c.args.reader.now) (g.R.Source.left c.read_input.new.reader))
+    passed_on (IsRejectionBy IsInputRefusal (g.R.Source.remaining c.args.reader.now) (g.R.Source.remaining c.read_input.new.reader))
     c.from_residual-in_err-found.result cause c.from_residual-in_err-found.ensures.1
     (unread _ _ _ cause c.in_ok-text.ensures.whole (subst (λ t. IsRejection t cause) c.as_slice.ensures.value c.in_err-found.ensures.refused))
