@@ -26,7 +26,8 @@ pub fn run_args<R: Source, W: Sink, E: Write>(
     requires out { W.has_failed out.old ≡ false }
     ensures ran { MatchResult args
         (λ words. Ran (map string_bytes (into_iter_items words))
-        (R.remaining reader.old) (R.remaining reader.new) (W.written out.old) (W.written out.new) (R.has_failed reader.new) result)
+        (R.remaining reader.old) (R.remaining reader.new)
+        (W.written out.old) (W.written out.new) (R.has_failed reader.new) result)
         (λ _. NoArgumentRead (R.remaining reader.old) (R.remaining reader.new)
         (W.written out.old) (W.written out.new) (R.has_failed reader.new) result) }
     ensures given { R.given reader.new ≤ R.given reader.old + (max_text_length + 1) }
