@@ -122,8 +122,8 @@ fn warn<E: Write>(
 )
     requires { IsAccepted (definition_view specification.now.whole) (system_of system.now) }
 {
-    if let Ok(found) = warnings(alloc, specification, system) {
-        write_warnings(err, text, found.as_slice());
+    if let Ok(list) = warnings(alloc, specification, system) {
+        write_warnings(err, text, list.as_slice());
     }
 }
 

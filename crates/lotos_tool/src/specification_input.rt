@@ -26,17 +26,17 @@ pub fn read_specification<R: Source, P: OutputProgress>(
     progress: &mut P,
 ) -> Result<Checked, Rejection>
     requires { R.has_failed reader.old ≡ false }
-    ensures accepted { IfOk result (λ found.
-        ReadsAccepted (R.remaining reader.old) (R.remaining reader.new) (system_of found)) }
+    ensures accepted { IfOk result (λ system.
+        ReadsAccepted (R.remaining reader.old) (R.remaining reader.new) (system_of system)) }
     ensures refused { IfErr result
         (IsRejectionBy IsInputRefusal (R.remaining reader.old) (R.remaining reader.new)) }
     ensures given { R.given reader.new ≤ R.given reader.old + (max_text_length + 1) }
     ensures failed { R.has_failed reader.new ≡ is_input_failure result }
 {
     let text = read_input(alloc, reader)?;
-    let found = accept_text(alloc, text.as_slice())?;
-    progress.accepted(text.as_slice(), &found);
-    Ok(found.system)
+    let accepted_text = accept_text(alloc, text.as_slice())?;
+    progress.accepted(text.as_slice(), &accepted_text);
+    Ok(accepted_text.system)
 }
 
 /// Reads a whole text. At most one byte more than a text may have is taken from the reader, whatever it returns. The
@@ -64,11 +64,11 @@ pub fn read_input<R: Source>(alloc: Global, reader: &mut R) -> Result<Vec<u8>, R
 /// Accepts a text; the rejection of one that is not accepted has the line and the column of its fault.
 fn accept_text(alloc: Global, text: &[u8]) -> Result<AcceptedText, Rejection>
     requires { length text.now ≤ max_text_length }
-    ensures accepted { IfOk result (λ found. Accepted text.now (system_of found.system)) }
+    ensures accepted { IfOk result (λ accepted_text. Accepted text.now (system_of accepted_text.system)) }
     ensures refused { IfErr result (IsRejection text.now) }
 {
     match accept(alloc, text) {
-        Ok(found) => Ok(found),
+        Ok(accepted_text) => Ok(accepted_text),
         Err(fault) => Err(reject(text, fault)),
     }
 }
