@@ -24,16 +24,16 @@ pub(crate) const STATUSES: &str = "Statuses:
      be read
   3  the limit of lines is reached
   4  a prefix reaches too many terms, or there are too many states
-  5  memory was wanting
+  5  out of memory
   6  the output cannot be written";
 
 pub(crate) const CHECK_ABOUT: &str = "Checks the static rules and lists the processes";
 
 pub(crate) const CHECK_LONG_ABOUT: &str = "Checks the static rules and lists the processes
 
-Reads a specification in basic LOTOS from standard input. Where it breaks no static
+Reads a specification in basic LOTOS from standard input. If it breaks no static
 rule, a line is written for each process, in the order of their definitions: its name,
-the number of its gates, and `exit` or `noexit`. Else the first fault is named on
+the number of its gates, and `exit` or `noexit`. Otherwise the first fault is named on
 standard error, with its line and column.
 
 For example, with the specification
@@ -45,7 +45,7 @@ the command `lotosseq check` lists
 pub(crate) const CHECK_STATUSES: &str = "Statuses:
   0  the specification is accepted
   2  the command or the specification is refused, or cannot be read
-  5  memory was wanting
+  5  out of memory
   6  the output cannot be written";
 
 pub(crate) const CHECK_EXPLAIN_HELP: &str = "Explains a fault";
@@ -53,7 +53,7 @@ pub(crate) const CHECK_EXPLAIN_HELP: &str = "Explains a fault";
 pub(crate) const CHECK_EXPLAIN_LONG_HELP: &str = "Explains a fault
 
 The message of a fault in the specification is followed on standard error by its line
-with a mark under the place, and by what to do; where a word or a sign does not fit,
+with a mark under the place, and by what to do; if a word or a sign does not fit,
 also by what is there and what could be there. Output and status stay the same. For
 example, for `behaviour a stop` it has
   behaviour a stop
@@ -82,8 +82,8 @@ and writes a listing to standard output. The listing has every sequence that mat
 the pattern and that some derivation of at most N steps from the specification's
 behaviour shows.
 
-Each sequence stands there once, in a line of its own: its labels, separated by one
-blank, or `<empty>`. Shorter sequences stand first, and sequences of one length in
+Each sequence occurs once, on a line of its own: its labels, separated by one
+blank, or `<empty>`. Shorter sequences come first, and sequences of one length in
 the order of their labels: gates by their names, then `exit`.
 
 For example, with the specification
@@ -103,7 +103,7 @@ pub(crate) const LIMIT_HELP: &str = "The most lines that are written, 1 to 10000
 
 pub(crate) const LIMIT_LONG_HELP: &str = "The most lines that are written, 1 to 1000000000
 
-The search stops when so many lines are written, with status 3, also where no line
+The search stops when so many lines are written, with status 3, even if no line
 would follow. For example, `--limit 1` writes the first line alone.";
 
 pub(crate) const TERMS_HELP: &str = "The most terms that a prefix may reach, 1 to 1000000";
@@ -115,20 +115,20 @@ which derivations that show it end. The search stops with status 4 at the first 
 that reaches more. For example, with `--terms 1` the specification's behaviour
 `i; a; stop` stops the search at `<empty>`, which reaches two terms.";
 
-pub(crate) const AFTER_HELP: &str = "Lists only what stands after this line of a listing";
+pub(crate) const AFTER_HELP: &str = "Lists only what comes after this line of a listing";
 
-pub(crate) const AFTER_LONG_HELP: &str = "Lists only what stands after this line of a listing
+pub(crate) const AFTER_LONG_HELP: &str = "Lists only what comes after this line of a listing
 
 LINE is a line as the listing has it, in upper or lower case; what follows ` : ` in it
-is not looked at. It need not be a line of this listing. In a shell it is quoted. For
-example, `--after \"A B\"` goes on behind the line `A B`, and `--after \"<empty>\"`
-behind the empty sequence.";
+is ignored. It need not be a line of this listing. In a shell it is quoted. For
+example, `--after \"A B\"` goes on after the line `A B`, and `--after \"<empty>\"`
+after the empty sequence.";
 
-pub(crate) const EXPLAIN_HELP: &str = "Writes the least word of each sequence too";
+pub(crate) const EXPLAIN_HELP: &str = "Writes the least run of each sequence too";
 
-pub(crate) const EXPLAIN_LONG_HELP: &str = "Writes the least word of each sequence too
+pub(crate) const EXPLAIN_LONG_HELP: &str = "Writes the least run of each sequence too
 
-A line is then the sequence, ` : ` and a word: the labels of a derivation that shows
+A line is then the sequence, ` : ` and a run: the labels of a derivation that shows
 the sequence, internal steps included. It is the shortest one, and of those the first
 in the order of labels, `i` being the last of these. For example, `i; i; a; stop` with
 `--depth 3 --explain A` lists
@@ -181,10 +181,10 @@ by itself, as in `'<any>'`, or several in one pair of quotes, as in `'<until> B'
   <while> SET    any number of labels, all of the set. `A <while> B` matches `A` and
                  `A B B`.
   <while> <any>  any number of labels. `<while> <any> B` matches all that ends in `B`.
-  <deadlock>     nothing, where the end is a deadlock. `A <deadlock>` matches `A`,
-                 where nothing can follow.
+  <deadlock>     no label, if the end is a deadlock. `A <deadlock>` matches `A`,
+                 if nothing can follow.
   <until> <deadlock>
-                 any number of labels, where the end is a deadlock.
+                 any number of labels, if the end is a deadlock.
 
 Elements next to each other match labels next to each other: `A B` does not match
 `A C B`. An A and later a B, with no C between them, is `A <while> <not> C B`.
@@ -202,7 +202,7 @@ pub(crate) const SEARCH_STATUSES: &str = "Statuses:
      be read
   3  the limit of lines is reached
   4  a prefix reaches too many terms
-  5  memory was wanting
+  5  out of memory
   6  the output cannot be written";
 
 pub(crate) const EVER_ABOUT: &str = "Finds a shortest match, of any length";
@@ -226,7 +226,7 @@ pub(crate) const EVER_STATUSES: &str = "Statuses:
   1  there is none, of any length
   2  the command, the pattern or the specification is refused, or cannot be read
   4  there are too many states
-  5  memory was wanting
+  5  out of memory
   6  the output cannot be written";
 
 pub(crate) const STATES_HELP: &str = "The most states that may be reached, 1 to 100000000";
@@ -236,14 +236,14 @@ pub(crate) const STATES_LONG_HELP: &str = "The most states that may be reached, 
 A state is one of the specification and of the pattern together: a term that can be
 reached, and how much of the pattern the labels on the way match. If more of them are
 reached before a match is found, the search stops with status 4. Each takes some
-0.3 to 1.5 KiB of memory. For example, for `a; b; stop` and the pattern `A B` the
+150 to 600 bytes of memory. For example, for `a; b; stop` and the pattern `A B` the
 search stops with `--states 1`.";
 
-pub(crate) const EVER_EXPLAIN_HELP: &str = "Writes the word of the derivation too";
+pub(crate) const EVER_EXPLAIN_HELP: &str = "Writes the run of the derivation too";
 
-pub(crate) const EVER_EXPLAIN_LONG_HELP: &str = "Writes the word of the derivation too
+pub(crate) const EVER_EXPLAIN_LONG_HELP: &str = "Writes the run of the derivation too
 
-The line is then the sequence, ` : ` and a word: the labels of the derivation, internal
+The line is then the sequence, ` : ` and a run: the labels of the derivation, internal
 steps included. For example, `i; i; a; stop` with `--explain A` gives
   A : i i A";
 
@@ -271,10 +271,10 @@ by itself, as in `'<any>'`, or several in one pair of quotes, as in `'<until> B'
   <while> SET    any number of labels, all of the set. `A <while> B` matches `A` and
                  `A B B`.
   <while> <any>  any number of labels. `<while> <any> B` matches all that ends in `B`.
-  <deadlock>     nothing, where the end is a deadlock. `A <deadlock>` matches `A`,
-                 where nothing can follow.
+  <deadlock>     no label, if the end is a deadlock. `A <deadlock>` matches `A`,
+                 if nothing can follow.
   <until> <deadlock>
-                 any number of labels, where the end is a deadlock.
+                 any number of labels, if the end is a deadlock.
 
 Elements next to each other match labels next to each other: `A B` does not match
 `A C B`. An A and later a B, with no C between them, is `A <while> <not> C B`.
@@ -283,6 +283,6 @@ A deadlock is a term that has no step at all, not even an internal one. The two 
 that ask for one may come only at the end. `i` is a word of a pattern only with
 `--strong`, as the internal action cannot be observed; without it `<not> A` is no
 internal step either. A name that is neither `exit` nor `i` is that of a gate of the
-specification's own list. Where the list does not have it, its word is refused with E49
+specification's own list. If the list does not have it, its word is refused with E49
 and status 2, as no sequence has that label. For example, `C` is refused for
   specification S [a,b] : noexit behaviour a; b; stop endspec";

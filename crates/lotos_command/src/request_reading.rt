@@ -1,11 +1,12 @@
 //! The request in the words of a command line, read by clap.
 ghost use Rattle.std.specs.Prelude.{◌≡◌, ◌≤◌, ◌++◌, IfErr, IfOk, IfSome, IsSomeAnd, Some, map, [], codes, option_map, string_bytes, unwrap_or};
 ghost use Rattle.std.specs.Option.{option_map_or};
+ghost use Rattle.clap.specs.Walk.{texts as texts_of};
 ghost use Rattle.clap.specs.Words.{all_of, first_of, found_of, kind_of, one_of, rows_of, subcommand_rows_of};
 ghost use Rattle.lotos_command.specs.CommandFaults.{AreAccepted, IsFaultOfKind, IsFaultOf};
 ghost use Rattle.lotos_command.specs.EntryRules.{FitsCheck, FitsEver, FitsRequest, FitsSearch, IsNumberIn, IsTruthText};
 ghost use Rattle.lotos_command.specs.PatternWords.{parts_between_blanks, pattern_words, pattern_words_in};
-ghost use Rattle.lotos_command.specs.Request.{HasBounds, HasSearchBounds, RequestOf, check_from, ever_from, ever_view, flag, number, request_from, request_view, search_from, search_view, texts_of};
+ghost use Rattle.lotos_command.specs.Request.{HasBounds, HasSearchBounds, RequestOf, check_from, ever_from, ever_view, flag, number, request_from, request_view, search_from, search_view};
 
 use crate::command::{CommandFault, DiagnoseRequest, EverRequest, Request, SearchRequest};
 use crate::command_line::lotosseq_command;

@@ -6,18 +6,18 @@ use Rattle.std.proofs.KnownBytes.{Appends-trans, Appends-kept}
 use Rattle.lotos_device.specs.ByteOutput.{AppendsPart}
 
 -- after the bytes before the offset, a write took some of the rest
-pub got_more : (old mid new : Option (List ℕ)) (bytes rest : List ℕ) (at count : ℕ)
+pub written_more : (old mid new : Option (List ℕ)) (bytes rest : List ℕ) (at count : ℕ)
     → Appends old mid (take at bytes) → Appends mid new (take count rest) → rest ≡ drop at bytes
     → Appends old new (take (at + count) bytes)
-got_more old mid new bytes rest at count before now e =
+written_more old mid new bytes rest at count before now e =
     subst (Appends old new) (sym (take-add at count bytes))
     (Appends-trans old mid new (take at bytes) (take count (drop at bytes)) before
     (subst (λ xs. Appends mid new (take count xs)) e now))
 
 -- after the bytes before the offset, a write failed
-pub got_part : (old mid new : Option (List ℕ)) (bytes : List ℕ) (at : ℕ)
+pub written_part : (old mid new : Option (List ℕ)) (bytes : List ℕ) (at : ℕ)
     → at < length bytes → Appends old mid (take at bytes) → Keeps mid new → AppendsPart old new bytes
-got_part old mid new bytes at left before now = record {
+written_part old mid new bytes at left before now = record {
   part = take at bytes;
   rest = drop at bytes;
   whole = sym (take-append-drop at bytes);

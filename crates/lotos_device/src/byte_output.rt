@@ -10,8 +10,8 @@ use crate::device::{DeviceFailed, Sink};
 /// them.
 pub fn write_bytes<W: Sink>(writer: &mut W, bytes: &[u8]) -> Result<(), DeviceFailed>
     requires { W.has_failed writer.old ≡ false }
-    ensures whole { OnOk result (Appends (W.got writer.old) (W.got writer.new) bytes.now) }
-    ensures part { OnErr result (AppendsPart (W.got writer.old) (W.got writer.new) bytes.now) }
+    ensures whole { OnOk result (Appends (W.written writer.old) (W.written writer.new) bytes.now) }
+    ensures part { OnErr result (AppendsPart (W.written writer.old) (W.written writer.new) bytes.now) }
     ensures flag { SetsFailed (W.has_failed writer.old) (W.has_failed writer.new) result }
 {
     let mut at = 0;

@@ -1,8 +1,8 @@
 //! Devices: where bytes come from, and where they go.
 //!
-//! A device remembers whether one of its calls has failed. Contracts speak of the bytes that a device has left or has
-//! got, if these are known. They are known for devices in memory. Files, terminals and the standard streams report
-//! none, so there the contracts speak only of the numbers of bytes and of failures.
+//! A device remembers whether one of its calls has failed. Contracts speak of the bytes that remain in a source and of
+//! those written to a sink, if these are known. They are known for devices in memory. Files, terminals and the standard
+//! streams report none, so there the contracts speak only of the numbers of bytes and of failures.
 ghost use Rattle.std.specs.Prelude.{◌≡◌, ℕ, Bool, false, List, Option};
 ghost use Rattle.std.specs.Io.KnownBytes.{Keeps};
 ghost use Rattle.lotos_device.specs.DeviceContracts.{CountsGiven, Reads, Accepts, SetsFailed};
@@ -16,10 +16,10 @@ pub struct DeviceFailed;
 
 /// Where bytes come from.
 pub trait Source {
-    /// The bytes that are left, if they are known.
-    ghost left: { Self → Option (List ℕ) };
+    /// The bytes that remain, if they are known.
+    ghost remaining: { Self → Option (List ℕ) };
 
-    /// The number of bytes that it has given since it was made, whether or not it is known what is left.
+    /// The number of bytes that it has given since it was made, whether or not it is known what remains.
     ghost given: { Self → ℕ };
 
     /// Whether a call has failed.
@@ -28,7 +28,7 @@ pub trait Source {
     /// Moves bytes to the front of `into` and returns how many. Into a buffer that is not empty it moves none only at
     /// the end. A call that fails moves none.
     fn read(&mut self, into: &mut [u8]) -> Result<usize, DeviceFailed>
-        ensures bytes { Reads (left self.old) (left self.new) result into.new }
+        ensures bytes { Reads (remaining self.old) (remaining self.new) result into.new }
         ensures given { CountsGiven (given self.old) (given self.new) result }
         ensures flag { SetsFailed (has_failed self.old) (has_failed self.new) result };
 
@@ -40,7 +40,7 @@ pub trait Source {
 /// Where bytes go.
 pub trait Sink {
     /// The bytes that were written so far, if they are known.
-    ghost got: { Self → Option (List ℕ) };
+    ghost written: { Self → Option (List ℕ) };
 
     /// Whether a call has failed.
     ghost has_failed: { Self → Bool };
@@ -48,12 +48,12 @@ pub trait Sink {
     /// Takes bytes from the front of `bytes` and returns how many: at least one, if there is one. A call that fails
     /// takes none.
     fn write(&mut self, bytes: &[u8]) -> Result<usize, DeviceFailed>
-        ensures bytes { Accepts (got self.old) (got self.new) result bytes.now }
+        ensures bytes { Accepts (written self.old) (written self.new) result bytes.now }
         ensures flag { SetsFailed (has_failed self.old) (has_failed self.new) result };
 
     /// Passes on the bytes that were written.
     fn flush(&mut self) -> Result<(), DeviceFailed>
-        ensures bytes { Keeps (got self.old) (got self.new) }
+        ensures bytes { Keeps (written self.old) (written self.new) }
         ensures flag { SetsFailed (has_failed self.old) (has_failed self.new) result };
 
     /// Whether a call has failed. Once true, it stays true.
@@ -93,7 +93,7 @@ impl<R: Read> FromRead<R> {
 }
 
 impl<R: Read> Source for FromRead<R> {
-    ghost left = { λ s. R.remaining (wrapped_reader s) };
+    ghost remaining = { λ s. R.remaining (wrapped_reader s) };
 
     ghost given = { reader_given };
 
@@ -149,7 +149,7 @@ impl<W: Write> FromWrite<W> {
 }
 
 impl<W: Write> Sink for FromWrite<W> {
-    ghost got = { λ s. W.contents (wrapped_writer s) };
+    ghost written = { λ s. W.contents (wrapped_writer s) };
 
     ghost has_failed = { writer_failed };
 

@@ -41,18 +41,19 @@ pub fn read_text<R: Source>(
     limit: usize,
 ) -> Result<Vec<u8>, ReadFault>
     requires { R.has_failed reader.old ≡ false }
-    ensures whole { IfOk result (λ text. ReadsAll (R.left reader.old) (R.left reader.new) limit text.items) }
+    ensures whole { IfOk result (λ text.
+        ReadsAll (R.remaining reader.old) (R.remaining reader.new) limit text.items) }
     ensures given { R.given reader.new ≤ R.given reader.old + (limit + 1) }
     ensures whole_given { IfOk result (λ text. R.given reader.new ≡ R.given reader.old + length text.items) }
     ensures one_more_given { IsErrOf result ReadFault.TooLong →
         R.given reader.new ≡ R.given reader.old + (limit + 1) }
     ensures failed { R.has_failed reader.new ≡ is_device_fault result }
     ensures too_long { IsErrOf result ReadFault.TooLong →
-        TakesExactly (R.left reader.old) (R.left reader.new) (limit + 1) }
+        TakesExactly (R.remaining reader.old) (R.remaining reader.new) (limit + 1) }
     ensures memory { IsErrOf result ReadFault.Memory →
-        TakesAtMost (R.left reader.old) (R.left reader.new) (limit + 1) }
+        TakesAtMost (R.remaining reader.old) (R.remaining reader.new) (limit + 1) }
     ensures device { IsErrOf result ReadFault.Device →
-        TakesAtMost (R.left reader.old) (R.left reader.new) limit }
+        TakesAtMost (R.remaining reader.old) (R.remaining reader.new) limit }
 {
     let mut text = Vec::new(alloc);
     let mut piece = [0; CHUNK_SIZE];

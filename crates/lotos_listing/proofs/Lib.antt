@@ -9,7 +9,6 @@ pub mod RemainingCount
 pub mod AscendingLabels
 pub mod NumberedPlaces
 pub mod MarkComparison
-pub mod LabelSpelling
 pub mod MarkLines
 pub mod UniqueQuestion
 pub mod ListEntries

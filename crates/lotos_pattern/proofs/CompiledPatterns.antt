@@ -1,6 +1,6 @@
 -- The invariant of compiled patterns.
-use Rattle.std.proofs.Common.{◌≡◌, ◌⊎◌, ◌∙◌, ℕ, zero, suc, ◌+◌, ◌<◌, ◌≤◌, List, [], ◌∷◌, ◌++◌, Option, None, Some, ap, arith, get_or, inl, inr, length, refl, subst, sym, take}
-use Rattle.std.specs.Prelude.{slice_get}
+use Rattle.std.proofs.Common.{◌≡◌, ◌⊎◌, ◌∙◌, ℕ, zero, suc, ◌+◌, ◌<◌, ◌≤◌, List, [], ◌∷◌, ◌++◌, Option, None, Some, Result, Ok, Err, ap, arith, get_or, inl, inr, length, refl, subst, sym, take}
+use Rattle.std.specs.Prelude.{IfOk, IfSome, slice_get}
 use Rattle.std.proofs.lemmas.List.{length-append, length-take}
 use Rattle.std.proofs.lemmas.Option.{get_or_from_slice_get, slice_get-get_or, slice_get_within}
 use Rattle.lotos_pattern.specs.PatternLabels.{Label}
@@ -238,3 +238,18 @@ end_read c ends rows n end from r is read at stands =
     let own = is.ended n from at in
     let same : end ≡ own.0 = read ∙ get_or_from_slice_get ends n own.0 end own.1 in
     subst (λ e. Accepts c.pattern r e) (sym same) (own.2 r stands)
+
+-- the number to which a label leads is that of a place
+pub leads_within : (old new : CompiledView) (place label : ℕ) (next : Option ℕ) → place < length old.places → label < length old.labels →
+    ((from : Place) (text : Label) → IsPlaceAt old place from → IsLabelAt old label text → LeadsTo new from text next) → IfSome next (λ n. n < length new.places)
+leads_within old new place label None below named leads = tt
+leads_within old new place label (Some n) below named leads =
+    let to = leads _ _ (slice_get-get_or old.places place (record { bits = [] }) below) (slice_get-get_or old.labels label [] named) in
+    slice_get_within new.places n to.0 to.1
+
+pub answer_within : {E : Type 0} (old new : CompiledView) (place label : ℕ) (answer : Result (Option ℕ) E) → place < length old.places →
+    label < length old.labels →
+    IfOk answer (λ next. (from : Place) (text : Label) → IsPlaceAt old place from → IsLabelAt old label text → LeadsTo new from text next) →
+    IfOk answer (λ next. IfSome next (λ n. n < length new.places))
+answer_within old new place label (Ok next) below named leads = leads_within old new place label next below named leads
+answer_within old new place label (Err e) below named leads = tt

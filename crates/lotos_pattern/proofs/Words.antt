@@ -40,15 +40,27 @@ pub other_observable : (strong : Bool) (l : Label) → l ≢ internal → IsObse
 other_observable true l h = tt
 other_observable false l h = h
 
-pub names_exit : (word : Text) → IsWord word → EqualsIgnoringCase word termination → Names true word termination
-names_exit word spelled reads = record { spelled = spelled; named = exits reads; observable = tt }
+upper_no_i : (b : ℕ) → to_ascii_uppercase b ≢ 105
+upper_no_i b e = grind (arith, nat_tests)
 
+upper_not_internal : (word : Text) → map to_ascii_uppercase word ≢ internal
+upper_not_internal [] e = cc
+upper_not_internal (b ∷ bs) e = upper_no_i b cc
+
+-- `exit` names termination
+pub names_exit : (strong : Bool) (word : Text) → IsWord word → EqualsIgnoringCase word termination → Names strong word termination
+names_exit strong word spelled reads =
+    record { spelled = spelled; named = exits reads; observable = other_observable strong termination exit_not_internal }
+
+-- `i` names the internal action if internal steps are observed
 pub names_internal : (word : Text) → IsWord word → EqualsIgnoringCase word internal → Names true word internal
 names_internal word spelled reads = record { spelled = spelled; named = inside reads; observable = tt }
 
-pub names_gate : (word : Text) → IsWord word → (EqualsIgnoringCase word termination → ⊥) → (EqualsIgnoringCase word internal → ⊥) →
-    Names true word (map to_ascii_uppercase word)
-names_gate word spelled no_exit no_internal = record { spelled = spelled; named = gate no_exit no_internal; observable = tt }
+-- every word but `exit` and `i` names itself in upper case
+pub names_gate : (strong : Bool) (word : Text) → IsWord word → (EqualsIgnoringCase word termination → ⊥) → (EqualsIgnoringCase word internal → ⊥) →
+    Names strong word (map to_ascii_uppercase word)
+names_gate strong word spelled no_exit no_internal =
+    record { spelled = spelled; named = gate no_exit no_internal; observable = other_observable strong _ (upper_not_internal word) }
 
 -- the text of the word at an index
 pub word_at : (words : List (Bor Text)) (index : ℕ) (other : Bor Text) → index < length words → slice_get (texts_of words) index ≡ Some (get_or words index other).now

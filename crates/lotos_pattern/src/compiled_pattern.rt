@@ -109,6 +109,7 @@ impl CompiledPattern {
         ensures keeps { KeepsPlaces self.old self.new }
         ensures leads { IfOk result (λ next. (from : PlaceOf) (text : Label) →
             IsPlaceAt self.old place from → IsLabelAt self.old label text → LeadsTo self.new from text next) }
+        ensures within { IfOk result (λ next. IfSome next (λ n. n < length self.new.places)) }
     {
         if let Some(next) = self.known_step(place, label) {
             return Ok(next);

@@ -1,6 +1,6 @@
 //! The names of labels in a word.
-ghost use Rattle.std.specs.Prelude.{◌≡◌, IfOk};
-ghost use Rattle.lotos_pattern.specs.Spelling.{parts_of, texts_of};
+ghost use Rattle.std.specs.Prelude.{◌≡◌, ◌↔◌, IfOk, IsTrue};
+ghost use Rattle.lotos_pattern.specs.Spelling.{IsWord, is_word_byte as word_byte, parts_of, texts_of};
 
 use std::alloc::{AllocError, Global};
 
@@ -13,4 +13,20 @@ pub fn split_names(alloc: Global, word: &str) -> Result<Vec<&str>, AllocError>
         names.push(name)?;
     }
     Ok(names)
+}
+
+/// Whether the bytes are an ASCII letter followed by ASCII letters, digits and underscores.
+pub fn is_word(bytes: &[u8]) -> bool
+    ensures { IsTrue result ↔ IsWord bytes.now }
+{
+    match bytes.split_first() {
+        Some((first, rest)) => first.is_ascii_alphabetic() && rest.iter().all(|b| is_word_byte(*b)),
+        None => false,
+    }
+}
+
+fn is_word_byte(byte: u8) -> bool
+    ensures { result ≡ word_byte byte }
+{
+    byte.is_ascii_alphanumeric() || byte == b'_'
 }

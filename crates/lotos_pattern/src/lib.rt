@@ -20,7 +20,7 @@ mod step_rows;
 
 pub use compiled_pattern::CompiledPattern;
 pub use fault::PatternFault;
-pub use label_names::split_names;
+pub use label_names::{is_word, split_names};
 pub use pattern::Pattern;
 pub use place::{End, Place};
 pub use place_number::PlaceNumber;

@@ -80,9 +80,9 @@ pub fn write_name_hint<E: Write>(hint: &NameHint, err: &mut E) {
     let _ = write!(err, "{hint}");
 }
 
-fn warn_of_name<E: Write>(found: &UnknownName<'_>, err: &mut E) {
-    let number = NumberText(found.word);
-    let name = found.name;
+fn warn_of_name<E: Write>(unknown: &UnknownName<'_>, err: &mut E) {
+    let number = NumberText(unknown.word);
+    let name = unknown.name;
     let _ = writeln!(
         err,
         "lotosseq: word {number}, {name}, is no gate of the specification and never matches"

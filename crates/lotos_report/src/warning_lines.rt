@@ -14,8 +14,8 @@ pub fn write_warnings<E: Write>(err: &mut E, text: &[u8], warnings: &[Warning]) 
     };
     for warning in warnings {
         position = position.moved(text, warning.at());
-        let place = PositionText(Some((position.line, position.column)));
-        let _ = writeln!(err, "lotosseq: {place}warning: {warning}");
+        let position_text = PositionText(Some((position.line, position.column)));
+        let _ = writeln!(err, "lotosseq: {position_text}warning: {warning}");
     }
 }
 

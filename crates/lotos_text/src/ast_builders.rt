@@ -29,14 +29,14 @@ pub(crate) fn box_behaviour(
 
 pub(crate) fn apply_operator(
     alloc: Global,
-    how: BinaryOperator,
+    operator: BinaryOperator,
     left: Box<Behaviour>,
     right: Box<Behaviour>,
 ) -> Result<Box<Behaviour>, AllocError>
     ensures { IfOk result (λ b. behaviour_view b.value ≡
-        apply (operator_view how) (behaviour_view left.value) (behaviour_view right.value)) }
+        apply (operator_view operator) (behaviour_view left.value) (behaviour_view right.value)) }
 {
-    let whole = match how {
+    let whole = match operator {
         BinaryOperator::Enable(at) => Behaviour::Enable { left, at, right },
         BinaryOperator::Disable => Behaviour::Disable { left, right },
         BinaryOperator::Synchronize(sync) => Behaviour::Par { left, sync, right },

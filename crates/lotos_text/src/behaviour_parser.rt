@@ -63,8 +63,8 @@ fn parse_hide<'a>(
         (first ∷ tokens.now) (behaviour_view p.0.value) p.1.now) }
     ensures rest { IfOk result (λ p. AreTokensIn text.now p.1.now) }
     ensures shorter { IfOk result (λ p. length p.1.now < length tokens.now) }
-    ensures fails { IfErr result (λ stop. (level : AnyLevel) →
-        FailsWithin (BehaviourPhrase text.now level) nesting_left (first ∷ tokens.now) stop) }
+    ensures fails { IfErr result (λ error. (level : AnyLevel) →
+        FailsWithin (BehaviourPhrase text.now level) nesting_left (first ∷ tokens.now) error) }
 {
     if nesting_left == 0 {
         return Err(ParseError::TooDeep(first));
@@ -124,15 +124,15 @@ fn parse_operation<'a>(
         (FailsWithin (BehaviourPhrase text.now (level_view level)) nesting_left tokens.now) }
 {
     let (left, rest) = parse_level(alloc, text, nesting_left, below, tokens)?;
-    let Some((mark, first, after)) = operator_at(rest, level) else {
+    let Some((infix, first, after)) = operator_at(rest, level) else {
         return Ok((left, rest));
     };
     if nesting_left == 0 {
         return Err(ParseError::TooDeep(first));
     }
-    let (how, rest) = parse_operator(alloc, text, mark, first, after)?;
+    let (operator, rest) = parse_operator(alloc, text, infix, first, after)?;
     let (right, rest) = parse_behaviour(alloc, text, nesting_left - 1, level, rest)?;
-    let whole = apply_operator(alloc, how, left, right)?;
+    let whole = apply_operator(alloc, operator, left, right)?;
     Ok((whole, rest))
 }
 
@@ -296,7 +296,7 @@ fn parse_call<'a>(
 /// Succeeds if the operand before the tokens ends there: neither `[` nor `;` may follow one.
 fn expect_operand_end<'a>(tokens: &'a [Token]) -> Result<(), ParseError<'a>>
     ensures whole { IfOk result (λ _. precedence tokens.now < 5) }
-    ensures fails { IfErr result (λ stop. StopsAt tokens.now stop × (precedence tokens.now ≡ 5)) }
+    ensures fails { IfErr result (λ error. StopsAt tokens.now error × (precedence tokens.now ≡ 5)) }
 {
     match eat(tokens, TokenKind::Sign(Sign::LeftBracket)) {
         Some(_) => return Err(ParseError::Unexpected(tokens)),

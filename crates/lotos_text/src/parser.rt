@@ -45,10 +45,10 @@ pub fn parse(alloc: Global, text: &[u8]) -> Result<Specification, TextFault>
     ensures ast_inside { IfOk result
         (λ found. IsInside (length text.now) (definition_view found.whole)) }
 {
-    let cut = tokens(alloc, text)?;
-    match parse_specification(alloc, text, cut.as_slice()) {
+    let tokens = tokens(alloc, text)?;
+    match parse_specification(alloc, text, tokens.as_slice()) {
         Ok(whole) => Ok(Specification { whole }),
-        Err(stop) => Err(fault_of_error(stop, text.len())),
+        Err(error) => Err(fault_of_error(error, text.len())),
     }
 }
 

@@ -55,9 +55,9 @@ unread left left' text (Refused (refusal.Pattern fault)) r h = absurd h
 unread left left' text (Refused (refusal.Mark fault)) r h = absurd h
 unread left left' text (Refused refusal.E47) r h = absurd h
 unread left left' text (Refused (refusal.E49 n)) r h = absurd h
-unread left left' text (Refused (refusal.Text fault place)) r h = go fault h
+unread left left' text (Refused (refusal.Text fault position)) r h = go fault h
   where
-    go : (fault : TextFault) → IsTextFault text fault place → IsTextRefusal left left' fault place
+    go : (fault : TextFault) → IsTextFault text fault position → IsTextRefusal left left' fault position
     go (text_fault.E01 at) h = record { text = text; read = r; spells_none = h }
     go (text_fault.E02 at) h = record { text = text; read = r; spells_none = h }
     go text_fault.E03 h = absurd (let w = r.within in let l = h.cause in omega arith)
@@ -70,7 +70,7 @@ unread left left' text (Refused (refusal.Text fault place)) r h = go fault h
 -- the rejection of a text is no failure of the reader
 pub text_was_read : (T : Type 0) (text : List ℕ) (u : Rejection) → IsRejection text u → is_input_failure {T = T} (Err u) ≡ false
 text_was_read T text Memory h = refl
-text_was_read T text (Refused (refusal.Text fault place)) h = refl
+text_was_read T text (Refused (refusal.Text fault position)) h = refl
 text_was_read T text (Refused (refusal.Check fault line column)) h = refl
 text_was_read T text (Refused (refusal.Pattern fault)) h = absurd h
 text_was_read T text (Refused (refusal.Mark fault)) h = absurd h
@@ -141,7 +141,7 @@ gate_means Means words left left' system _ read means gate_memory = taken_all le
 -- what is refused of the input is refused of a question
 pub input_refused : (strong : Bool) (words : List (List ℕ)) (left left' : Option (List ℕ)) (cause : Refusal) → IsInputRefusal left left' cause →
     IsRefusal strong words left left' cause
-input_refused strong words left left' (refusal.Text fault place) h = h
+input_refused strong words left left' (refusal.Text fault position) h = h
 input_refused strong words left left' (refusal.Check fault line column) h = h
 input_refused strong words left left' (refusal.Pattern fault) h = absurd h
 input_refused strong words left left' (refusal.Mark fault) h = absurd h

@@ -123,7 +123,7 @@ module _ (request : SearchRequest) (left left' : Option (List ℕ)) where
   input_rejects u h = input_means (IsSearchRefusal request) left left' u means h
     where
       means : (cause : Refusal) → IsInputRefusal left left' cause → IsSearchRefusal request left left' cause
-      means (refusal.Text fault place) h = h
+      means (refusal.Text fault position) h = h
       means (refusal.Check fault line column) h = h
       means (refusal.Pattern fault) h = absurd h
       means (refusal.Mark fault) h = absurd h

@@ -25,9 +25,9 @@ pub record IsEverQuestionFor (system : System) (p : Pattern) (q : MatchQuestion)
 
 -- the line of the first match, or `None` if the question has no match
 abbrev pub IsLineOf : EverRequest → MatchQuestion → Option (Vec ℕ Global) → Type 0
-IsLineOf request q None = (word : List Label) → IsMatchOf q word → ⊥
+IsLineOf request q None = (run : List Label) → IsMatchOf q run → ⊥
 IsLineOf request q (Some line) =
-    (word : List Label) × IsFirstMatchOf q word × (line.items ≡ line_of request.explain (item_of q word))
+    (run : List Label) × IsFirstMatchOf q run × (line.items ≡ line_of request.explain (item_of q run))
 
 -- the line of the first match of the pattern in the system, or `None` if there is no match
 abbrev pub HasLine : EverRequest → System → Pattern → Option (Vec ℕ Global) → Type 0

@@ -12,12 +12,12 @@ use Rattle.lotos_listing.specs.Question.{ArePrinted}
 -- an item of a listing: a sequence, and its least run; or what is observed of a match, and its run
 pub record Item : Type 0 where
   pub sequence : List Label
-  pub word : List Label
+  pub run : List Label
 
 -- the labels of a sequence and of its run have the printed texts that the item has
-pub record IsItemOf (names : List Name) (labels run : List TermLabel) (item : Item) : Type 0 where
+pub record IsItemOf (names : List Name) (labels run_labels : List TermLabel) (item : Item) : Type 0 where
   pub sequence : ArePrinted names labels item.sequence
-  pub word : ArePrinted names run item.word
+  pub run : ArePrinted names run_labels item.run
 
 -- the sequences of items
 abbrev pub sequences : List Item → List (List Label)
@@ -30,12 +30,12 @@ sequence_text (l ∷ rest) = l ++ flat_map (λ m. 32 ∷ m) rest
 
 -- what follows the sequence in a line: nothing, or with `explain` ` : ` and the run
 abbrev pub run_text : (explain : Bool) → List Label → List ℕ
-run_text false word = []
-run_text true word = codes " : " ++ sequence_text word
+run_text false run = []
+run_text true run = codes " : " ++ sequence_text run
 
 -- the line of an item, ended by a line feed
 abbrev pub line_of : (explain : Bool) → Item → List ℕ
-line_of explain item = sequence_text item.sequence ++ run_text explain item.word ++ 10 ∷ []
+line_of explain item = sequence_text item.sequence ++ run_text explain item.run ++ 10 ∷ []
 
 -- the lines of a list of items
 abbrev pub lines_of : (explain : Bool) → List Item → List ℕ

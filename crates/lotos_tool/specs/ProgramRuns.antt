@@ -125,20 +125,20 @@ pub record EverRan (words : List (List ℕ)) (left left' got got' : Option (List
 
 -- the text was written and the status is 0, or the output failed after a prefix of it, perhaps all of it, and the
 -- status is 6
-pub data HelpWritten (got got' : Option (List ℕ)) (text : List ℕ) (status : ℕ) : Type 0 where
-  written : status ≡ 0 → Appends got got' text → HelpWritten got got' text status
-  broken_off : status ≡ 6 → AppendsBeginning got got' text → HelpWritten got got' text status
+pub data TextWritten (got got' : Option (List ℕ)) (text : List ℕ) (status : ℕ) : Type 0 where
+  written : status ≡ 0 → Appends got got' text → TextWritten got got' text status
+  broken_off : status ≡ 6 → AppendsBeginning got got' text → TextWritten got got' text status
 
 -- what is written for a fault of the words, and the status
 abbrev pub IsAnswerTo : CommandFault → Option (List ℕ) → Option (List ℕ) → ℕ → Type 0
-IsAnswerTo (fault.Help text) got got' status = HelpWritten got got' (string_bytes text) status
+IsAnswerTo (fault.Help text) got got' status = TextWritten got got' (string_bytes text) status
 IsAnswerTo (fault.Wrong text) got got' status = (status ≡ 2) × Keeps got got'
 IsAnswerTo fault.Memory got got' status = (status ≡ 5) × Keeps got got'
 
 -- the output and the status if no command ran
 pub data MessageOutput (words : List (List ℕ)) (got got' : Option (List ℕ)) (status : ℕ) : Type 0 where
   -- help or the version, if the words ask for it; which text it is stays open
-  helped : AskForHelp words → (text : List ℕ) → HelpWritten got got' text status → MessageOutput words got got' status
+  helped : AskForHelp words → (text : List ℕ) → TextWritten got got' text status → MessageOutput words got got' status
   -- nothing and 2, if the words fit no command
   wrong : AreRejected words → status ≡ 2 → Keeps got got' → MessageOutput words got got' status
   -- nothing and 5, if memory ran out

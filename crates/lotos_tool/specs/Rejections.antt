@@ -25,7 +25,7 @@ use Rattle.lotos_tool.specs.declared.rejection.Rejection.TheVariants.{Refused, M
 
 -- what a rejection of a text that is not too long means
 abbrev pub IsRejection : List ℕ → Rejection → Type 0
-IsRejection text (Refused (refusal.Text fault place)) = IsTextFault text fault place
+IsRejection text (Refused (refusal.Text fault position)) = IsTextFault text fault position
 IsRejection text (Refused (refusal.Check fault line column)) = IsCheckFault text fault line column
 IsRejection text (Refused _) = ⊥
 IsRejection text Memory = Unit {0}

@@ -25,10 +25,11 @@ pub fn run_args<R: Source, W: Sink, E: Write>(
     requires reader { R.has_failed reader.old ≡ false }
     requires out { W.has_failed out.old ≡ false }
     ensures ran { MatchResult args
-        (λ words. Ran (map string_bytes (into_iter_items words)) (R.left reader.old) (R.left reader.new)
-        (W.got out.old) (W.got out.new) (R.has_failed reader.new) result)
-        (λ _. NoArgumentRead (R.left reader.old) (R.left reader.new)
-        (W.got out.old) (W.got out.new) (R.has_failed reader.new) result) }
+        (λ words. Ran (map string_bytes (into_iter_items words))
+        (R.remaining reader.old) (R.remaining reader.new)
+        (W.written out.old) (W.written out.new) (R.has_failed reader.new) result)
+        (λ _. NoArgumentRead (R.remaining reader.old) (R.remaining reader.new)
+        (W.written out.old) (W.written out.new) (R.has_failed reader.new) result) }
     ensures given { R.given reader.new ≤ R.given reader.old + (max_text_length + 1) }
     ensures output { W.has_failed out.new ≡ (result == 6) }
 {
@@ -62,8 +63,8 @@ fn run_words<R: Source, W: Sink, E: Write>(
 ) -> u8
     requires reader { R.has_failed reader.old ≡ false }
     requires out { W.has_failed out.old ≡ false }
-    ensures ran { Ran (map string_bytes words.now) (R.left reader.old) (R.left reader.new)
-        (W.got out.old) (W.got out.new) (R.has_failed reader.new) result }
+    ensures ran { Ran (map string_bytes words.now) (R.remaining reader.old) (R.remaining reader.new)
+        (W.written out.old) (W.written out.new) (R.has_failed reader.new) result }
     ensures given { R.given reader.new ≤ R.given reader.old + (max_text_length + 1) }
     ensures output { W.has_failed out.new ≡ (result == 6) }
 {

@@ -26,8 +26,8 @@ use std::alloc::Global;
 pub fn check_text<R: Source, W: Sink>(alloc: Global, reader: &mut R, writer: &mut W) -> Ended
     requires reader { R.has_failed reader.old ≡ false }
     requires writer { W.has_failed writer.old ≡ false }
-    ensures answers { CheckOutcome (R.left reader.old) (R.left reader.new) (W.got writer.old)
-        (W.got writer.new) result }
+    ensures answers { CheckOutcome (R.remaining reader.old) (R.remaining reader.new) (W.written writer.old)
+        (W.written writer.new) result }
     ensures given { R.given reader.new ≤ R.given reader.old + (max_text_length + 1) }
     ensures input { R.has_failed reader.new ≡ is_input_fault result }
     ensures output { W.has_failed writer.new ≡ is_output_fault result }
@@ -42,7 +42,7 @@ pub fn check_text<R: Source, W: Sink>(alloc: Global, reader: &mut R, writer: &mu
 /// Writes a line for each process of an accepted specification, and flushes the output if no write fails.
 pub fn write_processes<W: Sink>(alloc: Global, system: &Checked, writer: &mut W) -> Ended
     requires { W.has_failed writer.old ≡ false }
-    ensures outcome { ProcessesOutcome (system_of system.now) (W.got writer.old) (W.got writer.new) result }
+    ensures outcome { ProcessesOutcome (system_of system.now) (W.written writer.old) (W.written writer.new) result }
     ensures failed { W.has_failed writer.new ≡ is_output_fault result }
 {
     let Ok(lines) = format_processes(alloc, system.processes()) else {

@@ -34,8 +34,8 @@ pub fn diagnose<R: Source, W: Sink, E: Write>(
 ) -> u8
     requires reader { R.has_failed reader.old ≡ false }
     requires out { W.has_failed out.old ≡ false }
-    ensures reported { CheckReported (R.left reader.old) (R.left reader.new)
-        (W.got out.old) (W.got out.new) (R.has_failed reader.new) result }
+    ensures reported { CheckReported (R.remaining reader.old) (R.remaining reader.new)
+        (W.written out.old) (W.written out.new) (R.has_failed reader.new) result }
     ensures given { R.given reader.new ≤ R.given reader.old + (max_text_length + 1) }
     ensures output { W.has_failed out.new ≡ (result == 6) }
 {
@@ -55,7 +55,7 @@ fn diagnose_text<W: Sink, E: Write>(
 ) -> u8
     requires text { length text.now ≤ max_text_length }
     requires out { W.has_failed out.old ≡ false }
-    ensures reported { TextReported text.now (W.got out.old) (W.got out.new) result }
+    ensures reported { TextReported text.now (W.written out.old) (W.written out.new) result }
     ensures output { W.has_failed out.new ≡ (result == 6) }
 {
     match parse_text(alloc, text) {
@@ -76,7 +76,7 @@ fn diagnose_parsed<W: Sink, E: Write>(
     requires text { length text.now ≤ max_text_length }
     requires parsed { IsParsed text.now (definition_view specification.now.whole) }
     requires out { W.has_failed out.old ≡ false }
-    ensures reported { TextReported text.now (W.got out.old) (W.got out.new) result }
+    ensures reported { TextReported text.now (W.written out.old) (W.written out.new) result }
     ensures output { W.has_failed out.new ≡ (result == 6) }
 {
     match check_parsed(alloc, text, specification) {
@@ -101,7 +101,7 @@ fn report_processes<W: Sink, E: Write>(
 ) -> u8
     requires accepted { IsAccepted (definition_view specification.now.whole) (system_of system.now) }
     requires out { W.has_failed out.old ≡ false }
-    ensures reported { ProcessesReported (system_of system.now) (W.got out.old) (W.got out.new) result }
+    ensures reported { ProcessesReported (system_of system.now) (W.written out.old) (W.written out.new) result }
     ensures output { W.has_failed out.new ≡ (result == 6) }
 {
     let ended = write_processes(alloc, system, out);
@@ -122,8 +122,8 @@ fn warn<E: Write>(
 )
     requires { IsAccepted (definition_view specification.now.whole) (system_of system.now) }
 {
-    if let Ok(found) = warnings(alloc, specification, system) {
-        write_warnings(err, text, found.as_slice());
+    if let Ok(list) = warnings(alloc, specification, system) {
+        write_warnings(err, text, list.as_slice());
     }
 }
 

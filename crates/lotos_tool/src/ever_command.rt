@@ -49,8 +49,8 @@ pub fn ever<R: Source, W: Sink, P: OutputProgress>(
 ) -> EverEnded
     requires reader { R.has_failed reader.old ≡ false }
     requires writer { W.has_failed writer.old ≡ false }
-    ensures answers { EverOutcome request.now (R.left reader.old) (R.left reader.new)
-        (W.got writer.old) (W.got writer.new) result }
+    ensures answers { EverOutcome request.now (R.remaining reader.old) (R.remaining reader.new)
+        (W.written writer.old) (W.written writer.new) result }
     ensures given { R.given reader.new ≤ R.given reader.old + (max_text_length + 1) }
     ensures input { R.has_failed reader.new ≡ is_ever_input_fault result }
     ensures output { W.has_failed writer.new ≡ is_ever_output_fault result }
@@ -70,9 +70,10 @@ fn read_parts<R: Source, P: OutputProgress>(
 ) -> Result<(Pattern, Checked), Rejection>
     requires reader { R.has_failed reader.old ≡ false }
     ensures parts { IfOk result (λ (pattern, system).
-        AreEverParts request.now (R.left reader.old) (R.left reader.new) (system_of system) pattern) }
+        AreEverParts request.now (R.remaining reader.old) (R.remaining reader.new) (system_of system)
+        pattern) }
     ensures rejected { IfErr result (IsRejectionBy (IsRefusal request.now.strong (words_of request.now.words))
-        (R.left reader.old) (R.left reader.new)) }
+        (R.remaining reader.old) (R.remaining reader.new)) }
     ensures given { R.given reader.new ≤ R.given reader.old + (max_text_length + 1) }
     ensures failed { R.has_failed reader.new ≡ is_input_failure result }
 {
@@ -94,7 +95,7 @@ fn write_match<W: Sink, P: OutputProgress>(
 ) -> EverEnded
     requires { W.has_failed writer.old ≡ false }
     ensures outcome { IsOutcomeFor request.now (system_of system) pattern.now
-        (W.got writer.old) (W.got writer.new) result }
+        (W.written writer.old) (W.written writer.new) result }
     ensures failed { W.has_failed writer.new ≡ is_ever_output_fault result }
 {
     match find_match_line(alloc, request, system, pattern, progress) {
@@ -164,7 +165,7 @@ fn format_match(
 /// Writes the line of a match and flushes the output. Returns how the command ends.
 fn write_line<W: Sink>(writer: &mut W, line: &[u8]) -> EverEnded
     requires { W.has_failed writer.old ≡ false }
-    ensures written { IsWritten line.now (W.got writer.old) (W.got writer.new) result }
+    ensures written { IsWritten line.now (W.written writer.old) (W.written writer.new) result }
     ensures failed { W.has_failed writer.new ≡ is_ever_output_fault result }
 {
     match write_and_flush(writer, line) {
@@ -176,7 +177,7 @@ fn write_line<W: Sink>(writer: &mut W, line: &[u8]) -> EverEnded
 /// Flushes the output, to which nothing was written as there is no match. Returns how the command ends.
 fn end_without_match<W: Sink>(writer: &mut W) -> EverEnded
     requires { W.has_failed writer.old ≡ false }
-    ensures ends { IsEndWithoutMatch (W.got writer.old) (W.got writer.new) result }
+    ensures ends { IsEndWithoutMatch (W.written writer.old) (W.written writer.new) result }
     ensures failed { W.has_failed writer.new ≡ is_ever_output_fault result }
 {
     match writer.flush() {

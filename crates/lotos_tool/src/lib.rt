@@ -3,9 +3,9 @@
 //!
 //! [`request`] reads the words, [`list`] reads a text and writes the listing, [`check_text`] reads a text and writes
 //! its processes, [`ever`] reads a text and writes the first of the shortest matches, and [`run`] does what the words
-//! ask for and returns the exit status. [`report_search`], [`report_check`], [`report_ever`] and [`answer_fault`] write
-//! the messages of [`run`]. [`run_args`] runs it on the arguments of a process. Readers and writers are a [`Source`] and
-//! a [`Sink`]; [`FromRead`] and [`FromWrite`] make them from std's.
+//! ask for and returns the exit status. [`report_search`], [`report_check`], [`report_ever`] and
+//! [`report_command_fault`] write the messages of [`run`]. [`run_args`] runs it on the arguments of a process. Readers
+//! and writers are a [`Source`] and a [`Sink`]; [`FromRead`] and [`FromWrite`] make them from std's.
 #![tactic(auto)]
 
 mod arguments;
@@ -36,5 +36,5 @@ pub use lotos_device::{DeviceFailed, FromRead, FromWrite, Sink, Source};
 pub use lotos_listing::{NoProgress, Progress};
 pub use lotos_report::{Ended, EverEnded, EverWhy, Messages, Refusal, Why};
 pub use output_progress::OutputProgress;
-pub use program::{answer_fault, report_check, report_ever, report_search, run};
+pub use program::{report_check, report_command_fault, report_ever, report_search, run};
 pub use search_command::list;

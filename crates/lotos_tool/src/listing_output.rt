@@ -36,7 +36,7 @@ pub fn write_listing<W: Sink, P: OutputProgress>(
     requires limit { IfSome request.now.limit (λ n. 1 ≤ n) }
     requires unfailed { W.has_failed writer.old ≡ false }
     ensures ends { ListingOutcome request.now search.old.question search.old.cursor
-        (W.got writer.old) (W.got writer.new) result }
+        (W.written writer.old) (W.written writer.new) result }
     ensures failed { W.has_failed writer.new ≡ is_output_fault result }
 {
     items_decrease_remaining();
@@ -79,15 +79,15 @@ fn write_item<W: Sink>(
     requires unfailed { W.has_failed writer.old ≡ false }
     ensures whole { OnOk result ((item : Item) →
         IsItemOf search.now.question.names found.now.sequence.items found.now.word.items item →
-        Appends (W.got writer.old) (W.got writer.new) (line_of explain item)) }
+        Appends (W.written writer.old) (W.written writer.new) (line_of explain item)) }
     ensures text { IfOk result (λ text. (item : Item) →
         IsItemOf search.now.question.names found.now.sequence.items found.now.word.items item →
         string_bytes text ≡ sequence_text item.sequence) }
-    ensures memory { IsErrOf result Why.Memory → Keeps (W.got writer.old) (W.got writer.new) }
+    ensures memory { IsErrOf result Why.Memory → Keeps (W.written writer.old) (W.written writer.new) }
     ensures part { IsErrOf result Why.Write →
         (item : Item) →
         IsItemOf search.now.question.names found.now.sequence.items found.now.word.items item →
-        AppendsPart (W.got writer.old) (W.got writer.new) (line_of explain item) }
+        AppendsPart (W.written writer.old) (W.written writer.new) (line_of explain item) }
     ensures causes { IfErr result (λ why. (why ≡ Why.Memory) ⊎ (why ≡ Why.Write)) }
     ensures failed { W.has_failed writer.new ≡ is_write_fault result }
 {
@@ -118,7 +118,7 @@ fn is_at_limit(lines: u64, limit: Option<u32>) -> bool
 fn cause_of_halt<W: Sink>(alloc: Global, search: &Search, halt: &Halt, writer: &mut W) -> Why
     requires halt { (cursor : Option (List Text)) × IsHalt search.now.question cursor halt.now }
     requires unfailed { W.has_failed writer.old ≡ false }
-    ensures kept { Keeps (W.got writer.old) (W.got writer.new) }
+    ensures kept { Keeps (W.written writer.old) (W.written writer.new) }
     ensures cause { (cursor : Option (List Text)) → IsHalt search.now.question cursor halt.now →
         IsHaltCause search.now.question cursor (W.has_failed writer.new) result }
 {
@@ -134,7 +134,7 @@ fn cause_of_halt<W: Sink>(alloc: Global, search: &Search, halt: &Halt, writer: &
 fn oversized_cause<W: Sink>(alloc: Global, search: &Search, prefix: &[Label], writer: &mut W) -> Why
     requires printed { (r : List Text) × ArePrinted search.now.question.names prefix.now r }
     requires unfailed { W.has_failed writer.old ≡ false }
-    ensures kept { Keeps (W.got writer.old) (W.got writer.new) }
+    ensures kept { Keeps (W.written writer.old) (W.written writer.new) }
     ensures cause { (r : List Text) → ArePrinted search.now.question.names prefix.now r →
         IsOversizedCause r (W.has_failed writer.new) result }
 {

@@ -12,7 +12,7 @@ use lotos_report::{Ended, Why};
 /// the flush fails.
 pub fn flush_complete<W: Sink>(writer: &mut W, last: Option<String>, lines: u64) -> Ended
     requires { W.has_failed writer.old ≡ false }
-    ensures finished { IsFinished (W.got writer.old) (W.got writer.new) last lines result }
+    ensures finished { IsFinished (W.written writer.old) (W.written writer.new) last lines result }
     ensures failed { W.has_failed writer.new ≡ is_output_fault result }
 {
     match writer.flush() {
@@ -27,7 +27,7 @@ pub fn flush_complete<W: Sink>(writer: &mut W, last: Option<String>, lines: u64)
 /// Flushes output that stopped for this cause. Returns the cause, or [`Why::Write`] if the flush fails.
 pub fn flush_stopped<W: Sink>(writer: &mut W, why: Why) -> Why
     requires { W.has_failed writer.old ≡ false }
-    ensures kept { Keeps (W.got writer.old) (W.got writer.new) }
+    ensures kept { Keeps (W.written writer.old) (W.written writer.new) }
     ensures cause { result ≡ (if W.has_failed writer.new then Why.Write else why) }
 {
     match writer.flush() {
@@ -39,8 +39,9 @@ pub fn flush_stopped<W: Sink>(writer: &mut W, why: Why) -> Why
 /// Writes the bytes, which are the whole output, and flushes it once if no write fails.
 pub fn write_and_flush<W: Sink>(writer: &mut W, bytes: &[u8]) -> Result<(), DeviceFailed>
     requires { W.has_failed writer.old ≡ false }
-    ensures whole { OnOk result (Appends (W.got writer.old) (W.got writer.new) bytes.now) }
-    ensures beginning { OnErr result (AppendsBeginning (W.got writer.old) (W.got writer.new) bytes.now) }
+    ensures whole { OnOk result (Appends (W.written writer.old) (W.written writer.new) bytes.now) }
+    ensures beginning { OnErr result
+        (AppendsBeginning (W.written writer.old) (W.written writer.new) bytes.now) }
     ensures failed { W.has_failed writer.new ≡ is_err result }
 {
     write_bytes(writer, bytes)?;

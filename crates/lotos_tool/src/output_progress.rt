@@ -7,14 +7,14 @@ use lotos_listing::{NoProgress, Progress};
 /// when a line is written.
 pub trait OutputProgress: Progress {
     /// Is told that the text is accepted, and what was found of it.
-    fn accepted(&mut self, text: &[u8], found: &AcceptedText);
+    fn accepted(&mut self, text: &[u8], accepted_text: &AcceptedText);
 
     /// Is told that a line of the output is written next.
     fn before_line(&mut self);
 }
 
 impl OutputProgress for NoProgress {
-    fn accepted(&mut self, _text: &[u8], _found: &AcceptedText) {}
+    fn accepted(&mut self, _text: &[u8], _accepted_text: &AcceptedText) {}
 
     fn before_line(&mut self) {}
 }

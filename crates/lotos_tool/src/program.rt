@@ -3,8 +3,9 @@ ghost use Rattle.std.specs.Prelude.{◌≡◌, ◌+◌, ◌≤◌, ◌==◌, fal
 ghost use Rattle.lotos_text.specs.Limits.{max_text_length};
 ghost use Rattle.lotos_tool.specs.OutcomeFlags.{is_output_cause, is_output_fault};
 ghost use Rattle.lotos_tool.specs.EverOutcome.{is_ever_output_cause, is_ever_output_fault};
-ghost use Rattle.lotos_command.specs.Request.{HasSearchBounds, texts_of};
-ghost use Rattle.lotos_tool.specs.ProgramRuns.{EverReported, HelpWritten, IsAnswerTo, Ran, SearchReported, check_status_of, ever_status_of, ever_stop_status_of, status_of, stop_status_of};
+ghost use Rattle.lotos_command.specs.Request.{HasSearchBounds};
+ghost use Rattle.lotos_pattern.specs.Spelling.{texts_of};
+ghost use Rattle.lotos_tool.specs.ProgramRuns.{EverReported, IsAnswerTo, Ran, SearchReported, TextWritten, check_status_of, ever_status_of, ever_stop_status_of, status_of, stop_status_of};
 
 use crate::check_command::check_text;
 use crate::diagnosis::diagnose;
@@ -38,8 +39,8 @@ pub fn run<R: Source, W: Sink, E: Write>(
 ) -> u8
     requires reader { R.has_failed reader.old ≡ false }
     requires out { W.has_failed out.old ≡ false }
-    ensures ran { Ran (texts_of words.now) (R.left reader.old) (R.left reader.new)
-        (W.got out.old) (W.got out.new) (R.has_failed reader.new) result }
+    ensures ran { Ran (texts_of words.now) (R.remaining reader.old) (R.remaining reader.new)
+        (W.written out.old) (W.written out.new) (R.has_failed reader.new) result }
     ensures given { R.given reader.new ≤ R.given reader.old + (max_text_length + 1) }
     ensures output { W.has_failed out.new ≡ (result == 6) }
 {
@@ -64,8 +65,8 @@ fn run_search<R: Source, W: Sink, E: Write>(
     requires bounds { HasSearchBounds request.now }
     requires reader { R.has_failed reader.old ≡ false }
     requires out { W.has_failed out.old ≡ false }
-    ensures reported { SearchReported request.now (R.left reader.old) (R.left reader.new)
-        (W.got out.old) (W.got out.new) (R.has_failed reader.new) result }
+    ensures reported { SearchReported request.now (R.remaining reader.old) (R.remaining reader.new)
+        (W.written out.old) (W.written out.new) (R.has_failed reader.new) result }
     ensures given { R.given reader.new ≤ R.given reader.old + (max_text_length + 1) }
     ensures output { W.has_failed out.new ≡ (result == 6) }
 {
@@ -101,8 +102,8 @@ fn run_ever<R: Source, W: Sink, E: Write>(
 ) -> u8
     requires reader { R.has_failed reader.old ≡ false }
     requires out { W.has_failed out.old ≡ false }
-    ensures reported { EverReported request.now (R.left reader.old) (R.left reader.new)
-        (W.got out.old) (W.got out.new) (R.has_failed reader.new) result }
+    ensures reported { EverReported request.now (R.remaining reader.old) (R.remaining reader.new)
+        (W.written out.old) (W.written out.new) (R.has_failed reader.new) result }
     ensures given { R.given reader.new ≤ R.given reader.old + (max_text_length + 1) }
     ensures output { W.has_failed out.new ≡ (result == 6) }
 {
@@ -135,24 +136,24 @@ fn end_without_command<W: Sink, E: Write>(
     err: &mut E,
 ) -> u8
     requires { W.has_failed out.old ≡ false }
-    ensures answer { IsAnswerTo fault.now (W.got out.old) (W.got out.new) result }
+    ensures answer { IsAnswerTo fault.now (W.written out.old) (W.written out.new) result }
     ensures output { W.has_failed out.new ≡ (result == 6) }
 {
-    let status = answer_fault(fault, out, err);
+    let status = report_command_fault(fault, out, err);
     hint_after_fault(fault, words, err);
     status
 }
 
 /// Writes the help or the version that the words ask for to `out`, or reports to `err` why they make no request. Returns
-/// the status: 0 for help, 2 for words that fit no command, 5 out of memory, and 6 if the output fails, which must not
-/// have failed before. The text that says why words fit no command has line feeds of its own.
-pub fn answer_fault<W: Sink, E: Write>(fault: &CommandFault, out: &mut W, err: &mut E) -> u8
+/// the status: 0 for help or the version, 2 for words that fit no command, 5 out of memory, and 6 if the output fails,
+/// which must not have failed before. The text that says why words fit no command has line feeds of its own.
+pub fn report_command_fault<W: Sink, E: Write>(fault: &CommandFault, out: &mut W, err: &mut E) -> u8
     requires { W.has_failed out.old ≡ false }
-    ensures answer { IsAnswerTo fault.now (W.got out.old) (W.got out.new) result }
+    ensures answer { IsAnswerTo fault.now (W.written out.old) (W.written out.new) result }
     ensures output { W.has_failed out.new ≡ (result == 6) }
 {
     match fault {
-        CommandFault::Help(text) => write_help(text.as_str(), out, err),
+        CommandFault::Help(text) => write_text(text.as_str(), out, err),
         CommandFault::Wrong(text) => {
             report_text(err, text.as_str());
             2
@@ -249,10 +250,10 @@ fn stop_status(why: &Why) -> u8
     }
 }
 
-/// Writes the help and returns the status, 0, or 6 if the output fails.
-fn write_help<W: Sink, E: Write>(text: &str, out: &mut W, err: &mut E) -> u8
+/// Writes the help or the version and returns the status, 0, or 6 if the output fails.
+fn write_text<W: Sink, E: Write>(text: &str, out: &mut W, err: &mut E) -> u8
     requires { W.has_failed out.old ≡ false }
-    ensures printed { HelpWritten (W.got out.old) (W.got out.new) text.now result }
+    ensures printed { TextWritten (W.written out.old) (W.written out.new) text.now result }
     ensures output { W.has_failed out.new ≡ (result == 6) }
 {
     match write_and_flush(out, text.as_bytes()) {

@@ -51,8 +51,8 @@ pub fn list<R: Source, W: Sink, P: OutputProgress>(
     requires bounds { HasSearchBounds request.now }
     requires reader { R.has_failed reader.old ≡ false }
     requires writer { W.has_failed writer.old ≡ false }
-    ensures answers { SearchOutcome request.now (R.left reader.old) (R.left reader.new)
-        (W.got writer.old) (W.got writer.new) result }
+    ensures answers { SearchOutcome request.now (R.remaining reader.old) (R.remaining reader.new)
+        (W.written writer.old) (W.written writer.new) result }
     ensures given { R.given reader.new ≤ R.given reader.old + (max_text_length + 1) }
     ensures input { R.has_failed reader.new ≡ is_input_fault result }
     ensures output { W.has_failed writer.new ≡ is_output_fault result }
@@ -75,9 +75,10 @@ fn read_parts<R: Source, P: OutputProgress>(
 ) -> Result<(Pattern, Option<Mark>, Checked), Rejection>
     requires reader { R.has_failed reader.old ≡ false }
     ensures parts { IfOk result (λ (pattern, mark, system).
-        AreSearchParts request.now (R.left reader.old) (R.left reader.new) (system_of system) pattern mark) }
+        AreSearchParts request.now (R.remaining reader.old) (R.remaining reader.new) (system_of system)
+        pattern mark) }
     ensures rejected { IfErr result (IsRejectionBy (IsSearchRefusal request.now)
-        (R.left reader.old) (R.left reader.new)) }
+        (R.remaining reader.old) (R.remaining reader.new)) }
     ensures given { R.given reader.new ≤ R.given reader.old + (max_text_length + 1) }
     ensures failed { R.has_failed reader.new ≡ is_input_failure result }
 {
@@ -101,7 +102,7 @@ fn list_system<W: Sink, P: OutputProgress>(
     requires bounds { HasSearchBounds request.now }
     requires writer { W.has_failed writer.old ≡ false }
     ensures outcome { IsOutcomeFor request.now (system_of system) pattern mark
-        (W.got writer.old) (W.got writer.new) result }
+        (W.written writer.old) (W.written writer.new) result }
     ensures failed { W.has_failed writer.new ≡ is_output_fault result }
 {
     match begin_search(alloc, request, system, pattern, mark) {

@@ -64,15 +64,15 @@ impl<E: Write> Progress for SearchObserver<'_, '_, E> {
 }
 
 impl<E: Write> OutputProgress for SearchObserver<'_, '_, E> {
-    fn accepted(&mut self, text: &[u8], found: &AcceptedText) {
-        let gates = found.system.gates();
+    fn accepted(&mut self, text: &[u8], accepted_text: &AcceptedText) {
+        let gates = accepted_text.system.gates();
         let Ok(names) = unknown_names(self.alloc, self.observed.words, gates) else {
             return;
         };
         let places = NamePlaces {
             gates,
             text,
-            specification: &found.specification,
+            specification: &accepted_text.specification,
         };
         if self.observed.refuses_unknown {
             self.hint = first_name_hint(self.alloc, names.as_slice(), &places);

@@ -26,16 +26,17 @@ pub fn read_specification<R: Source, P: OutputProgress>(
     progress: &mut P,
 ) -> Result<Checked, Rejection>
     requires { R.has_failed reader.old ≡ false }
-    ensures accepted { IfOk result (λ found.
-        ReadsAccepted (R.left reader.old) (R.left reader.new) (system_of found)) }
-    ensures refused { IfErr result (IsRejectionBy IsInputRefusal (R.left reader.old) (R.left reader.new)) }
+    ensures accepted { IfOk result (λ system.
+        ReadsAccepted (R.remaining reader.old) (R.remaining reader.new) (system_of system)) }
+    ensures refused { IfErr result
+        (IsRejectionBy IsInputRefusal (R.remaining reader.old) (R.remaining reader.new)) }
     ensures given { R.given reader.new ≤ R.given reader.old + (max_text_length + 1) }
     ensures failed { R.has_failed reader.new ≡ is_input_failure result }
 {
     let text = read_input(alloc, reader)?;
-    let found = accept_text(alloc, text.as_slice())?;
-    progress.accepted(text.as_slice(), &found);
-    Ok(found.system)
+    let accepted_text = accept_text(alloc, text.as_slice())?;
+    progress.accepted(text.as_slice(), &accepted_text);
+    Ok(accepted_text.system)
 }
 
 /// Reads a whole text. At most one byte more than a text may have is taken from the reader, whatever it returns. The
@@ -43,8 +44,9 @@ pub fn read_specification<R: Source, P: OutputProgress>(
 pub fn read_input<R: Source>(alloc: Global, reader: &mut R) -> Result<Vec<u8>, Rejection>
     requires { R.has_failed reader.old ≡ false }
     ensures whole { IfOk result (λ text.
-        ReadsAll (R.left reader.old) (R.left reader.new) max_text_length text.items) }
-    ensures refused { IfErr result (IsRejectionBy IsInputRefusal (R.left reader.old) (R.left reader.new)) }
+        ReadsAll (R.remaining reader.old) (R.remaining reader.new) max_text_length text.items) }
+    ensures refused { IfErr result
+        (IsRejectionBy IsInputRefusal (R.remaining reader.old) (R.remaining reader.new)) }
     ensures given { R.given reader.new ≤ R.given reader.old + (max_text_length + 1) }
     ensures failed { R.has_failed reader.new ≡ is_input_failure result }
 {
@@ -62,11 +64,11 @@ pub fn read_input<R: Source>(alloc: Global, reader: &mut R) -> Result<Vec<u8>, R
 /// Accepts a text; the rejection of one that is not accepted has the line and the column of its fault.
 fn accept_text(alloc: Global, text: &[u8]) -> Result<AcceptedText, Rejection>
     requires { length text.now ≤ max_text_length }
-    ensures accepted { IfOk result (λ found. Accepted text.now (system_of found.system)) }
+    ensures accepted { IfOk result (λ accepted_text. Accepted text.now (system_of accepted_text.system)) }
     ensures refused { IfErr result (IsRejection text.now) }
 {
     match accept(alloc, text) {
-        Ok(found) => Ok(found),
+        Ok(accepted_text) => Ok(accepted_text),
         Err(fault) => Err(reject(text, fault)),
     }
 }
@@ -77,21 +79,24 @@ pub fn reject(text: &[u8], fault: AcceptFault) -> Rejection
     requires inside { IfSome (accept_offset fault) (λ at. at ≤ length text.now) }
     ensures { IsRejection text.now result }
 {
-    let place = position_of(text, &fault);
+    let position = position_of(text, &fault);
     match fault {
-        AcceptFault::Text(fault) => Rejection::Refused(Refusal::Text { fault, place }),
-        AcceptFault::Check(fault) => reject_check(text, fault, place),
+        AcceptFault::Text(fault) => Rejection::Refused(Refusal::Text {
+            fault,
+            place: position,
+        }),
+        AcceptFault::Check(fault) => reject_check(text, fault, position),
         AcceptFault::Memory => Rejection::Memory,
     }
 }
 
 /// The rejection for a fault of the static check, which has a position.
-fn reject_check(text: &[u8], fault: CheckFault, place: Option<(usize, usize)>) -> Rejection
+fn reject_check(text: &[u8], fault: CheckFault, position: Option<(usize, usize)>) -> Rejection
     requires fault { IsRejectedSpecification text.now fault }
-    requires place { IsPositionOf text.now (offset_of fault) place }
+    requires position { IsPositionOf text.now (offset_of fault) position }
     ensures { IsRejection text.now result }
 {
-    match place {
+    match position {
         Some((line, column)) => Rejection::Refused(Refusal::Check {
             fault,
             line,

@@ -12,7 +12,7 @@ pub(crate) fn unknown_names<'a>(
     words: &'a [String],
     gates: &[Name],
 ) -> Result<Vec<UnknownName<'a>>, AllocError> {
-    let mut found = Vec::new(alloc);
+    let mut unknown = Vec::new(alloc);
     let mut seen = IndexSet::new(alloc);
     for number in 0..words.len() {
         add_unknown(
@@ -21,10 +21,10 @@ pub(crate) fn unknown_names<'a>(
             words[number].as_str(),
             gates,
             &mut seen,
-            &mut found,
+            &mut unknown,
         )?;
     }
-    Ok(found)
+    Ok(unknown)
 }
 
 /// Adds the names in a word that are no gates and that were not seen before. Nothing is allocated for a gate.
@@ -34,14 +34,14 @@ fn add_unknown<'a>(
     word: &'a str,
     gates: &[Name],
     seen: &mut IndexSet<String>,
-    found: &mut Vec<UnknownName<'a>>,
+    unknown: &mut Vec<UnknownName<'a>>,
 ) -> Result<(), AllocError> {
     for name in word.split(',') {
         if is_gate(name, gates) || !is_unknown_gate(alloc, name, gates)? {
             continue;
         }
         if seen.insert(name.to_ascii_uppercase(alloc)?)? {
-            found.push(UnknownName { word: number, name })?;
+            unknown.push(UnknownName { word: number, name })?;
         }
     }
     Ok(())

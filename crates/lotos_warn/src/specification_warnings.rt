@@ -29,9 +29,9 @@ pub fn warnings(
     system: &Checked,
 ) -> Result<Vec<Warning>, AllocError>
     requires accepted { IsAccepted (definition_view specification.now.whole) (system_of system.now) }
-    ensures exact { IfOk result (λ found. (w : AnyWarning) →
-        In w found.items ↔ IsWarning (definition_view specification.now.whole) w) }
-    ensures ascending { IfOk result (λ found. IsStrictlySortedBy warning_cmp found.items) }
+    ensures exact { IfOk result (λ list. (w : AnyWarning) →
+        In w list.items ↔ IsWarning (definition_view specification.now.whole) w) }
+    ensures ascending { IfOk result (λ list. IsStrictlySortedBy warning_cmp list.items) }
 {
     let mut warnings = unsorted_warnings(alloc, &specification.whole, system)?;
     warnings.sort_unstable();
@@ -45,8 +45,8 @@ fn unsorted_warnings(
     system: &Checked,
 ) -> Result<Vec<Warning>, AllocError>
     requires accepted { IsAccepted (definition_view whole.now) (system_of system.now) }
-    ensures { IfOk result (λ found. (w : AnyWarning) →
-        In w found.items ↔ IsWarning (definition_view whole.now) w) }
+    ensures { IfOk result (λ list. (w : AnyWarning) →
+        In w list.items ↔ IsWarning (definition_view whole.now) w) }
 {
     binding_is_unique();
     calls_fit();

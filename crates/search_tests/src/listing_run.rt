@@ -69,35 +69,51 @@ fn mark_of(alloc: Global, question: Question) -> Result<Option<Mark>, Fail> {
 
 /// The search, not yet asked for an item.
 pub fn begin(alloc: Global, question: Question) -> Result<Box<Search>, Fail> {
+    begin_with(alloc, question, None)
+}
+
+/// The same, with a failure memo of this capacity if one is given.
+pub fn begin_with(
+    alloc: Global,
+    question: Question,
+    capacity: Option<usize>,
+) -> Result<Box<Search>, Fail> {
     if question.terms == 0 {
         return Err("a bound of no terms")?;
     }
     let mark = mark_of(alloc, question)?;
-    begin_after(alloc, question, mark)
+    begin_after(alloc, question, capacity, mark)
 }
 
-fn begin_after(alloc: Global, question: Question, mark: Option<Mark>) -> Result<Box<Search>, Fail>
+fn begin_after(
+    alloc: Global,
+    question: Question,
+    capacity: Option<usize>,
+    mark: Option<Mark>,
+) -> Result<Box<Search>, Fail>
     requires { 1 ≤ question.terms }
 {
     let pattern = Pattern::read(alloc, question.words, question.strong)?;
-    begin_pattern(alloc, question, pattern, mark)
+    begin_pattern(alloc, question, capacity, pattern, mark)
 }
 
 fn begin_pattern(
     alloc: Global,
     question: Question,
+    capacity: Option<usize>,
     pattern: Pattern,
     mark: Option<Mark>,
 ) -> Result<Box<Search>, Fail>
     requires { 1 ≤ question.terms }
 {
     let table = table_of(alloc, question.behaviour)?;
-    Ok(begin_in(alloc, question, table, pattern, mark)?)
+    Ok(begin_in(alloc, question, capacity, table, pattern, mark)?)
 }
 
 fn begin_in(
     alloc: Global,
     question: Question,
+    capacity: Option<usize>,
     table: Box<Table>,
     pattern: Pattern,
     mark: Option<Mark>,
@@ -105,14 +121,44 @@ fn begin_in(
     requires { 1 ≤ question.terms }
 {
     let table = Box::into_inner(table);
-    let search = Search::begin(alloc, table, pattern, question.depth, mark, question.terms)?;
+    let search = begin_search(alloc, question, capacity, table, pattern, mark)?;
     Ok(Box::new(alloc, search)?)
+}
+
+fn begin_search(
+    alloc: Global,
+    question: Question,
+    capacity: Option<usize>,
+    table: Table,
+    pattern: Pattern,
+    mark: Option<Mark>,
+) -> Result<Search, AllocError>
+    requires { 1 ≤ question.terms }
+{
+    let Question { depth, terms, .. } = question;
+    match capacity {
+        None => Search::begin(alloc, table, pattern, depth, mark, terms),
+        Some(capacity) => {
+            Search::begin_with_memo(alloc, table, pattern, depth, mark, terms, capacity)
+        }
+    }
 }
 
 /// What the search returns, from its first item to its end.
 pub fn run(alloc: Global, question: Question) -> Result<Listing, Fail> {
     let mut search = begin(alloc, question)?;
     rest(alloc, &mut search)
+}
+
+/// The same of a search with a failure memo of this capacity, as text.
+pub fn listing_with_memo(
+    alloc: Global,
+    question: Question,
+    capacity: usize,
+) -> Result<String, Fail> {
+    let mut search = begin_with(alloc, question, Some(capacity))?;
+    let listing = rest(alloc, &mut search)?;
+    Ok(text_of(alloc, &listing)?)
 }
 
 /// The same as text.

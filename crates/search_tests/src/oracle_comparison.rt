@@ -3,8 +3,8 @@ use super::derivation_oracle::{Derivation, derivations, listing_by_derivations};
 use super::graph::Graph;
 use super::length_oracle::{GraphQuestion, add_count, listing_by_length};
 use super::listing_run::{
-    Item, Listing, Question, add_ending, assert_listing, assert_text, run, spell, text_from,
-    text_of,
+    Item, Listing, Question, add_ending, assert_listing, assert_text, listing_with_memo, run,
+    spell, text_from, text_of,
 };
 use super::samples::{
     CALLS, CHOICES, FIRST_PATTERNS, HIDING, INTERLEAVING, OPERATORS, PREFIXES, RECURSIONS,
@@ -20,6 +20,10 @@ const ALL: usize = 1000;
 
 /// The bounds on the terms of a prefix.
 const BOUNDS: [usize; 3] = [1, 3, ALL];
+
+/// The capacities of failure memos. A state key takes two at least, so the first two memos hold none; the third is full
+/// after three keys at most.
+const CAPACITIES: [usize; 4] = [0, 1, 6, 40];
 
 /// A specification, and its terms and derivations up to a depth.
 #[derive(Drop)]
@@ -177,7 +181,7 @@ fn compare_run(
     compare_listing(rt, alloc, sample, question, &listing)
 }
 
-/// Compares one search, and what comes after the item in the middle.
+/// Compares one search, the same with small failure memos, and what comes after the item in the middle.
 fn compare_with_marks(
     rt: &impl Abort,
     alloc: Global,
@@ -186,6 +190,7 @@ fn compare_with_marks(
 ) -> Result<(), Fail> {
     let listing = run(alloc, question)?;
     compare_listing(rt, alloc, sample, question, &listing)?;
+    compare_memos(rt, alloc, sample, question, &listing)?;
     compare_after_mark(rt, alloc, question, &listing)
 }
 
@@ -234,6 +239,45 @@ fn compare_derivations(
     Ok(())
 }
 
+/// Compares searches with small failure memos with this listing, and with the oracle over derivations.
+fn compare_memos(
+    rt: &impl Abort,
+    alloc: Global,
+    sample: &Sample,
+    question: Question,
+    listing: &Listing,
+) -> Result<(), Fail> {
+    let usual = text_of(alloc, listing)?;
+    let expected = listing_by_oracle(alloc, sample, question)?;
+    for capacity in CAPACITIES {
+        let found = listing_with_memo(alloc, question, capacity)?;
+        assert_memo(rt, question, capacity, found.as_str(), usual.as_str());
+        assert_memo(rt, question, capacity, found.as_str(), expected.as_str());
+    }
+    Ok(())
+}
+
+fn listing_by_oracle(alloc: Global, sample: &Sample, question: Question) -> Result<String, Fail> {
+    let pattern = Pattern::read(alloc, question.words, question.strong)?;
+    let graph_question = GraphQuestion {
+        graph: &sample.graph,
+        pattern: &pattern,
+        depth: question.depth,
+        terms: question.terms,
+    };
+    listing_by_derivations(alloc, graph_question, sample.derivations.as_slice())
+}
+
+/// Asserts what a search with a failure memo of this capacity lists.
+fn assert_memo(rt: &impl Abort, question: Question, capacity: usize, found: &str, expected: &str) {
+    assert_eq!(rt;
+        found,
+        expected,
+        "{}: {:?}, internal steps observed: {}, after {:?}, at most {} terms, a memo of {}",
+        question.behaviour, question.words, question.strong, question.mark, question.terms, capacity
+    );
+}
+
 /// Compares what comes after the item in the middle.
 fn compare_after_mark(
     rt: &impl Abort,
@@ -271,7 +315,7 @@ fn line_of(alloc: Global, item: &Item) -> Result<String, AllocError> {
     Ok(line)
 }
 
-/// Compares a search that goes on after a mark with the rest of the whole listing.
+/// Compares searches that go on after a mark with the rest of the whole listing.
 fn compare_rest(
     rt: &impl Abort,
     alloc: Global,
@@ -280,6 +324,10 @@ fn compare_rest(
     next: usize,
 ) -> Result<(), Fail> {
     let expected = text_from(alloc, listing, next)?;
+    for capacity in CAPACITIES {
+        let found = listing_with_memo(alloc, again, capacity)?;
+        assert_memo(rt, again, capacity, found.as_str(), expected.as_str());
+    }
     assert_listing(rt, alloc, again, expected.as_str())
 }
 

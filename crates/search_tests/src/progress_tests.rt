@@ -1,5 +1,5 @@
 //! What searches tell their observers.
-use super::listing_run::{Question, begin};
+use super::listing_run::{Question, begin, begin_with};
 use super::match_tests::boxed_table;
 use lotos_ever::find_shortest_match_with_progress;
 use lotos_listing::{Found, Halt, NoProgress, Progress};
@@ -116,14 +116,7 @@ const LISTINGS: &[(Question, Visits)] = &[
     // A and B; A, A C, and B, below which no more is looked for, as B reaches what A does; A, A C, A C C and B; and the
     // same once more.
     (
-        Question {
-            behaviour: "noexit behaviour a; c; c; stop [] b; c; c; stop",
-            words: &["<any>", "<any>", "<any>", "<any>"],
-            strong: false,
-            depth: 4,
-            mark: None,
-            terms: 10,
-        },
+        TWO_WAYS,
         Visits {
             count: 13,
             lengths: 20,
@@ -131,6 +124,37 @@ const LISTINGS: &[(Question, Visits)] = &[
         },
     ),
 ];
+
+/// No sequence of this listing is a member, and both first steps reach the same term.
+const TWO_WAYS: Question = Question {
+    behaviour: "noexit behaviour a; c; c; stop [] b; c; c; stop",
+    words: &["<any>", "<any>", "<any>", "<any>"],
+    strong: false,
+    depth: 4,
+    mark: None,
+    terms: 10,
+};
+
+/// Capacities of a failure memo, and what the search visits with it. A state key takes two at least, so the first two
+/// memos hold none: A and B; A, A C, B and B C; and twice A, A C, A C C, B, B C and B C C. The third holds all.
+const MEMOS: &[(usize, Visits)] = &[
+    (0, WITHOUT_MEMO),
+    (1, WITHOUT_MEMO),
+    (
+        40,
+        Visits {
+            count: 13,
+            lengths: 20,
+            longest: 3,
+        },
+    ),
+];
+
+const WITHOUT_MEMO: Visits = Visits {
+    count: 18,
+    lengths: 32,
+    longest: 3,
+};
 
 /// Whether two calls return the same.
 fn are_same(left: &Result<Option<Found>, Halt>, right: &Result<Option<Found>, Halt>) -> bool {
@@ -158,10 +182,15 @@ fn return_same<P: Progress>(plain: &mut Search, observed: &mut Search, progress:
     true
 }
 
-/// What an observed search of the question visits, if it returns the same as one without an observer.
-fn visits_of(alloc: Global, question: Question) -> Result<Option<Visits>, Fail> {
+/// What an observed search of the question visits, with a failure memo of this capacity if one is given, if it returns
+/// the same as one without an observer.
+fn visits_of(
+    alloc: Global,
+    question: Question,
+    capacity: Option<usize>,
+) -> Result<Option<Visits>, Fail> {
     let mut plain = begin(alloc, question)?;
-    let mut observed = begin(alloc, question)?;
+    let mut observed = begin_with(alloc, question, capacity)?;
     let mut visits = NONE;
     if return_same(&mut plain, &mut observed, &mut visits) {
         Ok(Some(visits))
@@ -185,8 +214,17 @@ fn assert_visits(rt: &impl Abort, question: Question, found: Option<Visits>, exp
 #[test]
 fn observed_searches_return_the_same_and_visit_these_prefixes(rt: HostRuntime) -> Result<(), Fail> {
     for (question, expected) in LISTINGS {
-        let found = visits_of(rt.alloc(), *question)?;
+        let found = visits_of(rt.alloc(), *question, None)?;
         assert_visits(&rt, *question, found, *expected);
+    }
+    Ok(())
+}
+
+#[test]
+fn a_smaller_memo_has_more_prefixes_visited(rt: HostRuntime) -> Result<(), Fail> {
+    for (capacity, expected) in MEMOS {
+        let found = visits_of(rt.alloc(), TWO_WAYS, Some(*capacity))?;
+        assert_visits(&rt, TWO_WAYS, found, *expected);
     }
     Ok(())
 }

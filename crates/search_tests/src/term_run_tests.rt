@@ -1,6 +1,6 @@
 //! Runs of a few specifications.
 use super::accepted_text::{joined, table_of_text};
-use lotos_terms::{Label, Table, Term};
+use lotos_terms::{Label, Step, Table};
 use std::alloc::{AllocError, Global};
 use std::process::Abort;
 use std::test::Fail;
@@ -44,10 +44,10 @@ fn table_of(alloc: Global, behaviour: &str) -> Result<Box<Table>, Fail> {
 }
 
 /// The labels of a run.
-fn labels_of(alloc: Global, run: &[(Label, Term)]) -> Result<Vec<Label>, AllocError> {
+fn labels_of(alloc: Global, run: &[Step]) -> Result<Vec<Label>, AllocError> {
     let mut labels = Vec::new(alloc);
-    for (label, _) in run {
-        labels.push(*label)?;
+    for step in run {
+        labels.push(step.label)?;
     }
     Ok(labels)
 }

@@ -48,7 +48,7 @@ Statuses:
      be read
   3  the limit of lines is reached
   4  a prefix reaches too many terms, or there are too many states
-  5  memory was wanting
+  5  out of memory
   6  the output cannot be written
 ";
 
@@ -60,8 +60,8 @@ and writes a listing to standard output. The listing has every sequence that mat
 the pattern and that some derivation of at most N steps from the specification's
 behaviour shows.
 
-Each sequence stands there once, in a line of its own: its labels, separated by one
-blank, or `<empty>`. Shorter sequences stand first, and sequences of one length in
+Each sequence occurs once, on a line of its own: its labels, separated by one
+blank, or `<empty>`. Shorter sequences come first, and sequences of one length in
 the order of their labels: gates by their names, then `exit`.
 
 For example, with the specification
@@ -91,10 +91,10 @@ Arguments:
             <while> SET    any number of labels, all of the set. `A <while> B` matches `A` and
                            `A B B`.
             <while> <any>  any number of labels. `<while> <any> B` matches all that ends in `B`.
-            <deadlock>     nothing, where the end is a deadlock. `A <deadlock>` matches `A`,
-                           where nothing can follow.
+            <deadlock>     no label, if the end is a deadlock. `A <deadlock>` matches `A`,
+                           if nothing can follow.
             <until> <deadlock>
-                           any number of labels, where the end is a deadlock.
+                           any number of labels, if the end is a deadlock.
          \x20
           Elements next to each other match labels next to each other: `A B` does not match
           `A C B`. An A and later a B, with no C between them, is `A <while> <not> C B`.
@@ -116,7 +116,7 @@ Options:
       --limit <N>
           The most lines that are written, 1 to 1000000000
          \x20
-          The search stops when so many lines are written, with status 3, also where no line
+          The search stops when so many lines are written, with status 3, even if no line
           would follow. For example, `--limit 1` writes the first line alone.
 
       --terms <N>
@@ -130,17 +130,17 @@ Options:
           [default: 100000]
 
       --after <LINE>
-          Lists only what stands after this line of a listing
+          Lists only what comes after this line of a listing
          \x20
           LINE is a line as the listing has it, in upper or lower case; what follows ` : ` in it
-          is not looked at. It need not be a line of this listing. In a shell it is quoted. For
-          example, `--after \"A B\"` goes on behind the line `A B`, and `--after \"<empty>\"`
-          behind the empty sequence.
+          is ignored. It need not be a line of this listing. In a shell it is quoted. For
+          example, `--after \"A B\"` goes on after the line `A B`, and `--after \"<empty>\"`
+          after the empty sequence.
 
       --explain
-          Writes the least word of each sequence too
+          Writes the least run of each sequence too
          \x20
-          A line is then the sequence, ` : ` and a word: the labels of a derivation that shows
+          A line is then the sequence, ` : ` and a run: the labels of a derivation that shows
           the sequence, internal steps included. It is the shortest one, and of those the first
           in the order of labels, `i` being the last of these. For example, `i; i; a; stop` with
           `--depth 3 --explain A` lists
@@ -180,7 +180,7 @@ Statuses:
      be read
   3  the limit of lines is reached
   4  a prefix reaches too many terms
-  5  memory was wanting
+  5  out of memory
   6  the output cannot be written
 ";
 
@@ -221,10 +221,10 @@ Arguments:
             <while> SET    any number of labels, all of the set. `A <while> B` matches `A` and
                            `A B B`.
             <while> <any>  any number of labels. `<while> <any> B` matches all that ends in `B`.
-            <deadlock>     nothing, where the end is a deadlock. `A <deadlock>` matches `A`,
-                           where nothing can follow.
+            <deadlock>     no label, if the end is a deadlock. `A <deadlock>` matches `A`,
+                           if nothing can follow.
             <until> <deadlock>
-                           any number of labels, where the end is a deadlock.
+                           any number of labels, if the end is a deadlock.
          \x20
           Elements next to each other match labels next to each other: `A B` does not match
           `A C B`. An A and later a B, with no C between them, is `A <while> <not> C B`.
@@ -233,7 +233,7 @@ Arguments:
           that ask for one may come only at the end. `i` is a word of a pattern only with
           `--strong`, as the internal action cannot be observed; without it `<not> A` is no
           internal step either. A name that is neither `exit` nor `i` is that of a gate of the
-          specification's own list. Where the list does not have it, its word is refused with E49
+          specification's own list. If the list does not have it, its word is refused with E49
           and status 2, as no sequence has that label. For example, `C` is refused for
             specification S [a,b] : noexit behaviour a; b; stop endspec
 
@@ -244,15 +244,15 @@ Options:
           A state is one of the specification and of the pattern together: a term that can be
           reached, and how much of the pattern the labels on the way match. If more of them are
           reached before a match is found, the search stops with status 4. Each takes some
-          0.3 to 1.5 KiB of memory. For example, for `a; b; stop` and the pattern `A B` the
+          150 to 600 bytes of memory. For example, for `a; b; stop` and the pattern `A B` the
           search stops with `--states 1`.
          \x20
           [default: 1000000]
 
       --explain
-          Writes the word of the derivation too
+          Writes the run of the derivation too
          \x20
-          The line is then the sequence, ` : ` and a word: the labels of the derivation, internal
+          The line is then the sequence, ` : ` and a run: the labels of the derivation, internal
           steps included. For example, `i; i; a; stop` with `--explain A` gives
             A : i i A
 
@@ -277,16 +277,16 @@ Statuses:
   1  there is none, of any length
   2  the command, the pattern or the specification is refused, or cannot be read
   4  there are too many states
-  5  memory was wanting
+  5  out of memory
   6  the output cannot be written
 ";
 
 /// `lotosseq check --help`
 const CHECK: &str = "Checks the static rules and lists the processes
 
-Reads a specification in basic LOTOS from standard input. Where it breaks no static
+Reads a specification in basic LOTOS from standard input. If it breaks no static
 rule, a line is written for each process, in the order of their definitions: its name,
-the number of its gates, and `exit` or `noexit`. Else the first fault is named on
+the number of its gates, and `exit` or `noexit`. Otherwise the first fault is named on
 standard error, with its line and column.
 
 For example, with the specification
@@ -302,7 +302,7 @@ Options:
           Explains a fault
          \x20
           The message of a fault in the specification is followed on standard error by its line
-          with a mark under the place, and by what to do; where a word or a sign does not fit,
+          with a mark under the place, and by what to do; if a word or a sign does not fit,
           also by what is there and what could be there. Output and status stay the same. For
           example, for `behaviour a stop` it has
             behaviour a stop
@@ -327,7 +327,7 @@ Options:
 Statuses:
   0  the specification is accepted
   2  the command or the specification is refused, or cannot be read
-  5  memory was wanting
+  5  out of memory
   6  the output cannot be written
 ";
 
@@ -355,7 +355,7 @@ Statuses:
      be read
   3  the limit of lines is reached
   4  a prefix reaches too many terms, or there are too many states
-  5  memory was wanting
+  5  out of memory
   6  the output cannot be written
 ";
 
@@ -371,8 +371,8 @@ Options:
       --depth <N>     The most steps of a derivation, 0 to 255
       --limit <N>     The most lines that are written, 1 to 1000000000
       --terms <N>     The most terms that a prefix may reach, 1 to 1000000 [default: 100000]
-      --after <LINE>  Lists only what stands after this line of a listing
-      --explain       Writes the least word of each sequence too
+      --after <LINE>  Lists only what comes after this line of a listing
+      --explain       Writes the least run of each sequence too
       --strong        Makes the internal action `i` a label like others
       --known         Refuses words that name no gate of the specification
       --progress      Tells on standard error how far the search is
@@ -385,7 +385,7 @@ Statuses:
      be read
   3  the limit of lines is reached
   4  a prefix reaches too many terms
-  5  memory was wanting
+  5  out of memory
   6  the output cannot be written
 ";
 
@@ -399,7 +399,7 @@ Arguments:
 
 Options:
       --states <N>  The most states that may be reached, 1 to 100000000 [default: 1000000]
-      --explain     Writes the word of the derivation too
+      --explain     Writes the run of the derivation too
       --strong      Makes the internal action `i` a label like others
       --progress    Tells on standard error how far the search is
   -h, --help        Print help (see more with '--help')
@@ -409,7 +409,7 @@ Statuses:
   1  there is none, of any length
   2  the command, the pattern or the specification is refused, or cannot be read
   4  there are too many states
-  5  memory was wanting
+  5  out of memory
   6  the output cannot be written
 ";
 
@@ -426,7 +426,7 @@ Options:
 Statuses:
   0  the specification is accepted
   2  the command or the specification is refused, or cannot be read
-  5  memory was wanting
+  5  out of memory
   6  the output cannot be written
 ";
 

@@ -7,8 +7,8 @@ use lotos_listing::MarkFault;
 use lotos_pattern::PatternFault;
 use lotos_text::TextFault;
 use lotos_tool::{
-    CommandFault, Ended, EverEnded, EverWhy, Refusal, Why, answer_fault, report_check, report_ever,
-    report_search,
+    CommandFault, Ended, EverEnded, EverWhy, Refusal, Why, report_check, report_command_fault,
+    report_ever, report_search,
 };
 use std::alloc::{AllocError, Global};
 use std::fmt::Display;
@@ -185,7 +185,7 @@ fn searches_for_a_match(rt: HostRuntime) {
 fn expect_answer(rt: &impl Abort, fault: CommandFault, output: &[u8], message: &[u8], status: u8) {
     let mut out = FromWrite::new(ArrayWriter::new(4096));
     let mut err = ArrayWriter::new(4096);
-    let found = answer_fault(&fault, &mut out, &mut err);
+    let found = report_command_fault(&fault, &mut out, &mut err);
     assert_eq!(rt; out.into_inner().got(), output);
     expect_report(rt, &err, message, found, status);
 }

@@ -245,7 +245,7 @@ impl Progress for Counter {
 }
 
 impl OutputProgress for Counter {
-    fn accepted(&mut self, _text: &[u8], _found: &AcceptedText) {
+    fn accepted(&mut self, _text: &[u8], _accepted_text: &AcceptedText) {
         self.accepted = self.accepted.saturating_add(1);
     }
 

@@ -74,8 +74,8 @@ module _ (table : TableView) (pattern : Pattern) (depth terms : ℕ) where
         question = subst (IsSearchIn table pattern depth terms) (sym same) first.question;
         answers = inr (
           gives.s,
-          gives.word,
-          subst (λ q. IsNextItem q None gives.s gives.word) (sym same) gives.item,
+          gives.run,
+          subst (λ q. IsNextItem q None gives.s gives.run) (sym same) gives.item,
           second_says old new item (Ok found) gives.s gives.moved first.answers.1 same says,
         );
       }
@@ -92,7 +92,7 @@ module _ (table : TableView) (pattern : Pattern) (depth terms : ℕ) where
         new.question,
         subst (IsSearchIn table pattern depth terms) (sym same) first.question,
         Some first.answers.0.s,
-        after_item first.answers.0.word (subst (λ q. IsNextItem q None first.answers.0.s first.answers.0.word) (sym same) first.answers.0.item),
+        after_item first.answers.0.run (subst (λ q. IsNextItem q None first.answers.0.s first.answers.0.run) (sym same) first.answers.0.item),
         a.0.0,
         a.0.1,
         a.0.2,

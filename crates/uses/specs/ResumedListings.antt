@@ -17,12 +17,12 @@ use Rattle.uses.specs.declared.resumed_listing.ItemFault.TheVariants as fault
 -- no item at all; or a first one, and what the search returns after it
 abbrev pub IsSecond : Question → Option Found → Option (List Label) → Stage → Type 0
 IsSecond q found cursor stage =
-    (IsEndOfListing q None × (found ≡ None)) ⊎ ((s word : List Label) × IsNextItem q None s word × RunningReturns q (Some s) (Ok found) cursor stage)
+    (IsEndOfListing q None × (found ≡ None)) ⊎ ((s run : List Label) × IsNextItem q None s run × RunningReturns q (Some s) (Ok found) cursor stage)
 
 -- the cursor of a search that has returned at most one item: before the listing, or after its first item
 pub data IsAtStart (q : Question) : Option (List Label) → Type 0 where
   before : IsAtStart q None
-  after_item : {s : List Label} (word : List Label) → IsNextItem q None s word → IsAtStart q (Some s)
+  after_item : {s : List Label} (run : List Label) → IsNextItem q None s run → IsAtStart q (Some s)
 
 module _ (table : TableView) (pattern : Pattern) (depth terms : ℕ) where
   -- the question is about the table from its start, with this pattern, depth and bound

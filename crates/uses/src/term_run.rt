@@ -4,21 +4,17 @@ ghost use Rattle.lotos_terms.specs.TableView.{Grows, IsSoundView};
 ghost use Rattle.uses.specs.TermRuns.{IsRunOf, IsStepIfAny};
 
 use lotos_terms::laws::growth_is_transitive;
-use lotos_terms::{Label, Table, Term};
+use lotos_terms::{Step, Table, Term};
 use std::alloc::{AllocError, Global};
 
-/// Follows the first step of each term from the start, for at most `depth` steps, and returns each label with the term
-/// that its step leads to: a run of the specification. It ends early only at a deadlock. Internal steps and `exit`
-/// count. The contract does not say that the first steps are taken.
+/// Follows the first step of each term from the start, for at most `depth` steps, and returns these steps: a run of the
+/// specification. It ends early only at a deadlock. Internal steps and `exit` count. The contract does not say that the
+/// first steps are taken.
 ///
 /// # Errors
 ///
 /// An allocation fails. Even then the table may have grown.
-pub fn first_run(
-    alloc: Global,
-    table: &mut Table,
-    depth: usize,
-) -> Result<Vec<(Label, Term)>, AllocError>
+pub fn first_run(alloc: Global, table: &mut Table, depth: usize) -> Result<Vec<Step>, AllocError>
     ensures grows { Grows table.old table.new }
     ensures sound { IsSoundView table.new }
     ensures run { IfOk result (λ v. IsRunOf table.new table.new.start v.items depth) }
@@ -31,7 +27,7 @@ pub fn first_run(
         match next {
             None => return Ok(run),
             Some(step) => {
-                let to = step.1;
+                let to = step.target;
                 run.push(step)?;
                 here = to;
             }
@@ -41,7 +37,7 @@ pub fn first_run(
 }
 
 /// The first step of a term; `None` at a deadlock.
-fn first_step(table: &mut Table, here: Term) -> Result<Option<(Label, Term)>, AllocError>
+fn first_step(table: &mut Table, here: Term) -> Result<Option<Step>, AllocError>
     requires { here < length table.old.terms }
     ensures grows { Grows table.old table.new }
     ensures sound { IsSoundView table.new }

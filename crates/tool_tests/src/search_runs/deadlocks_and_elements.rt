@@ -69,7 +69,7 @@ const ROWS: &[Row] = &[
         status: 1,
     },
     Row {
-        name: "the least word of two",
+        name: "the least run of two",
         text: b"specification S [a,b] : noexit behaviour i; i; a; b; stop [] i; a; b; stop endspec",
         words: &["lotosseq", "search", "--depth", "4", "--explain", "A", "B"],
         output: b"A B : i A B\n",
@@ -77,7 +77,7 @@ const ROWS: &[Row] = &[
         status: 0,
     },
     Row {
-        name: "the least word, whose deadlock comes later",
+        name: "the least run, whose deadlock comes later",
         text: b"specification S [a,b] : noexit behaviour i; a; stop [] a; i; stop endspec",
         words: &[
             "lotosseq",
@@ -93,7 +93,7 @@ const ROWS: &[Row] = &[
         status: 0,
     },
     Row {
-        name: "the least word, whose end is anywhere",
+        name: "the least run, whose end is anywhere",
         text: b"specification S [a,b] : noexit behaviour i; a; stop [] a; i; stop endspec",
         words: &["lotosseq", "search", "--depth", "2", "--explain", "A"],
         output: b"A : A\n",

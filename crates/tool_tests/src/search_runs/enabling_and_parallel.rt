@@ -38,7 +38,7 @@ const ROWS: &[Row] = &[
         status: 0,
     },
     Row {
-        name: "the least word over all ends",
+        name: "the least run over all ends",
         text: b"specification S [a,b] : noexit behaviour i; a; stop [] a; b; stop endspec",
         words: &["lotosseq", "search", "--depth", "2", "--explain", "A"],
         output: b"A : A\n",
@@ -46,7 +46,7 @@ const ROWS: &[Row] = &[
         status: 0,
     },
     Row {
-        name: "the least word to a deadlock",
+        name: "the least run to a deadlock",
         text: b"specification S [a,b] : noexit behaviour i; a; stop [] a; b; stop endspec",
         words: &[
             "lotosseq",

@@ -32,7 +32,7 @@ const ROWS: &[Row] = &[
         status: 0,
     },
     Row {
-        name: "a sequence is its own least word",
+        name: "a sequence is its own least run",
         text: b"specification S [a,b] : noexit behaviour i; a; stop [] a; b; stop endspec",
         words: &[
             "lotosseq",

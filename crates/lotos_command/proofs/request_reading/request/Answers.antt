@@ -2,7 +2,8 @@ use Rattle.std.proofs.Common.{ap, sym, subst, true, ◌∙◌, ◌≡◌, []}
 use Rattle.clap.specs.Words.{App, HasKind, fault_of, is_simple, is_simple_and_free, kind_of, subcommand_of, subcommand_rows_of, takes}
 use Rattle.lotos_command.specs.CommandRules.{lotosseq}
 use Rattle.lotos_command.specs.EntryRules.{FitsRequest}
-use Rattle.lotos_command.specs.Request.{request_from, texts_of}
+use Rattle.clap.specs.Walk.{texts as texts_of}
+use Rattle.lotos_command.specs.Request.{request_from}
 use Rattle.lotos_command.proofs.CommandFacts.{simple, simple_and_free}
 use Rattle.lotos_command.proofs.FaultKinds.{fault_known, memory_known}
 use Rattle.lotos_command.proofs.RequestFits.{request_fits}

@@ -1,6 +1,6 @@
 use Rattle.std.proofs.Common.{◌≡◌, map, take, string_bytes}
 use Rattle.lotos_command.specs.PatternWords.{pattern_words}
-use Rattle.lotos_command.specs.Request.{texts_of}
+use Rattle.clap.specs.Walk.{texts as texts_of}
 use Rattle.lotos_command.proofs.request_reading.split_texts.Given as goal
 
 -- the words of a pattern in the texts so far were added

@@ -2,11 +2,11 @@ use Rattle.std.proofs.Common.{◌≡◌, ◌≤◌, ◌-◌, false, length, take
 use Rattle.std.specs.Io.KnownBytes.{Appends}
 use Rattle.lotos_device.proofs.byte_output.write_bytes.Given as goal
 
--- the bytes before the offset were got, and no write has failed
+-- the bytes before the offset were written, and no write has failed
 abbrev pub invariant-loop-at : goal.invariant-loop-at
 invariant-loop-at g l = record {
   within : l.at ≤ length l.bytes;
-  got : Appends (g.W.Sink.got l.fn.writer) (g.W.Sink.got l.writer) (take l.at l.bytes);
+  written : Appends (g.W.Sink.written l.fn.writer) (g.W.Sink.written l.writer) (take l.at l.bytes);
   unfailed : g.W.Sink.has_failed l.writer ≡ false;
 }
 

@@ -11,7 +11,7 @@ returns-then-eq_ignore_ascii_case c =
     let word = c.args.word.now in
     let reads : EqualsIgnoringCase word termination = c.if-eq_ignore_ascii_case.ensures.test.0 refl in
     if_ok (λ text. string_bytes text ≡ termination) (λ text. IsWord word → Names true word (string_bytes text))
-    (λ text is spelled. subst (Names true word) (sym is) (names_exit word spelled reads))
+    (λ text is spelled. subst (Names true word) (sym is) (names_exit true word spelled reads))
     c.from_str.result c.from_str.ensures.ok
 
 pub returns-then-eq_ignore_ascii_case-2 : goal.returns-then-eq_ignore_ascii_case-2
@@ -28,5 +28,5 @@ returns c =
     let no_exit : EqualsIgnoringCase word termination → ⊥ = λ reads. let equal = c.if-eq_ignore_ascii_case.ensures.test.1 reads in let z : ⊥ = cc in z in
     let no_internal : EqualsIgnoringCase word internal → ⊥ = λ reads. let equal = c.if-eq_ignore_ascii_case-2.ensures.test.1 reads in let z : ⊥ = cc in z in
     if_ok (λ text. string_bytes text ≡ map to_ascii_uppercase word) (λ text. IsWord word → Names true word (string_bytes text))
-    (λ text is spelled. subst (Names true word) (sym is) (names_gate word spelled no_exit no_internal)) c.to_ascii_uppercase.result
+    (λ text is spelled. subst (Names true word) (sym is) (names_gate true word spelled no_exit no_internal)) c.to_ascii_uppercase.result
     c.to_ascii_uppercase.ensures.ok

@@ -130,38 +130,38 @@ parse_operation-returns-in_default-clause-parses t c =
 pub parse_operation-returns-then-nesting_left-eq0-clause-fails : goal.parse_operation-returns-then-nesting_left-eq0-clause-fails
 parse_operation-returns-then-nesting_left-eq0-clause-fails t c =
     deep_operation c.args.text.now c.args.nesting_left c.args.tokens.now c.in_ok-left.rest.now c.in-Some.after.now c.in-Some.first
-    c.in-Some.mark _ c.if-nesting_left-eq0.true c.requires.below c.in_ok-left.ensures.parses c.in-Some.ensures.some.0
+    c.in-Some.infix _ c.if-nesting_left-eq0.true c.requires.below c.in_ok-left.ensures.parses c.in-Some.ensures.some.0
     c.in-Some.ensures.some.1 c.in-Some.ensures.some.2
 
-pub parse_operation-returns-in_err-how-clause-fails : goal.parse_operation-returns-in_err-how-clause-fails
-parse_operation-returns-in_err-how-clause-fails t c =
+pub parse_operation-returns-in_err-operator-clause-fails : goal.parse_operation-returns-in_err-operator-clause-fails
+parse_operation-returns-in_err-operator-clause-fails t c =
     freed_on (OneOperator c.args.text.now _) (BehaviourPhrase c.args.text.now (level_view c.args.level)) c.args.nesting_left _ c.args.tokens.now
     (λ rest l. lost_operator c.args.text.now _ c.args.tokens.now c.in_ok-left.rest.now rest _ c.requires.below
     c.in_ok-left.ensures.parses
-    (marked c.in_ok-left.rest.now c.in-Some.after.now c.in-Some.first c.in-Some.mark c.in-Some.ensures.some.0
+    (marked c.in_ok-left.rest.now c.in-Some.after.now c.in-Some.first c.in-Some.infix c.in-Some.ensures.some.0
     c.in-Some.ensures.some.1 c.in-Some.ensures.some.2)
     (marked_lost c.args.text.now c.in_ok-left.rest.now _ rest c.in-Some.ensures.some.0 c.in-Some.ensures.some.2 l))
-    c.from_residual-in_err-how.result c.in_err-how.field-0.0 c.from_residual-in_err-how.ensures.1 c.in_err-how.ensures.fails
+    c.from_residual-in_err-operator.result c.in_err-operator.field-0.0 c.from_residual-in_err-operator.ensures.1 c.in_err-operator.ensures.fails
 
 pub parse_operation-returns-in_err-right-clause-fails : goal.parse_operation-returns-in_err-right-clause-fails
 parse_operation-returns-in_err-right-clause-fails t c =
     carried_on (BehaviourPhrase c.args.text.now (level_view c.args.level)) (BehaviourPhrase c.args.text.now (level_view c.args.level))
-    _ c.args.nesting_left c.in_ok-how.rest.now c.args.tokens.now
-    (carries_right c.args.text.now c.args.nesting_left c.args.tokens.now c.in_ok-left.rest.now c.in_ok-how.rest.now _ _ c.requires.below
+    _ c.args.nesting_left c.in_ok-operator.rest.now c.args.tokens.now
+    (carries_right c.args.text.now c.args.nesting_left c.args.tokens.now c.in_ok-left.rest.now c.in_ok-operator.rest.now _ _ c.requires.below
     c.in_ok-left.ensures.parses
-    (marked c.in_ok-left.rest.now c.in-Some.after.now c.in-Some.first c.in-Some.mark c.in-Some.ensures.some.0
+    (marked c.in_ok-left.rest.now c.in-Some.after.now c.in-Some.first c.in-Some.infix c.in-Some.ensures.some.0
     c.in-Some.ensures.some.1 c.in-Some.ensures.some.2)
-    (marked_found c.args.text.now c.in_ok-left.rest.now _ c.in_ok-how.rest.now _ c.in-Some.ensures.some.0
-    c.in-Some.ensures.some.2 c.in_ok-how.ensures.parses))
+    (marked_found c.args.text.now c.in_ok-left.rest.now _ c.in_ok-operator.rest.now _ c.in-Some.ensures.some.0
+    c.in-Some.ensures.some.2 c.in_ok-operator.ensures.parses))
     c.from_residual-in_err-right.result c.in_err-right.field-0.0 c.from_residual-in_err-right.ensures.1
     c.in_err-right.ensures.fails
 
 pub parse_operation-returns-clause-parses : goal.parse_operation-returns-clause-parses
 parse_operation-returns-clause-parses t c =
-    found_operation c.args.text.now c.args.nesting_left c.args.tokens.now c.in_ok-left.rest.now c.in_ok-how.rest.now
+    found_operation c.args.text.now c.args.nesting_left c.args.tokens.now c.in_ok-left.rest.now c.in_ok-operator.rest.now
     c.in_ok-right.rest.now _ _ _ _ (omega arith) c.requires.below c.in_ok-left.ensures.parses
-    (marked_found c.args.text.now c.in_ok-left.rest.now _ c.in_ok-how.rest.now _ c.in-Some.ensures.some.0
-    c.in-Some.ensures.some.2 c.in_ok-how.ensures.parses)
+    (marked_found c.args.text.now c.in_ok-left.rest.now _ c.in_ok-operator.rest.now _ c.in-Some.ensures.some.0
+    c.in-Some.ensures.some.2 c.in_ok-operator.ensures.parses)
     c.in_ok-right.ensures.parses c.in_ok-whole.ensures
 
 -- names

@@ -7,41 +7,41 @@ use Rattle.lotos_text.proofs.ParseOutcome.{stuck_spells_nothing, found_spelled, 
 use Rattle.lotos_text.proofs.OffsetsInside.{fault_inside, stuck_fault_inside, spelled_inside}
 use Rattle.lotos_text.proofs.parser.parse.Goals as goal
 
-pub returns-in_err-cut-clause-nothing : goal.returns-in_err-cut-clause-nothing
-returns-in_err-cut-clause-nothing c = let h = stuck_spells_nothing c.args.text.now c.in_err-cut.field-0.0
-    c.in_err-cut.ensures.fails in search rules
+pub returns-in_err-tokens-clause-nothing : goal.returns-in_err-tokens-clause-nothing
+returns-in_err-tokens-clause-nothing c = let h = stuck_spells_nothing c.args.text.now c.in_err-tokens.field-0.0
+    c.in_err-tokens.ensures.fails in search rules
 
 pub returns-in-Ok-clause-spelled : goal.returns-in-Ok-clause-spelled
 returns-in-Ok-clause-spelled c =
-    found_spelled c.args.text.now c.in_ok-cut.cut.items c.in_ok-cut.ensures.short c.in_ok-cut.ensures.lexes
+    found_spelled c.args.text.now c.in_ok-tokens.tokens.items c.in_ok-tokens.ensures.short c.in_ok-tokens.ensures.lexes
     (definition_view c.in-Ok.whole)
     (subst (λ ts. Parses (SpecificationPhrase c.args.text.now (Some max_nesting)) ts (definition_view c.in-Ok.whole) []) c.as_slice.ensures.value
     c.in-Ok.ensures.parses)
 
 pub returns-in-Ok-clause-only : goal.returns-in-Ok-clause-only
 returns-in-Ok-clause-only c other s =
-    found_only c.args.text.now c.in_ok-cut.cut.items c.in_ok-cut.ensures.short c.in_ok-cut.ensures.lexes
+    found_only c.args.text.now c.in_ok-tokens.tokens.items c.in_ok-tokens.ensures.short c.in_ok-tokens.ensures.lexes
     (definition_view c.in-Ok.whole) other
     (subst (λ ts. Parses (SpecificationPhrase c.args.text.now (Some max_nesting)) ts (definition_view c.in-Ok.whole) []) c.as_slice.ensures.value
     c.in-Ok.ensures.parses) s
 
 pub returns-clause-fault : goal.returns-clause-fault
 returns-clause-fault c =
-    lost_refused c.args.text.now c.in_ok-cut.cut.items c.in_ok-cut.ensures.short c.in_ok-cut.ensures.lexes c.in-Err.stop
+    lost_refused c.args.text.now c.in_ok-tokens.tokens.items c.in_ok-tokens.ensures.short c.in_ok-tokens.ensures.lexes c.in-Err.error
     c.fault_of_error.result
-    (subst (λ ts. FailsWithin (SpecificationPhrase c.args.text.now) max_nesting ts c.in-Err.stop) c.as_slice.ensures.value c.in-Err.ensures.fails)
+    (subst (λ ts. FailsWithin (SpecificationPhrase c.args.text.now) max_nesting ts c.in-Err.error) c.as_slice.ensures.value c.in-Err.ensures.fails)
     c.fault_of_error.ensures
 
 pub returns-clause-nothing : goal.returns-clause-nothing
 returns-clause-nothing c =
-    lost_spells_nothing c.args.text.now c.in_ok-cut.cut.items c.in_ok-cut.ensures.short c.in_ok-cut.ensures.lexes c.in-Err.stop
+    lost_spells_nothing c.args.text.now c.in_ok-tokens.tokens.items c.in_ok-tokens.ensures.short c.in_ok-tokens.ensures.lexes c.in-Err.error
     c.fault_of_error.result
-    (subst (λ ts. FailsWithin (SpecificationPhrase c.args.text.now) max_nesting ts c.in-Err.stop) c.as_slice.ensures.value c.in-Err.ensures.fails)
+    (subst (λ ts. FailsWithin (SpecificationPhrase c.args.text.now) max_nesting ts c.in-Err.error) c.as_slice.ensures.value c.in-Err.ensures.fails)
     c.fault_of_error.ensures
 
-pub returns-in_err-cut-clause-fault_inside : goal.returns-in_err-cut-clause-fault_inside
-returns-in_err-cut-clause-fault_inside c =
-    let h = stuck_fault_inside c.args.text.now c.in_err-cut.field-0.0 c.in_err-cut.ensures.fails in search rules
+pub returns-in_err-tokens-clause-fault_inside : goal.returns-in_err-tokens-clause-fault_inside
+returns-in_err-tokens-clause-fault_inside c =
+    let h = stuck_fault_inside c.args.text.now c.in_err-tokens.field-0.0 c.in_err-tokens.ensures.fails in search rules
 
 pub returns-in-Ok-clause-ast_inside : goal.returns-in-Ok-clause-ast_inside
 returns-in-Ok-clause-ast_inside c = spelled_inside c.args.text.now (definition_view c.in-Ok.whole) (returns-in-Ok-clause-spelled c)

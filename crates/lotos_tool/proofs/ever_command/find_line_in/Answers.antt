@@ -23,7 +23,7 @@ format_match-requires g c =
     let p = c.args.pattern.now in
     let q = match_question_of c.args.table.now p in
     let found : IsFound q c.in-Some.found = subst (IsAnswer q) c.in-Some.is c.in_ok-found.ensures.answer in
-    record { printed = (item_of q found.word, shown_now c.args.table.now c.find_shortest_match_with_progress.new.table p c.in-Some.found c.in_ok-found.ensures.grows found) }
+    record { printed = (item_of q found.run, shown_now c.args.table.now c.find_shortest_match_with_progress.new.table p c.in-Some.found c.in_ok-found.ensures.grows found) }
 
 pub returns-in_err-format_match-in-Some-clause-none :
     goal.returns-in_err-format_match-in-Some-clause-none
@@ -42,7 +42,7 @@ returns-in_ok-format_match-in-Some-clause-line g c = λ system is.
       pattern = refl;
     } in
     let shown = shown_now c.args.table.now c.find_shortest_match_with_progress.new.table p c.in-Some.found c.in_ok-found.ensures.grows found in
-    (q, asked, (found.word, found.first, c.in_ok-format_match-in-Some.ensures (item_of q found.word) shown))
+    (q, asked, (found.run, found.first, c.in_ok-format_match-in-Some.ensures (item_of q found.run) shown))
 
 pub returns-in-None-clause-line : goal.returns-in-None-clause-line
 returns-in-None-clause-line g c = λ system is.

@@ -10,8 +10,8 @@ use Rattle.lotos_tool.proofs.listing_output.write_listing.Given as goal
 abbrev pub invariant-loop-found : goal.invariant-loop-found
 invariant-loop-found g l = record {
   items : List Item;
-  progress : Progress l.fn.request l.fn.search.question l.fn.search.cursor (g.W.Sink.got l.fn.writer)
-      (g.W.Sink.got l.writer) l.search.cursor l.lines l.last items;
+  progress : Progress l.fn.request l.fn.search.question l.fn.search.cursor (g.W.Sink.written l.fn.writer)
+      (g.W.Sink.written l.writer) l.search.cursor l.lines l.last items;
   below : IsBelowLimit (length items) l.fn.request.limit;
   question : l.search.question ≡ l.fn.search.question;
   stage : l.search.stage ≡ running;

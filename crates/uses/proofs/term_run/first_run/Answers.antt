@@ -43,13 +43,14 @@ loop-preserved c =
     let new = c.first_step.new.table in
     let grows = c.in_ok-next.ensures.grows in
     let items = c.in_ok-push-in-Some.ensures.items in
-    let step = subst (IsStepIfAny new c.loop.here) c.in-Some.is c.in_ok-next.ensures.step in
+    let found = subst (IsStepIfAny new c.loop.here) c.in-Some.is c.in_ok-next.ensures.step in
+    let step = rw (← c.step.view_is) at found in
     let before = run_grows now new grows (c.growth_is_transitive.ensures.labels _ _ grows) c.loop.run.items c.loop.here c.loop.invariant.run in
     record {
       grows = c.growth_is_transitive.ensures.transitive _ _ _ c.loop.invariant.grows grows;
       sound = c.in_ok-next.ensures.sound;
       below = leads_below new c.loop.here _ step;
-      run = rw items (run_push new new.start c.loop.run.items c.loop.here _ before step);
+      run = rw (items, ← c.step.view_is) (run_push new new.start c.loop.run.items c.loop.here _ before step);
       steps = ap length items ∙ length_push c.loop.run.items _ ∙ ap (λ n. n + 1) c.loop.invariant.steps;
     }
 
