@@ -5,26 +5,27 @@ use lotos_sets::SetNumber;
 use std::alloc::Global;
 
 /// A choice between the gates that a hidden step offers again or not.
-pub const HIDDEN_LOOP: &str = "specification V [a,b] : noexit behaviour hide h in P [a,b,h] where process P [a,b,h] : noexit := a; (h; P [a,b,h] [] b; Q [h]) endproc process Q [h] : noexit := h; Q [h] endproc endspec";
+pub const HIDDEN_LOOP: &str =
+    "specification V [a,b] : noexit behaviour hide h in P [a,b,h] where process P [a,b,h] : noexit := a; (h; P [a,b,h] [] b; Q [h]) endproc process Q [h] : noexit := h; Q [h] endproc endspec";
 
 /// A server that answers, or refuses after an internal step.
-pub const SERVER: &str = "specification D [req,rsp,nak] : noexit behaviour S [req,rsp,nak] where process S [req,rsp,nak] : noexit := req; (rsp; S [req,rsp,nak] [] i; nak; S [req,rsp,nak]) endproc endspec";
+pub const SERVER: &str =
+    "specification D [req,rsp,nak] : noexit behaviour S [req,rsp,nak] where process S [req,rsp,nak] : noexit := req; (rsp; S [req,rsp,nak] [] i; nak; S [req,rsp,nak]) endproc endspec";
 
 /// Two processes that meet at a hidden gate, and what is enabled when both have terminated.
-pub const MEETING: &str = "specification G [a,b,c] : exit behaviour hide s in ((a; s; exit) |[s]| (s; b; exit)) >> c; exit endspec";
+pub const MEETING: &str =
+    "specification G [a,b,c] : exit behaviour hide s in ((a; s; exit) |[s]| (s; b; exit)) >> c; exit endspec";
 
 /// A choice between two prefixes of the same gate.
-pub const SAME_PREFIX: &str = "specification N [a,b,c] : noexit behaviour a; b; stop [] a; c; stop endspec";
+pub const SAME_PREFIX: &str =
+    "specification N [a,b,c] : noexit behaviour a; b; stop [] a; c; stop endspec";
 
 /// An internal step to inaction beside a gate.
-pub const HIDDEN_STOP: &str = "specification K [a,b] : noexit behaviour a; (i; stop [] b; stop) endspec";
+pub const HIDDEN_STOP: &str =
+    "specification K [a,b] : noexit behaviour a; (i; stop [] b; stop) endspec";
 
 /// The labels that follow the set, each followed by a blank, and `<deadlock>` if it has one.
-fn describe_set(
-    alloc: Global,
-    walk: &mut SetWalk,
-    set: SetNumber,
-) -> Result<String, WalkError> {
+fn describe_set(alloc: Global, walk: &mut SetWalk, set: SetNumber) -> Result<String, WalkError> {
     let mut out = String::new(alloc);
     let mut after = None;
     for _ in 0..9 {
@@ -69,11 +70,7 @@ fn describe_sequence(
 
 /// What follows a sequence: the labels, each followed by a blank, and `<deadlock>` if it can end in one; `<none>` if it
 /// cannot be observed, `<too many>` if it or one of its prefixes reaches more terms than the bound.
-pub fn describe(
-    alloc: Global,
-    walk: &mut SetWalk,
-    sequence: &[&str],
-) -> Result<String, WalkError> {
+pub fn describe(alloc: Global, walk: &mut SetWalk, sequence: &[&str]) -> Result<String, WalkError> {
     match describe_sequence(alloc, walk, sequence) {
         Ok(text) => Ok(text),
         Err(error) => match error {
