@@ -9,3 +9,4 @@ pub mod Marks
 pub mod MarkErrors
 pub mod NumberedPlaces
 pub mod Remaining
+pub mod ReachedForms
