@@ -12,3 +12,4 @@ pub mod MarkComparison
 pub mod MarkLines
 pub mod UniqueQuestion
 pub mod ListEntries
+pub mod PrintedSequences

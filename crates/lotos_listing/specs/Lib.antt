@@ -10,3 +10,4 @@ pub mod MarkErrors
 pub mod NumberedPlaces
 pub mod Remaining
 pub mod ReachedForms
+pub mod ObservedLabels

@@ -4,7 +4,8 @@
 //! The definitions are those of derivations and of what is observed of them, of the order of sequences, of listings and
 //! of their members. A [`PrefixTree`] is walked by [`next_hit`], one length after the other, each length in order. A
 //! [`Mark`] is a sequence after which a listing starts, since the order of sequences depends only on their labels.
-//! [`compile`] compiles a pattern against the labels of a system, and [`place_after`] follows it, label by label.
+//! [`compile`] compiles a pattern against the labels of a system, and [`place_after`] follows it, label by label;
+//! [`is_observed`] tells which labels are observed.
 #![tactic(auto)]
 
 mod alphabet;
@@ -12,6 +13,7 @@ mod fault;
 mod found;
 pub mod laws;
 mod mark;
+mod observed_label;
 mod order;
 mod place_step;
 mod prefix_walk;
@@ -21,6 +23,7 @@ pub use alphabet::{compile, label_number};
 pub use fault::MarkFault;
 pub use found::{Found, Halt};
 pub use mark::Mark;
+pub use observed_label::is_observed;
 pub use order::compare;
 pub use place_step::place_after;
 pub use prefix_walk::{PrefixTree, next_hit};
