@@ -42,7 +42,8 @@ pub fn check_text<R: Source, W: Sink>(alloc: Global, reader: &mut R, writer: &mu
 /// Writes a line for each process of an accepted specification, and flushes the output if no write fails.
 pub fn write_processes<W: Sink>(alloc: Global, system: &Checked, writer: &mut W) -> Ended
     requires { W.has_failed writer.old ≡ false }
-    ensures outcome { ProcessesOutcome (system_of system.now) (W.written writer.old) (W.written writer.new) result }
+    ensures outcome { ProcessesOutcome (system_of system.now) (W.written writer.old) (W.written writer.new)
+        result }
     ensures failed { W.has_failed writer.new ≡ is_output_fault result }
 {
     let Ok(lines) = format_processes(alloc, system.processes()) else {

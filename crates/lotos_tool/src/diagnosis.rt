@@ -101,7 +101,8 @@ fn report_processes<W: Sink, E: Write>(
 ) -> u8
     requires accepted { IsAccepted (definition_view specification.now.whole) (system_of system.now) }
     requires out { W.has_failed out.old ≡ false }
-    ensures reported { ProcessesReported (system_of system.now) (W.written out.old) (W.written out.new) result }
+    ensures reported { ProcessesReported (system_of system.now) (W.written out.old) (W.written out.new)
+        result }
     ensures output { W.has_failed out.new ≡ (result == 6) }
 {
     let ended = write_processes(alloc, system, out);
