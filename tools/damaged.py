@@ -176,6 +176,13 @@ WORDS = [
     "search --depth 200 --terms 20 --limit 3 --explain <while> <any>",
     "search --depth 255 --terms 10 A B A B",
     "search --depth 0",
+    "search --length 2 --explain <while> <any>",
+    "search --length 3 --strong --terms 20 <until> i <while> <any>",
+    "search --length 255 --terms 20 --limit 4 <while> <any>",
+    "search --length 3 --explain --after A\xa0B <while> <any>",
+    "search --length 4 <until> <deadlock>",
+    "search --length=1 --depth=1 A",
+    "search --length 256 A",
     "search --depth 1 -- A",
     "search A --depth 1",
     "check",
@@ -185,7 +192,7 @@ WORDS = [
     "--help",
 ]
 OTHERS = (
-    "search check help --help -h --depth --limit --terms --after --explain --strong --known -- - --depth=1 --depth= 0 1 3 4 255 256 -1 "
+    "search check help --help -h --depth --length --limit --terms --after --explain --strong --known -- - --depth=1 --depth= 0 1 3 4 255 256 -1 "
     "+2 007 99999999999999999999 1e3 0x1 1000000 1000001 1000000000 1000000001 A B a exit EXIT i I <any> <until> <while> "
     "<deadlock> <ANY> <empty> <foo> A-B A_1 1A _A <any <any>> <not> A,B A,A i,A A, ,A A,,B , A,<any> "
     "\u00e4 \u017f \u212a A\xa0B A\xa0\xa0B i\xa0A A\xa0:\xa0A : <empty>\xa0:\xa0i"
@@ -213,7 +220,7 @@ def may_take_long(words):
 
 def damaged_words(rng):
     row = row_of(rng.choice(WORDS).split(" "))
-    kept = 3 if row[:2] == [b"search", b"--depth"] and rng.random() < 0.75 else 0
+    kept = 3 if row[:1] == [b"search"] and row[1] in (b"--depth", b"--length") and rng.random() < 0.75 else 0
     kept, row = row[:kept], row[kept:]
     for _ in range(rng.choice([1, 1, 2, 3])):
         if rng.random() < 0.4 and row:

@@ -18,6 +18,7 @@ const ROWS: &[&[&str]] = &[
         "-x",
         "A",
     ],
+    &["lotosseq", "search", "--length", "2", "A"],
     &["lotosseq", "ever", "<until> A", " B  <deadlock> "],
     &["lotosseq", "search", "--depth", "256"],
     &["lotosseq", "check", "-h"],

@@ -1,7 +1,8 @@
-//! Tests of the static rules through their crate's public items: specifications with their systems or their faults,
-//! each worked out by hand.
+//! Tests of the static rules, of explanations and of warnings through the public items of their crates: specifications
+//! with their systems, their faults, the lines that explain these, or their warnings, each worked out by hand.
 //!
-//! They are a crate of their own, because a crate with tests inside is proved twice.
+//! They are a crate of their own, because a crate with tests inside is proved twice, and one crate, because each that
+//! runs tests is linked with all libraries below.
 #![tactic(auto)]
 
 #[cfg(test)]
@@ -13,4 +14,12 @@ mod gate_scope_tests;
 #[cfg(test)]
 mod guardedness_tests;
 #[cfg(test)]
+mod mistakes;
+#[cfg(test)]
+mod names;
+#[cfg(test)]
+mod places;
+#[cfg(test)]
 mod table_texts;
+#[cfg(test)]
+mod warning_tests;

@@ -38,12 +38,17 @@ const REQUESTS: &[(&str, &[&str], &str)] = &[
             "-x",
             "A",
         ],
-        "Search(SearchRequest { depth: 7, limit: Some(3), terms: 100000, after: Some(\"A : i A\"), explain: false, strong: true, known: true, progress: true, words: [\"-x\", \"A\"] })",
+        "Search(SearchRequest { extent: Depth(7), limit: Some(3), terms: 100000, after: Some(\"A : i A\"), explain: false, strong: true, known: true, progress: true, words: [\"-x\", \"A\"] })",
     ),
     (
         "flags that are not given",
         &["lotosseq", "search", "--depth", "0", "--", "--known"],
-        "Search(SearchRequest { depth: 0, limit: None, terms: 100000, after: None, explain: false, strong: false, known: false, progress: false, words: [\"--known\"] })",
+        "Search(SearchRequest { extent: Depth(0), limit: None, terms: 100000, after: None, explain: false, strong: false, known: false, progress: false, words: [\"--known\"] })",
+    ),
+    (
+        "a length in place of a depth",
+        &["lotosseq", "search", "A", "--length", "255"],
+        "Search(SearchRequest { extent: Length(255), limit: None, terms: 100000, after: None, explain: false, strong: false, known: false, progress: false, words: [\"A\"] })",
     ),
     (
         "a question with options among its words",
@@ -176,6 +181,15 @@ const OTHERS: &[(&[&str], &str)] = &[
     (&["lotosseq", "ever", "--depth", "3"], "wrong"),
     (&["lotosseq", "search", "A"], "wrong"),
     (&["lotosseq", "search", "--depth", "256"], "wrong"),
+    (&["lotosseq", "search", "--length", "256"], "wrong"),
+    (&["lotosseq", "search", "--length", "-1"], "wrong"),
+    (&["lotosseq", "search", "--length=1", "--depth=1"], "wrong"),
+    (
+        &["lotosseq", "search", "--depth=1", "A", "--length", "0"],
+        "wrong",
+    ),
+    (&["lotosseq", "search", "--length=1", "--length=1"], "wrong"),
+    (&["lotosseq", "ever", "--length", "3"], "wrong"),
     (&["lotosseq", "search", "--depth=1", "--limit=0"], "wrong"),
     (&["lotosseq", "check", "A"], "wrong"),
     (&["lotosseq", "ever", "--known", "A"], "wrong"),
@@ -214,5 +228,44 @@ fn names_version_and_logic(rt: HostRuntime) {
             text.as_str(),
             "lotosseq 0.1.0 (proved, logic dac8208d650f15bf)\n"
         );
+    }
+}
+
+/// What is given, and the text of the fault: clap's, with the usage line of `search`.
+const EXTENTS: &[(&[&str], &str)] = &[
+    (
+        &["lotosseq", "search", "--length=1", "--depth=1"],
+        "error: the argument '--depth <N>' cannot be used with '--length <N>'
+
+Usage: lotosseq search [OPTIONS] <--depth <N>|--length <N>> [WORD]...
+
+For more information, try '--help'.
+",
+    ),
+    (
+        &["lotosseq", "search", "A"],
+        "error: the following required arguments were not provided:
+  <--depth <N>|--length <N>>
+
+Usage: lotosseq search [OPTIONS] <--depth <N>|--length <N>> [WORD]...
+
+For more information, try '--help'.
+",
+    ),
+];
+
+/// The text for words that fit no command; for others no text.
+fn wrong_text(alloc: Global, words: &[&str]) -> String {
+    match request(alloc, words) {
+        Err(CommandFault::Wrong(text)) => text,
+        _ => String::new(alloc),
+    }
+}
+
+#[test]
+fn says_that_one_extent_is_needed(rt: HostRuntime) {
+    for (words, expected) in EXTENTS {
+        let text = wrong_text(rt.alloc(), words);
+        assert_eq!(rt; text.as_str(), *expected);
     }
 }

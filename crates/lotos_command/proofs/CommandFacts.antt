@@ -3,8 +3,10 @@ use Rattle.std.proofs.Common.{◌≡◌, refl, true, false, codes, List, [], ◌
 use Rattle.clap.specs.Words.{Text, fault_of, is_simple, is_simple_and_free, takes}
 use Rattle.clap.specs.declared.error.kind.ErrorKind.TheVariants.{DisplayVersion, UnknownArgument, ValueValidation}
 use Rattle.clap.proofs.OnLiterals.{clap_on_literals}
+use Rattle.lotos_command.specs.CommandFaults.{MakeNoRequest}
 use Rattle.lotos_command.specs.CommandRules.{lotosseq}
 use Rattle.lotos_command.specs.Request.{RequestOf, check, diagnose, ever, search}
+use Rattle.lotos_command.specs.declared.command.Extent.TheVariants.{Depth, Length}
 
 pub simple_and_free : is_simple_and_free lotosseq ≡ true
 simple_and_free = refl
@@ -20,7 +22,7 @@ unfolding clap_on_literals
 row_is_taken = refl
 
 row_asks : RequestOf row (search (record {
-  depth = 3;
+  extent = Depth 3;
   limit = None;
   terms = 100000;
   after = None;
@@ -37,7 +39,7 @@ abbrev hyphen_row : List Text
 hyphen_row = codes "lotosseq" ∷ codes "search" ∷ codes "--depth=007" ∷ codes "--" ∷ codes "-x" ∷ []
 
 hyphen_asks : RequestOf hyphen_row (search (record {
-  depth = 7;
+  extent = Depth 7;
   limit = None;
   terms = 100000;
   after = None;
@@ -56,7 +58,7 @@ full_row =
     ∷ codes "--explain" ∷ codes "--terms=7" ∷ codes "--strong" ∷ codes "B" ∷ codes "--known" ∷ codes "--progress" ∷ []
 
 full_asks : RequestOf full_row (search (record {
-  depth = 1;
+  extent = Depth 1;
   limit = Some 4;
   terms = 7;
   after = Some (codes "A : i A");
@@ -68,6 +70,31 @@ full_asks : RequestOf full_row (search (record {
 }))
 unfolding clap_on_literals
 full_asks = record { faultless = refl; reads = refl }
+
+abbrev length_row : List Text
+length_row = codes "lotosseq" ∷ codes "search" ∷ codes "--length" ∷ codes "255" ∷ []
+
+length_asks : RequestOf length_row (search (record {
+  extent = Length 255;
+  limit = None;
+  terms = 100000;
+  after = None;
+  explain = false;
+  strong = false;
+  known = false;
+  progress = false;
+  words = [];
+}))
+unfolding clap_on_literals
+length_asks = record { faultless = refl; reads = refl }
+
+both_ask_nothing : MakeNoRequest (codes "lotosseq" ∷ codes "search" ∷ codes "--length=1" ∷ codes "--depth=1" ∷ [])
+unfolding clap_on_literals
+both_ask_nothing = (refl, refl)
+
+neither_asks_anything : MakeNoRequest (codes "lotosseq" ∷ codes "search" ∷ codes "A" ∷ [])
+unfolding clap_on_literals
+neither_asks_anything = (refl, refl)
 
 check_row_asks : RequestOf (codes "lotosseq" ∷ codes "check" ∷ []) check
 unfolding clap_on_literals
@@ -100,6 +127,10 @@ check_has_no_progress = refl
 check_takes_no_word : fault_of lotosseq (codes "lotosseq" ∷ codes "check" ∷ codes "A" ∷ []) ≡ UnknownArgument ∷ []
 unfolding clap_on_literals
 check_takes_no_word = refl
+
+too_long : fault_of lotosseq (codes "lotosseq" ∷ codes "search" ∷ codes "--length" ∷ codes "256" ∷ []) ≡ ValueValidation ∷ []
+unfolding clap_on_literals
+too_long = refl
 
 too_deep : fault_of lotosseq (codes "lotosseq" ∷ codes "search" ∷ codes "--depth" ∷ codes "256" ∷ []) ≡ ValueValidation ∷ []
 unfolding clap_on_literals

@@ -1,6 +1,6 @@
 -- What the getters of clap's matches return for an entry that can be read.
 use Rattle.std.proofs.Common.{◌≡◌, ◌∙◌, ◌<◌, ◌^◌, ◌||◌, ap, sym, refl, ℕ, Bool, true, false, Option, Some, None, Result, Ok, Err, codes, arith}
-use Rattle.std.specs.Prelude.{IfSome, IsSomeAnd, IsSome}
+use Rattle.std.specs.Prelude.{IfSome}
 use Rattle.std.specs.Option.{option_map, option_map_or, unwrap_or}
 use Rattle.std.specs.Str.{bytes_eq}
 use Rattle.std.specs.Str.Parse.{ParsesUnsigned}
@@ -9,17 +9,6 @@ use Rattle.clap.specs.Words.{Text}
 use Rattle.clap.specs.Matches.{ReadsOne}
 use Rattle.lotos_command.specs.EntryRules.{IsNumberIn, IsTruthText}
 use Rattle.lotos_command.specs.Request.{number}
-
--- the getter of an entry that is a number returns a number
-pub number_is_there : (low high : ℕ) (entry : Option Text) (r : Option ℕ) → IsSomeAnd entry (IsNumberIn low high)
-    → r ≡ option_map number entry → IsSome r
-number_is_there low high (Some t) r within e = rw e refl
-number_is_there low high None r within e = absurd within
-
--- an entry that exists and can be read can be read if it exists
-pub read_if_there : (low high : ℕ) (entry : Option Text) → IsSomeAnd entry (IsNumberIn low high) → IfSome entry (IsNumberIn low high)
-read_if_there low high (Some t) within = within
-read_if_there low high None within = absurd within
 
 -- `G` reads texts as numbers below `2 ^ k`, and the upper bound is below `2 ^ k`
 module _ (E : Type 0) (G : Text → Result ℕ E → Type 0) (k low high : ℕ)

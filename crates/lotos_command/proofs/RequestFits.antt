@@ -77,29 +77,6 @@ module _ (rules : List Rule) (rows : List Row) (all : Each (IsReady rules) rows)
           let found = each_found (IsReady rules) (λ x. bytes_eq x.id id) rows r all e in
           row_reads r found.0 (rule_is r found.0 found.1)
 
-  row_is_filled : (r : Row) (ready : IsReady rules r) → ready.rule ≡ a → 1 ≤ (unwrap_or_range a.range).start_inclusive
-      → IsSomeAnd (row_text r) (IsReadFrom a)
-  row_is_filled r ready same wanted = go r.values ready.passed (ready.filled (subst IsWanted (sym same) wanted))
-    where
-      IsWanted : Rule → Type 0
-      IsWanted x = 1 ≤ (unwrap_or_range x.range).start_inclusive
-
-      go : (vs : List Text) → values_fault ready.rule vs ≡ [] → 1 ≤ length vs
-          → IsSomeAnd (option_map (read_as r.reading) (slice_get vs 0)) (IsReadFrom a)
-      go [] none one = absurd (omega arith)
-      go (v ∷ vs) none one = first_reads r ready same v vs none
-
-  -- an argument that requires a value and was given has an entry, and its parser accepts it
-  given_fits : 1 ≤ (unwrap_or_range a.range).start_inclusive → is_given id rows ≡ true → IsSomeAnd (one_of id rows) (IsReadFrom a)
-  given_fits wanted given = go (find (λ x. bytes_eq x.id id) rows) refl given
-    where
-      go : (o : Option Row) → find (λ x. bytes_eq x.id id) rows ≡ o
-          → option_map_or (λ r. explicit_source r.source) o false ≡ true → IsSomeAnd (option_and_then row_text o) (IsReadFrom a)
-      go None e h = cc
-      go (Some r) e h =
-          let found = each_found (IsReady rules) (λ x. bytes_eq x.id id) rows r all e in
-          row_is_filled r found.0 (rule_is r found.0 found.1) wanted
-
 -- ---- numbers
 
 without_minus-cond : (t : Text) → without_minus t ≡ cond (starts_with_minus t) (drop 1 t) t
@@ -138,10 +115,6 @@ signed_is_within low high t accepted = subst (IsNumberIn low high) (sym (without
         let high_ok : number t ≤ high = omega (arith, ints) in
         let bare : IsNumberIn low high t = record { numeral = digits; least = low_ok; most = high_ok } in
         rw minus bare
-
-some_and_more : (P Q : Text → Type 0) (o : Option Text) → ((t : Text) → P t → Q t) → IsSomeAnd o P → IsSomeAnd o Q
-some_and_more P Q None more h = absurd h
-some_and_more P Q (Some t) more h = more t h
 
 if_some_more : (P Q : Text → Type 0) (o : Option Text) → ((t : Text) → P t → Q t) → IfSome o P → IfSome o Q
 if_some_more P Q None more h = tt
@@ -191,7 +164,7 @@ search_is_ordinary = (
           is_ordinary_here _ refl refl,
           (
             is_ordinary_here _ refl refl,
-            (is_ordinary_here _ refl refl, (is_ordinary_here _ refl refl, (is_ordinary_here _ refl refl, (is_ordinary_here _ refl refl, tt)))),
+            (is_ordinary_here _ refl refl, (is_ordinary_here _ refl refl, (is_ordinary_here _ refl refl, (is_ordinary_here _ refl refl, (is_ordinary_here _ refl refl, tt))))),
           ),
         ),
       ),
@@ -220,18 +193,14 @@ ever_is_ordinary = (
   ),
 )
 
-depth_is_given : (rows : List Row) → check_fault search_shape rows false ≡ [] → is_given (codes "depth") rows ≡ true
-depth_is_given rows e = go (is_given (codes "depth") rows) e
-  where
-    go : (b : Bool) → cond (not b || false) (kind.MissingRequiredArgument ∷ []) [] ≡ [] → b ≡ true
-    go true none = refl
-    go false none = absurd (not_empty _ _ none)
-
-search_fits : (rows : List Row) → Each (IsReady search_shape.rules) rows → check_fault search_shape rows false ≡ [] → FitsSearch rows
-search_fits rows all e = record {
-  depth = some_and_more _ (IsNumberIn 0 255) (one_of (codes "depth") rows)
+search_fits : (rows : List Row) → Each (IsReady search_shape.rules) rows → FitsSearch rows
+search_fits rows all = record {
+  depth = if_some_more _ (IsNumberIn 0 255) (one_of (codes "depth") rows)
       (λ t read. subst (IsNumberIn 0 255) (sym read.is) (signed_is_within 0 255 read.value read.accepted))
-      (given_fits search_shape.rules rows all (codes "depth") _ refl (omega arith) (depth_is_given rows e));
+      (entry_fits search_shape.rules rows all (codes "depth") _ refl);
+  length = if_some_more _ (IsNumberIn 0 255) (one_of (codes "length") rows)
+      (λ t read. subst (IsNumberIn 0 255) (sym read.is) (signed_is_within 0 255 read.value read.accepted))
+      (entry_fits search_shape.rules rows all (codes "length") _ refl);
   limit = if_some_more _ (IsNumberIn 1 1000000000) (one_of (codes "limit") rows)
       (λ t read. subst (IsNumberIn 1 1000000000) (sym read.is) (signed_is_within 1 1000000000 read.value read.accepted))
       (entry_fits search_shape.rules rows all (codes "limit") _ refl);
@@ -299,7 +268,7 @@ stop_fits rows (Some p) well below check =
         → FitsRequest (option_map (λ s. rows_at s p.1) (named is_search is_check is_ever is_help))
     go true is_check is_ever is_help e under check =
         let left = level_leaves search_shape [] search_is_ordinary p.1 false [] under in
-        inl (refl, search_fits _ left.ready left.checked)
+        inl (refl, search_fits _ left.ready)
     go false true is_ever is_help e under check =
         let left = level_leaves check_shape [] check_is_ordinary p.1 false [] under in
         inr (inl (refl, check_fits _ left.ready))

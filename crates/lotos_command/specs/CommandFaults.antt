@@ -1,15 +1,16 @@
 -- Why words make no request, by the kinds of the faults that clap may report for them.
-use Rattle.std.specs.Prelude.{◌≡◌, ◌≢◌, ◌⊎◌, true, List, ⊤}
+use Rattle.std.specs.Prelude.{◌≡◌, ◌≢◌, ◌⊎◌, true, List, [], None, Option, Some, ⊤}
 use Rattle.clap.specs.Words.{IsAmong, Text, fault_of, takes}
 use Rattle.clap.specs.declared.error.kind.ErrorKind.{ErrorKind}
 use Rattle.clap.specs.declared.error.kind.ErrorKind.TheVariants as kind
 use Rattle.lotos_command.specs.CommandRules.{lotosseq}
+use Rattle.lotos_command.specs.Request.{RequestView, request_of}
 use Rattle.lotos_command.specs.declared.command.CommandFault.{CommandFault}
 use Rattle.lotos_command.specs.declared.command.CommandFault.TheVariants.{Help, Memory, Wrong}
 
--- clap accepts the words: its parse fails only if memory runs out
+-- clap accepts the words: its parse fails only if memory runs out; and they make a request
 abbrev pub AreAccepted : List Text → Type 0
-AreAccepted words = takes lotosseq words ≡ true
+AreAccepted words = (takes lotosseq words ≡ true) × ((request : RequestView) × (request_of words ≡ Some request))
 
 -- the kind of fault by which clap answers a request for help or for the version
 abbrev pub IsHelpKind : ErrorKind → Type 0
@@ -19,9 +20,18 @@ IsHelpKind k = (k ≡ kind.DisplayHelp) ⊎ (k ≡ kind.DisplayVersion)
 abbrev pub AskForHelp : List Text → Type 0
 AskForHelp words = (k : ErrorKind) × IsAmong k (fault_of lotosseq words) × IsHelpKind k
 
--- clap may report a fault of the words whose kind is that of neither request
+-- clap may report a fault of the words whose kind is that of neither of these
+abbrev pub AreFaulty : List Text → Type 0
+AreFaulty words = (k : ErrorKind) × IsAmong k (fault_of lotosseq words) × (k ≢ kind.DisplayHelp) × (k ≢ kind.DisplayVersion)
+
+-- clap finds no fault in the words, and the entries that it finds make no request: those of a search that has both a
+-- depth and a length, or neither
+abbrev pub MakeNoRequest : List Text → Type 0
+MakeNoRequest words = (fault_of lotosseq words ≡ []) × (request_of words ≡ None)
+
+-- clap may report a fault of the words, or they make no request
 abbrev pub AreRejected : List Text → Type 0
-AreRejected words = (k : ErrorKind) × IsAmong k (fault_of lotosseq words) × (k ≢ kind.DisplayHelp) × (k ≢ kind.DisplayVersion)
+AreRejected words = AreFaulty words ⊎ MakeNoRequest words
 
 -- the words may have this fault; memory can run out for any words
 abbrev pub IsFaultOf : List Text → CommandFault → Type 0
@@ -34,3 +44,16 @@ abbrev pub IsFaultOfKind : ErrorKind → CommandFault → Type 0
 IsFaultOfKind k (Help text) = IsHelpKind k
 IsFaultOfKind k (Wrong text) = (k ≢ kind.DisplayHelp) × (k ≢ kind.DisplayVersion) × (k ≢ kind.OutOfMemory)
 IsFaultOfKind k Memory = ⊤
+
+-- the fault of entries that make no request: words that fit no command, or out of memory
+abbrev pub IsExtentFault : CommandFault → Type 0
+IsExtentFault (Help text) = ⊥
+IsExtentFault (Wrong text) = ⊤
+IsExtentFault Memory = ⊤
+
+-- the fault that reading entries may return where they make this, if they make anything: out of memory, or, if they make
+-- nothing, words that fit no command
+abbrev pub IsFaultOfEntries : {X : Type 0} → Option X → CommandFault → Type 0
+IsFaultOfEntries made (Help text) = ⊥
+IsFaultOfEntries made (Wrong text) = made ≡ None
+IsFaultOfEntries made Memory = ⊤

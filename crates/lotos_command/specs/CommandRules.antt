@@ -16,12 +16,17 @@ option_rule name = record (new_rule name) {
   value_names = 1;
 }
 
--- `--depth N`, which must be given once, with a number from 0 to 255
+-- `--depth N` or `--length N`, with a number from 0 to 255
+abbrev pub extent_rule : Text → Rule
+extent_rule name = record (option_rule name) { parser = Some (Signed (pos 0) (pos 255)) }
+
+-- `--depth N`
 abbrev pub depth_rule : Rule
-depth_rule = record (option_rule (codes "depth")) {
-  required = true;
-  parser = Some (Signed (pos 0) (pos 255));
-}
+depth_rule = extent_rule (codes "depth")
+
+-- `--length N`
+abbrev pub length_rule : Rule
+length_rule = extent_rule (codes "length")
 
 -- `--limit N`, with a number from 1 to 1,000,000,000
 abbrev pub limit_rule : Rule
@@ -83,9 +88,10 @@ with_rules app (rule ∷ rules) = with_rules (with_rule app rule) rules
 -- the arguments of `search`, in the order of its help
 abbrev pub search_rules : List Rule
 search_rules =
-    depth_rule ∷ limit_rule ∷ terms_rule ∷ after_rule ∷ explain_rule ∷ strong_rule ∷ known_rule ∷ progress_rule ∷ words_rule ∷ []
+    depth_rule ∷ length_rule ∷ limit_rule ∷ terms_rule ∷ after_rule ∷ explain_rule ∷ strong_rule ∷ known_rule ∷ progress_rule ∷ words_rule ∷ []
 
--- `search --depth N [--limit N] [--terms N] [--after LINE] [--explain] [--strong] [--known] [--progress] [WORD ..]`
+-- `search [--depth N] [--length N] [--limit N] [--terms N] [--after LINE] [--explain] [--strong] [--known] [--progress]
+-- [WORD ..]`; just one of the depth and the length makes a request
 abbrev pub search_app : App
 search_app = with_rules (new_app (codes "search")) search_rules
 

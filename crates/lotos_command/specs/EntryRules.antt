@@ -1,5 +1,5 @@
 -- Which entries that clap finds in a command line can be read.
-use Rattle.std.specs.Prelude.{◌≡◌, ◌⊎◌, ◌≤◌, ◌||◌, ℕ, true, List, Option, Some, None, codes, IfSome, IsSomeAnd}
+use Rattle.std.specs.Prelude.{◌≡◌, ◌⊎◌, ◌≤◌, ◌||◌, ℕ, true, List, Option, Some, None, codes, IfSome}
 use Rattle.std.specs.Str.{bytes_eq}
 use Rattle.std.specs.Str.Parse.{IsNumeral, without_leading_plus}
 use Rattle.clap.specs.Words.{Row, Text, one_of}
@@ -15,9 +15,10 @@ pub record IsNumberIn (low high : ℕ) (text : Text) : Type 0 where
 abbrev pub IsTruthText : Text → Type 0
 IsTruthText text = (bytes_eq text (codes "true") || bytes_eq text (codes "false")) ≡ true
 
--- the entries of `search` have a depth; their numbers are within their bounds, and their flags can be read
+-- the numbers among the entries of `search` are within their bounds, and the flags can be read
 pub record FitsSearch (rows : List Row) : Type 0 where
-  pub depth : IsSomeAnd (one_of (codes "depth") rows) (IsNumberIn 0 255)
+  pub depth : IfSome (one_of (codes "depth") rows) (IsNumberIn 0 255)
+  pub length : IfSome (one_of (codes "length") rows) (IsNumberIn 0 255)
   pub limit : IfSome (one_of (codes "limit") rows) (IsNumberIn 1 1000000000)
   pub terms : IfSome (one_of (codes "terms") rows) (IsNumberIn 1 1000000)
   pub explain : IfSome (one_of (codes "explain") rows) IsTruthText

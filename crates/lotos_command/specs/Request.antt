@@ -9,12 +9,14 @@ use Rattle.lotos_command.specs.PatternWords.{pattern_words}
 use Rattle.lotos_command.specs.declared.command.Request.{Request}
 use Rattle.lotos_command.specs.declared.command.Request.TheVariants as request
 use Rattle.lotos_command.specs.declared.command.DiagnoseRequest.{DiagnoseRequest}
+use Rattle.lotos_command.specs.declared.command.Extent.{Extent}
+use Rattle.lotos_command.specs.declared.command.Extent.TheVariants.{Depth, Length}
 use Rattle.lotos_command.specs.declared.command.SearchRequest.{SearchRequest}
 use Rattle.lotos_command.specs.declared.command.EverRequest.{EverRequest}
 
 -- the view of a search: texts for strings
 pub record SearchView : Type 0 where
-  pub depth : ℕ
+  pub extent : Extent
   pub limit : Option ℕ
   pub terms : ℕ
   pub after : Option Text
@@ -42,7 +44,7 @@ pub data RequestView : Type 0 where
 -- the view of this search
 abbrev pub search_view : SearchRequest → SearchView
 search_view request = record {
-  depth = request.depth;
+  extent = request.extent;
   limit = request.limit;
   terms = request.terms;
   after = option_map string_bytes request.after;
@@ -78,10 +80,21 @@ number text = digits_value 10 (without_leading_plus text)
 abbrev pub flag : Text → List Row → Bool
 flag name rows = option_map_or (bytes_eq (codes "true")) (one_of name rows) false
 
--- the search that the entries of the subcommand `search` make, if they have a depth
+-- the extent of a listing for which this depth and this length are given, if just one of them is
+abbrev pub extent_of : (depth length : Option ℕ) → Option Extent
+extent_of None None = None
+extent_of None (Some n) = Some (Length n)
+extent_of (Some d) None = Some (Depth d)
+extent_of (Some d) (Some n) = None
+
+-- the extent that the entries of the subcommand `search` give, if they give just one
+abbrev pub extent_from : List Row → Option Extent
+extent_from rows = extent_of (option_map number (one_of (codes "depth") rows)) (option_map number (one_of (codes "length") rows))
+
+-- the search that the entries of the subcommand `search` make, if they give just one extent
 abbrev pub search_from : List Row → Option SearchView
-search_from rows = option_map (λ depth. record {
-  depth = number depth;
+search_from rows = option_map (λ extent. record {
+  extent = extent;
   limit = option_map number (one_of (codes "limit") rows);
   terms = option_map_or number (one_of (codes "terms") rows) 100000;
   after = first_of (codes "after") rows;
@@ -90,7 +103,7 @@ search_from rows = option_map (λ depth. record {
   known = flag (codes "known") rows;
   progress = flag (codes "progress") rows;
   words = pattern_words (unwrap_or (all_of (codes "words") rows) []);
-}) (one_of (codes "depth") rows)
+}) (extent_from rows)
 
 -- the search for a match that the entries of the subcommand `ever` make
 abbrev pub ever_from : List Row → EverView

@@ -24,19 +24,30 @@ pub struct DiagnoseRequest {
     pub warn: bool,
 }
 
+/// Which sequences a listing has.
+#[derive(Clone, Copy, Debug, PartialEq, Eq)]
+pub enum Extent {
+    /// Those of the derivations of at most so many steps, internal ones included.
+    Depth(u8),
+    /// Those of at most so many labels, of derivations of any number of steps.
+    Length(u8),
+}
+
 /// A request for a listing. The words are not yet read as a pattern, and the line is as the command line has it, not
 /// yet read as a mark.
 #[derive(Debug, Drop)]
 pub struct SearchRequest {
-    /// The most steps of a derivation, internal ones included.
-    pub depth: u8,
+    /// Which sequences are listed.
+    pub extent: Extent,
     /// The most lines that are written, at least 1; `None` for no limit.
     pub limit: Option<u32>,
-    /// The most terms that a prefix of a sequence may reach, at least 1.
+    /// The most terms that a prefix of a sequence may reach, at least 1; normal forms of terms, if the listing is one by
+    /// length.
     pub terms: usize,
     /// A line of a listing: only what comes after its sequence is listed. `None` for the whole listing.
     pub after: Option<String>,
-    /// Whether each line has the least run of its sequence after the sequence.
+    /// Whether each line has the least run of its sequence after the sequence; the first of the shortest of any length, if
+    /// the listing is one by length.
     pub explain: bool,
     /// Whether internal steps are observed: `i` is then a label like others.
     pub strong: bool,

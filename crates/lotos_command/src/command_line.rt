@@ -2,17 +2,17 @@
 ghost use Rattle.std.specs.Prelude.{◌≡◌, IfOk, false, map};
 ghost use Rattle.clap.specs.Words.{app_of, rule_of};
 ghost use Rattle.clap.specs.declared.builder.command.Command.TheViews.{out-Command as fields_of};
-ghost use Rattle.lotos_command.specs.CommandRules.{AreCommandsOf, check_app, check_rules, depth_rule, ever_app, ever_rules, flag_rule, limit_rule, lotosseq, option_rule, search_app, search_rules, states_rule, subcommand_apps, terms_rule, words_rule};
+ghost use Rattle.lotos_command.specs.CommandRules.{AreCommandsOf, check_app, check_rules, ever_app, extent_rule, ever_rules, flag_rule, limit_rule, lotosseq, option_rule, search_app, search_rules, states_rule, subcommand_apps, terms_rule, words_rule};
 
 use crate::help::{
     ABOUT, AFTER_HELP, AFTER_LONG_HELP, CHECK_ABOUT, CHECK_EXPLAIN_HELP, CHECK_EXPLAIN_LONG_HELP,
     CHECK_LONG_ABOUT, CHECK_STATUSES, DEPTH_HELP, DEPTH_LONG_HELP, EVER_ABOUT, EVER_EXPLAIN_HELP,
     EVER_EXPLAIN_LONG_HELP, EVER_LONG_ABOUT, EVER_STATUSES, EVER_STRONG_LONG_HELP,
-    EVER_WORDS_LONG_HELP, EXPLAIN_HELP, EXPLAIN_LONG_HELP, KNOWN_HELP, KNOWN_LONG_HELP, LIMIT_HELP,
-    LIMIT_LONG_HELP, LONG_ABOUT, PROGRESS_HELP, PROGRESS_LONG_HELP, SEARCH_ABOUT,
-    SEARCH_LONG_ABOUT, SEARCH_STATUSES, STATES_HELP, STATES_LONG_HELP, STATUSES, STRONG_HELP,
-    STRONG_LONG_HELP, TERMS_HELP, TERMS_LONG_HELP, VERSION, WARN_HELP, WARN_LONG_HELP, WORDS_HELP,
-    WORDS_LONG_HELP,
+    EVER_WORDS_LONG_HELP, EXPLAIN_HELP, EXPLAIN_LONG_HELP, KNOWN_HELP, KNOWN_LONG_HELP,
+    LENGTH_HELP, LENGTH_LONG_HELP, LIMIT_HELP, LIMIT_LONG_HELP, LONG_ABOUT, PROGRESS_HELP,
+    PROGRESS_LONG_HELP, SEARCH_ABOUT, SEARCH_LONG_ABOUT, SEARCH_STATUSES, SEARCH_USAGE,
+    STATES_HELP, STATES_LONG_HELP, STATUSES, STRONG_HELP, STRONG_LONG_HELP, TERMS_HELP,
+    TERMS_LONG_HELP, VERSION, WARN_HELP, WARN_LONG_HELP, WORDS_HELP, WORDS_LONG_HELP,
 };
 use clap::{Arg, ArgAction, Command, value_parser};
 use std::alloc::{AllocError, Global};
@@ -41,12 +41,13 @@ fn subcommands<'a>(alloc: Global) -> Result<Vec<Command<'a>>, AllocError>
     Ok(all)
 }
 
-fn search_command<'a>(alloc: Global) -> Result<Command<'a>, AllocError>
+pub(crate) fn search_command<'a>(alloc: Global) -> Result<Command<'a>, AllocError>
     ensures app { IfOk result (λ c. app_of c ≡ search_app) }
     ensures local { IfOk result (λ c. (fields_of c).has_globals ≡ false) }
 {
     let args = search_args(alloc)?;
     Command::new(alloc, "search")
+        .override_usage(SEARCH_USAGE)
         .about(SEARCH_ABOUT)
         .long_about(SEARCH_LONG_ABOUT)
         .after_help(SEARCH_STATUSES)
@@ -58,7 +59,8 @@ fn search_args<'a>(alloc: Global) -> Result<Vec<Arg<'a>>, AllocError>
     ensures { IfOk result (λ args. map rule_of args.items ≡ search_rules) }
 {
     Ok(vec![in alloc;
-        depth_arg(alloc),
+        extent_arg(alloc, "depth", DEPTH_HELP, DEPTH_LONG_HELP),
+        extent_arg(alloc, "length", LENGTH_HELP, LENGTH_LONG_HELP),
         limit_arg(alloc),
         terms_arg(alloc),
         option(alloc, "after", "LINE", AFTER_HELP, AFTER_LONG_HELP),
@@ -122,12 +124,11 @@ fn ever_args<'a>(alloc: Global) -> Result<Vec<Arg<'a>>, AllocError>
     ]?)
 }
 
-fn depth_arg<'a>(alloc: Global) -> Arg<'a>
-    ensures { rule_of result ≡ depth_rule }
+/// An option that says which sequences are listed.
+fn extent_arg<'a>(alloc: Global, name: &'a str, help: &'a str, long_help: &'a str) -> Arg<'a>
+    ensures { rule_of result ≡ extent_rule name.now }
 {
-    option(alloc, "depth", "N", DEPTH_HELP, DEPTH_LONG_HELP)
-        .required(true)
-        .value_parser(value_parser!(u8))
+    option(alloc, name, "N", help, long_help).value_parser(value_parser!(u8))
 }
 
 fn limit_arg<'a>(alloc: Global) -> Arg<'a>

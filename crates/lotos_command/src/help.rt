@@ -78,9 +78,10 @@ pub(crate) const SEARCH_ABOUT: &str = "Lists the sequences that match a pattern"
 pub(crate) const SEARCH_LONG_ABOUT: &str = "Lists the sequences that match a pattern
 
 Reads a specification in basic LOTOS from standard input (a file is given by `< FILE`)
-and writes a listing to standard output. The listing has every sequence that matches
-the pattern and that some derivation of at most N steps from the specification's
-behaviour shows.
+and writes a listing to standard output. With `--length N` it has every sequence of at
+most N labels that matches the pattern and that some derivation from the
+specification's behaviour shows, of any number of steps; with `--depth N` it has
+those of derivations of at most N steps. One of the two is given.
 
 Each sequence occurs once, on a line of its own: its labels, separated by one
 blank, or `<empty>`. Shorter sequences come first, and sequences of one length in
@@ -88,8 +89,20 @@ the order of their labels: gates by their names, then `exit`.
 
 For example, with the specification
   specification S [a,b] : exit behaviour a; b; exit endspec
-the command `lotosseq search --depth 3 a b exit` lists
+the command `lotosseq search --length 3 a b exit` lists
   A B exit";
+
+/// The usage line: one of `--depth` and `--length` is required.
+pub(crate) const SEARCH_USAGE: &str =
+    "lotosseq search [OPTIONS] <--depth <N>|--length <N>> [WORD]...";
+
+/// What is wrong with a search that has neither `--depth` nor `--length`.
+pub(crate) const NO_EXTENT: &str = "the following required arguments were not provided:
+  <--depth <N>|--length <N>>";
+
+/// What is wrong with a search that has both.
+pub(crate) const TWO_EXTENTS: &str =
+    "the argument '--depth <N>' cannot be used with '--length <N>'";
 
 pub(crate) const DEPTH_HELP: &str = "The most steps of a derivation, 0 to 255";
 
@@ -98,6 +111,13 @@ pub(crate) const DEPTH_LONG_HELP: &str = "The most steps of a derivation, 0 to 2
 Every step counts, those of the internal action `i` too, and so does successful
 termination. For example, `a; b; exit` shows `A B exit` with `--depth 3` and not with
 `--depth 2`.";
+
+pub(crate) const LENGTH_HELP: &str = "The most labels of a sequence, 0 to 255";
+
+pub(crate) const LENGTH_LONG_HELP: &str = "The most labels of a sequence, 0 to 255
+
+How many steps a derivation takes is no matter, so internal steps do not count. For
+example, `i; i; a; b; exit` shows `A B` with `--length 2`.";
 
 pub(crate) const LIMIT_HELP: &str = "The most lines that are written, 1 to 1000000000";
 
@@ -111,9 +131,10 @@ pub(crate) const TERMS_HELP: &str = "The most terms that a prefix may reach, 1 t
 pub(crate) const TERMS_LONG_HELP: &str = "The most terms that a prefix may reach, 1 to 1000000
 
 A prefix is a beginning of a sequence that can still match. It reaches the terms in
-which derivations that show it end. The search stops with status 4 at the first prefix
-that reaches more. For example, with `--terms 1` the specification's behaviour
-`i; a; stop` stops the search at `<empty>`, which reaches two terms.";
+which derivations that show it end; with `--length` their normal forms count. The
+search stops with status 4 at the first prefix that reaches more. For example, with
+`--terms 1` the specification's behaviour `i; a; stop` stops the search at `<empty>`,
+which reaches two terms.";
 
 pub(crate) const AFTER_HELP: &str = "Lists only what comes after this line of a listing";
 
@@ -130,8 +151,8 @@ pub(crate) const EXPLAIN_LONG_HELP: &str = "Writes the least run of each sequenc
 
 A line is then the sequence, ` : ` and a run: the labels of a derivation that shows
 the sequence, internal steps included. It is the shortest one, and of those the first
-in the order of labels, `i` being the last of these. For example, `i; i; a; stop` with
-`--depth 3 --explain A` lists
+in the order of labels, `i` being the last of these. With `--length` it may have any
+number of steps. For example, `i; i; a; stop` with `--length 1 --explain A` lists
   A : i i A";
 
 pub(crate) const STRONG_HELP: &str = "Makes the internal action `i` a label like others";

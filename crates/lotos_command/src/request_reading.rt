@@ -1,15 +1,17 @@
 //! The request in the words of a command line, read by clap.
-ghost use Rattle.std.specs.Prelude.{◌≡◌, ◌≤◌, ◌++◌, IfErr, IfOk, IfSome, IsSomeAnd, Some, map, [], codes, option_map, string_bytes, unwrap_or};
+ghost use Rattle.std.specs.Prelude.{◌≡◌, ◌≤◌, ◌≢◌, ◌++◌, IfErr, IfOk, IfSome, Some, map, [], codes, option_map, string_bytes, unwrap_or};
 ghost use Rattle.std.specs.Option.{option_map_or};
 ghost use Rattle.clap.specs.Walk.{texts as texts_of};
+ghost use Rattle.clap.specs.declared.error.kind.ErrorKind.TheVariants as ErrorKind;
 ghost use Rattle.clap.specs.Words.{all_of, first_of, found_of, kind_of, one_of, rows_of, subcommand_rows_of};
-ghost use Rattle.lotos_command.specs.CommandFaults.{AreAccepted, IsFaultOfKind, IsFaultOf};
+ghost use Rattle.lotos_command.specs.CommandFaults.{AreAccepted, IsExtentFault, IsFaultOf, IsFaultOfEntries, IsFaultOfKind};
 ghost use Rattle.lotos_command.specs.EntryRules.{FitsCheck, FitsEver, FitsRequest, FitsSearch, IsNumberIn, IsTruthText};
 ghost use Rattle.lotos_command.specs.PatternWords.{parts_between_blanks, pattern_words, pattern_words_in};
-ghost use Rattle.lotos_command.specs.Request.{HasBounds, HasSearchBounds, RequestOf, check_from, ever_from, ever_view, flag, number, request_from, request_view, search_from, search_view};
+ghost use Rattle.lotos_command.specs.Request.{HasBounds, HasSearchBounds, RequestOf, check_from, ever_from, ever_view, extent_from, flag, number, request_from, request_view, search_from, search_view};
 
-use crate::command::{CommandFault, DiagnoseRequest, EverRequest, Request, SearchRequest};
-use crate::command_line::lotosseq_command;
+use crate::command::{CommandFault, DiagnoseRequest, EverRequest, Extent, Request, SearchRequest};
+use crate::command_line::{lotosseq_command, search_command};
+use crate::help::{NO_EXTENT, TWO_EXTENTS};
 use clap::error::ErrorKind;
 use clap::{ArgMatches, Error};
 use std::alloc::{AllocError, Global};
@@ -44,10 +46,12 @@ pub fn request(alloc: Global, words: &[&str]) -> Result<Request, CommandFault>
     }
 }
 
-fn read_request(alloc: Global, found: &ArgMatches<'_>) -> Result<Request, AllocError>
+/// The request that the subcommand makes. A search has just one of a depth and a length.
+fn read_request(alloc: Global, found: &ArgMatches<'_>) -> Result<Request, CommandFault>
     requires { FitsRequest (subcommand_rows_of found.now) }
     ensures is { IfOk result (λ r. request_from (subcommand_rows_of found.now) ≡ Some (request_view r)) }
     ensures bounds { IfOk result HasBounds }
+    ensures fault { IfErr result (IsFaultOfEntries (request_from (subcommand_rows_of found.now))) }
 {
     let (name, given) = found.subcommand().unwrap();
     if name == "search" {
@@ -73,13 +77,15 @@ fn read_check_request(found: &ArgMatches<'_>) -> Request
     }
 }
 
-fn read_search_request(alloc: Global, found: &ArgMatches<'_>) -> Result<SearchRequest, AllocError>
+fn read_search_request(alloc: Global, found: &ArgMatches<'_>) -> Result<SearchRequest, CommandFault>
     requires { FitsSearch (rows_of (found_of found.now)) }
     ensures is { IfOk result (λ r. search_from (rows_of (found_of found.now)) ≡ Some (search_view r)) }
     ensures bounds { IfOk result HasSearchBounds }
+    ensures fault { IfErr result (IsFaultOfEntries (search_from (rows_of (found_of found.now)))) }
 {
+    let extent = read_extent(alloc, found)?;
     Ok(SearchRequest {
-        depth: read_depth(found),
+        extent,
         limit: read_limit(found),
         terms: read_terms(found),
         after: read_after(alloc, found)?,
@@ -108,11 +114,50 @@ fn read_ever_request(alloc: Global, found: &ArgMatches<'_>) -> Result<EverReques
     })
 }
 
-fn read_depth(found: &ArgMatches<'_>) -> u8
-    requires { IsSomeAnd (one_of (codes "depth") (rows_of (found_of found.now))) (IsNumberIn 0 255) }
-    ensures { option_map number (one_of (codes "depth") (rows_of (found_of found.now))) ≡ Some result }
+fn read_extent(alloc: Global, found: &ArgMatches<'_>) -> Result<Extent, CommandFault>
+    requires depth { IfSome (one_of (codes "depth") (rows_of (found_of found.now))) (IsNumberIn 0 255) }
+    requires length { IfSome (one_of (codes "length") (rows_of (found_of found.now))) (IsNumberIn 0 255) }
+    ensures is { IfOk result (λ e. extent_from (rows_of (found_of found.now)) ≡ Some e) }
+    ensures fault { IfErr result (IsFaultOfEntries (extent_from (rows_of (found_of found.now)))) }
 {
-    found.get_one::<u8>("depth").unwrap()
+    match (read_depth(found), read_length(found)) {
+        (Some(depth), None) => Ok(Extent::Depth(depth)),
+        (None, Some(length)) => Ok(Extent::Length(length)),
+        (Some(_), Some(_)) => Err(extent_fault(alloc, ErrorKind::ArgumentConflict, TWO_EXTENTS)),
+        (None, None) => Err(extent_fault(alloc, ErrorKind::MissingRequiredArgument, NO_EXTENT)),
+    }
+}
+
+/// The fault of a search that has both of a depth and a length, or neither, with clap's text.
+fn extent_fault(alloc: Global, kind: ErrorKind, message: &str) -> CommandFault
+    requires help { kind ≢ ErrorKind.DisplayHelp }
+    requires version { kind ≢ ErrorKind.DisplayVersion }
+    ensures { IsExtentFault result }
+{
+    match extent_error(alloc, kind, message) {
+        Ok(error) => command_fault(alloc, &error),
+        Err(AllocError) => CommandFault::Memory,
+    }
+}
+
+fn extent_error(alloc: Global, kind: ErrorKind, message: &str) -> Result<Error, AllocError>
+    ensures { IfOk result (λ e. kind_of e ≡ kind) }
+{
+    search_command(alloc)?.error(kind, message)
+}
+
+fn read_depth(found: &ArgMatches<'_>) -> Option<u8>
+    requires { IfSome (one_of (codes "depth") (rows_of (found_of found.now))) (IsNumberIn 0 255) }
+    ensures { result ≡ option_map number (one_of (codes "depth") (rows_of (found_of found.now))) }
+{
+    found.get_one::<u8>("depth")
+}
+
+fn read_length(found: &ArgMatches<'_>) -> Option<u8>
+    requires { IfSome (one_of (codes "length") (rows_of (found_of found.now))) (IsNumberIn 0 255) }
+    ensures { result ≡ option_map number (one_of (codes "length") (rows_of (found_of found.now))) }
+{
+    found.get_one::<u8>("length")
 }
 
 fn read_limit(found: &ArgMatches<'_>) -> Option<u32>

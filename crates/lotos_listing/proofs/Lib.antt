@@ -12,4 +12,12 @@ pub mod MarkComparison
 pub mod MarkLines
 pub mod UniqueQuestion
 pub mod ListEntries
+pub mod AddedLabels
+pub mod LabelOrder
+pub mod GrownSteps
+pub mod Pigeonholes
 pub mod PrintedSequences
+pub mod ListingAnswers
+pub mod Completions
+pub mod KnownTexts
+pub mod MemoKeys

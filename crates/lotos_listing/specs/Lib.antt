@@ -2,8 +2,10 @@ pub mod Order
 pub mod Alphabet
 pub mod Derivations
 pub mod Listing
+pub mod ListingSteps
 pub mod Question
 pub mod Lookups
+pub mod LaterLabels
 pub mod PrefixWalk
 pub mod Marks
 pub mod MarkErrors
@@ -11,3 +13,4 @@ pub mod NumberedPlaces
 pub mod Remaining
 pub mod ReachedForms
 pub mod ObservedLabels
+pub mod Completions

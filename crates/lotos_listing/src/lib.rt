@@ -18,13 +18,15 @@ mod order;
 mod place_step;
 mod prefix_walk;
 mod progress;
+mod stage;
 
 pub use alphabet::{compile, label_number};
 pub use fault::MarkFault;
 pub use found::{Found, Halt};
-pub use mark::Mark;
+pub use mark::{Mark, is_after_mark, side_of_mark};
 pub use observed_label::is_observed;
 pub use order::compare;
 pub use place_step::place_after;
 pub use prefix_walk::{PrefixTree, next_hit};
 pub use progress::{NoProgress, Progress};
+pub use stage::Stage;

@@ -13,6 +13,7 @@ pub mod AcceptingPlaces
 pub mod SpellingFaults
 pub mod Growth
 pub mod Copies
+pub mod ExactPatterns
 pub mod StepRows
 pub mod PlaceNumbering
 pub mod CompiledPatterns

@@ -4,6 +4,7 @@ pub mod Spelling
 pub mod PatternFaults
 pub mod NfaStates
 pub mod Places
+pub mod ExactPatterns
 pub mod ElementView
 pub mod Transitions
 pub mod NfaTransitions

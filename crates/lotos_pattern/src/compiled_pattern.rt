@@ -68,6 +68,13 @@ impl CompiledPattern {
         })
     }
 
+    /// The pattern that was compiled.
+    pub fn pattern(&self) -> &Pattern
+        ensures { result.now ≡ self.now.pattern }
+    {
+        &self.pattern
+    }
+
     /// Whether internal steps are observed.
     pub fn strong(&self) -> bool
         ensures { result ≡ self.now.pattern.strong }

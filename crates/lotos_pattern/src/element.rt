@@ -1,6 +1,8 @@
 //! Elements of a pattern, and their transitions on labels.
-ghost use Rattle.std.specs.Prelude.{◌≡◌, ◌↔◌, ◌≤◌, ℕ, IfOk, MatchBool, [], drop};
+ghost use Rattle.std.specs.Prelude.{◌≡◌, ◌↔◌, ◌≤◌, ℕ, IfOk, MatchBool, [], drop, map};
 ghost use Rattle.lotos_pattern.specs.Patterns.{LastDemandsDeadlock, ElementDemandsDeadlock, IsJoin, Segment};
+ghost use Rattle.lotos_pattern.specs.Spelling.{texts_of};
+ghost use Rattle.lotos_pattern.specs.ExactPatterns.{exact_elements, label_element};
 ghost use Rattle.lotos_pattern.specs.ElementView.{element_of, elements_of};
 ghost use Rattle.lotos_pattern.specs.Transitions.{IsTransition};
 
@@ -120,6 +122,42 @@ pub(crate) fn copied_elements(
         copy.push(element.copied(alloc)?)?;
     }
     Ok(copy)
+}
+
+/// The elements that match the sequence of these labels alone, and demand a deadlock at its end if it must be one.
+pub(crate) fn exact_elements(
+    alloc: Global,
+    labels: &[&str],
+    dead: bool,
+) -> Result<Vec<Element>, AllocError>
+    ensures { IfOk result (λ elements.
+        elements_of elements.items ≡ exact_elements dead (texts_of labels.now)) }
+{
+    let mut elements = label_elements(alloc, labels)?;
+    if dead {
+        elements.push(Element::Deadlock)?;
+    }
+    Ok(elements)
+}
+
+/// One element for each label, which is that label.
+fn label_elements(alloc: Global, labels: &[&str]) -> Result<Vec<Element>, AllocError>
+    ensures { IfOk result (λ elements. elements_of elements.items ≡ map label_element (texts_of labels.now)) }
+{
+    let mut elements = Vec::new(alloc);
+    for label in labels {
+        elements.push(label_element(alloc, label)?)?;
+    }
+    Ok(elements)
+}
+
+/// The element that is one label, this one.
+fn label_element(alloc: Global, label: &str) -> Result<Element, AllocError>
+    ensures { IfOk result (λ element. element_of element ≡ label_element label.now) }
+{
+    let mut labels = Vec::new(alloc);
+    labels.push(String::from_str(alloc, label)?)?;
+    Ok(Element::One(LabelSet::These(labels)))
 }
 
 /// Whether the last of the elements demands a deadlock at the end.

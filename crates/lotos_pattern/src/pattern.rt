@@ -1,7 +1,7 @@
 //! Patterns, and the places of sequences in them.
-ghost use Rattle.std.specs.Prelude.{◌≡◌, ◌↔◌, ◌∷◌, ◌++◌, ◌<◌, ℕ, [], All, List, IfErr, IfOk, IfSome, MatchBool, MatchOption};
+ghost use Rattle.std.specs.Prelude.{◌≡◌, ◌↔◌, ◌∷◌, ◌++◌, ◌<◌, ◌≤◌, ℕ, [], All, List, IfErr, IfOk, IfSome, MatchBool, MatchOption, length};
 ghost use Rattle.lotos_pattern.specs.PatternLabels.{Label};
-ghost use Rattle.lotos_pattern.specs.Patterns.{IsObservable, Viable};
+ghost use Rattle.lotos_pattern.specs.Patterns.{DemandsDeadlock, IsObservable, Matches, Viable};
 ghost use Rattle.lotos_pattern.specs.ElementView.{CanOccur, element_of};
 ghost use Rattle.lotos_pattern.specs.Spelling.{PatternOf, texts_of};
 ghost use Rattle.lotos_pattern.specs.PatternFaults.{IsCause, SpellsNone};
@@ -10,7 +10,9 @@ ghost use Rattle.lotos_pattern.specs.Places.{Accepts, IsPlaceOf};
 ghost use Rattle.lotos_pattern.specs.PlaceTransitions.{HasTransition, IsNextState, CanContinue, IsSuccessorPlace};
 ghost use Rattle.lotos_pattern.specs.NfaTransitions.{HasStatesAfter, Leads};
 
-use crate::element::{Element, Transition, copied_elements, demands_deadlock, min_accepting_state};
+use crate::element::{
+    Element, Transition, copied_elements, demands_deadlock, exact_elements, min_accepting_state,
+};
 use crate::fault::PatternFault;
 use crate::pattern_parser::parse_elements;
 use crate::place::{End, Place};
@@ -67,6 +69,20 @@ impl Pattern {
         ensures { IfOk result (λ p. p ≡ self.now) }
     {
         let elements = copied_elements(alloc, self.elements.as_slice())?;
+        let strong = self.strong;
+        Ok(Pattern { elements, strong })
+    }
+
+    /// The pattern that matches the sequence of these labels alone, and demands a deadlock at the end if this one does.
+    pub fn exactly(&self, alloc: Global, labels: &[&str]) -> Result<Pattern, AllocError>
+        requires short { length labels.now ≤ 255 }
+        requires observable { All (IsObservable self.now.strong) (texts_of labels.now) }
+        ensures strong { IfOk result (λ p. p.strong ≡ self.now.strong) }
+        ensures matches { IfOk result (λ p. (s : List Label) → Matches p s ↔ (s ≡ texts_of labels.now)) }
+        ensures deadlock { IfOk result (λ p. DemandsDeadlock p ↔ DemandsDeadlock self.now) }
+    {
+        let dead = demands_deadlock(self.elements.as_slice());
+        let elements = exact_elements(alloc, labels, dead)?;
         let strong = self.strong;
         Ok(Pattern { elements, strong })
     }

@@ -1,5 +1,5 @@
 -- The question and the outcome of a search, from the request and the text.
-use Rattle.std.proofs.Common.{◌≡◌, ℕ, List, Option, false, true, inl, inr, refl, sym, subst}
+use Rattle.std.proofs.Common.{◌≡◌, ◌∙◌, ℕ, List, Option, ap, false, true, inl, inr, refl, sym, subst}
 use Rattle.std.proofs.KnownBytes.{Keeps-refl}
 use Rattle.std.specs.declared.string.String.{String}
 use Rattle.std.specs.declared.alloc.Global.{Global}
@@ -9,7 +9,11 @@ use Rattle.lotos_pattern.specs.Patterns.{Pattern}
 use Rattle.lotos_pattern.specs.Spelling.{PatternOf}
 use Rattle.lotos_listing.specs.Order.{Label}
 use Rattle.lotos_search.specs.SearchSteps.{IsBegun, SearchState}
-use Rattle.lotos_listing.specs.Question.{IsQuestionOf, Question}
+use Rattle.lotos_listing.specs.Question.{IsQuestionOf}
+use Rattle.lotos_length.specs.LengthListings.{IsLengthQuestionOf, LengthQuestion}
+use Rattle.lotos_length.specs.LengthSteps as length
+use Rattle.lotos_length.specs.LengthSteps.{LengthState}
+use Rattle.lotos_tool.specs.ListingQuestions.{ListingQuestion, ListingState, depth_state, length_state, pattern_of}
 use Rattle.lotos_tool.specs.OutcomeFlags.{is_input_fault}
 use Rattle.lotos_tool.specs.QuestionParts.{IsMarkOf, ReadsAccepted, words_of}
 use Rattle.lotos_tool.specs.RefusalCauses.{IsInputRefusal, IsSearchRefusal}
@@ -24,43 +28,59 @@ use Rattle.lotos_tool.specs.declared.rejection.Rejection.TheVariants as rejectio
 use Rattle.lotos_report.specs.declared.outcome.Ended.{Ended}
 use Rattle.lotos_report.specs.declared.outcome.Ended.TheVariants.{Complete, Refused, Stopped}
 use Rattle.lotos_report.specs.declared.outcome.Why.TheVariants as why
+use Rattle.lotos_command.specs.declared.command.Extent.TheVariants.{Depth, Length}
 use Rattle.lotos_command.specs.declared.command.SearchRequest.{SearchRequest}
 use Rattle.lotos_tool.proofs.Rejections.{gate_means, input_means, nothing_taken, pattern_means, taken_all}
 
 -- a search of the system that began with the request's depth and terms is one for the request
-pub asked_of : (request : SearchRequest) (system : System) (held : TableView) (p : Pattern) (mark : Option (List Label)) (search : SearchState) →
-    IsQuestionOf system search.question → IsBegun held p request.depth mark request.terms search → IsSearchFor request system p mark search
-asked_of request system held p mark search question begun = record {
+pub asked_of : (request : SearchRequest) (system : System) (held : TableView) (p : Pattern) (mark : Option (List Label)) (depth : ℕ) (search : SearchState) →
+    request.extent ≡ Depth depth → IsQuestionOf system search.question → IsBegun held p depth mark request.terms search →
+    IsSearchFor request system p mark (depth_state search)
+asked_of request system held p mark depth search extent question begun = record {
   question = question;
   pattern = begun.pattern_is;
-  depth = begun.depth_is;
-  terms = begun.terms_is;
+  bounds = (extent ∙ ap Depth (sym begun.depth_is), begun.terms_is);
+  cursor = begun.cursor;
+  stage = begun.stage;
+}
+
+-- and so is one that began with its length, its terms, and whether runs are written
+pub length_asked_of : (request : SearchRequest) (system : System) (held : TableView) (p : Pattern) (mark : Option (List Label)) (most : ℕ) (search : LengthState) →
+    request.extent ≡ Length most → IsLengthQuestionOf system search.question → length.IsBegun held p most request.terms mark request.explain search →
+    IsSearchFor request system p mark (length_state search)
+length_asked_of request system held p mark most search extent question begun = record {
+  question = question;
+  pattern = ap (λ (q : LengthQuestion). q.matches.pattern) begun.question;
+  bounds = (
+    extent ∙ ap Length (sym (ap (λ (q : LengthQuestion). q.length) begun.question)),
+    ap (λ (q : LengthQuestion). q.terms) begun.question,
+    ap (λ (q : LengthQuestion). q.runs) begun.question,
+  );
   cursor = begun.cursor;
   stage = begun.stage;
 }
 
 -- the question of a search for the request is that of the request and the text
-pub asks : (request : SearchRequest) (left left' : Option (List ℕ)) (system : System) (p : Pattern) (mark : Option (List Label)) (search : SearchState) →
+pub asks : (request : SearchRequest) (left left' : Option (List ℕ)) (system : System) (p : Pattern) (mark : Option (List Label)) (search : ListingState) →
     AreSearchParts request left left' system p mark → IsSearchFor request system p mark search →
     IsQuestionOfText request left left' (search.question, search.cursor)
 asks request left left' system p mark search parts begun = record {
   system = system;
-  parts = subst (λ c. AreSearchParts request left left' system search.question.pattern c) (sym begun.cursor)
+  parts = subst (λ c. AreSearchParts request left left' system (pattern_of search.question) c) (sym begun.cursor)
       (subst (λ pattern. AreSearchParts request left left' system pattern mark) (sym begun.pattern) parts);
   question = begun.question;
-  depth = begun.depth;
-  terms = begun.terms;
+  bounds = begun.bounds;
 }
 
 -- no outcome of a listing is an input fault
-pub no_input_fault : (request : SearchRequest) (got got' : Option (List ℕ)) (q : Question) (mark : Option (List Label)) (ended : Ended) →
+pub no_input_fault : (request : SearchRequest) (got got' : Option (List ℕ)) (q : ListingQuestion) (mark : Option (List Label)) (ended : Ended) →
     ListingOutcome request q mark got got' ended → is_input_fault ended ≡ false
 no_input_fault request got got' q mark (Complete lines) h = refl
 no_input_fault request got got' q mark (Refused cause) h = absurd h
 no_input_fault request got got' q mark (Stopped last why) h = refl
 
 -- the outcome of the listing is that of the search
-pub answered : (request : SearchRequest) (left left' got got' : Option (List ℕ)) (q : Question) (mark : Option (List Label)) (ended : Ended) →
+pub answered : (request : SearchRequest) (left left' got got' : Option (List ℕ)) (q : ListingQuestion) (mark : Option (List Label)) (ended : Ended) →
     IsQuestionOfText request left left' (q, mark) → ListingOutcome request q mark got got' ended → SearchOutcome request left left' got got' ended
 answered request left left' got got' q mark (Complete lines) asks h = ((q, mark), asks, h)
 answered request left left' got got' q mark (Refused cause) asks h = absurd h

@@ -3,6 +3,7 @@ pub mod QuestionParts
 pub mod RefusalCauses
 pub mod Rejections
 pub mod OutputLines
+pub mod ListingQuestions
 pub mod SearchOutcome
 pub mod CheckOutcome
 pub mod EverOutcome

@@ -26,6 +26,7 @@ use lotos_listing::Progress;
 use lotos_normal::NormalTable;
 use lotos_pattern::Pattern;
 use lotos_report::{EverEnded, EverWhy};
+use lotos_text::Name;
 use std::alloc::{AllocError, Global};
 
 /// Reads a specification and searches it for a derivation, of any number of steps, that matches the request's pattern.
@@ -140,26 +141,26 @@ fn find_line_in<P: Progress>(
     table_has_match_question();
     table.recall_sound();
     match find_shortest_match_with_progress(alloc, table, pattern, request.states, progress)? {
-        Some(found) => Ok(Some(format_match(alloc, table, &found, request.explain)?)),
+        Some(found) => Ok(Some(format_match(alloc, table.gates(), &found, request.explain)?)),
         None => Ok(None),
     }
 }
 
-/// The line of a match: its sequence, with `explain` its run, and a line feed. Its labels must be labels of the table.
+/// The line of a match: its sequence, with `explain` its run, and a line feed. The gates have these names.
 fn format_match(
     alloc: Global,
-    table: &NormalTable,
+    gates: &[Name],
     found: &Found,
     explain: bool,
 ) -> Result<Vec<u8>, AllocError>
     requires printed { (item : Item) ×
-        IsItemOf table.now.names found.now.sequence.items found.now.word.items item }
+        IsItemOf gates.now found.now.sequence.items found.now.word.items item }
     ensures { IfOk result (λ line. (item : Item) →
-        IsItemOf table.now.names found.now.sequence.items found.now.word.items item →
+        IsItemOf gates.now found.now.sequence.items found.now.word.items item →
         line.items ≡ line_of explain item) }
 {
-    let text = format_sequence(alloc, table, found.sequence.as_slice())?;
-    format_line(alloc, table, text.as_str(), found.word.as_slice(), explain)
+    let text = format_sequence(alloc, gates, found.sequence.as_slice())?;
+    format_line(alloc, gates, text.as_str(), found.word.as_slice(), explain)
 }
 
 /// Writes the line of a match and flushes the output. Returns how the command ends.

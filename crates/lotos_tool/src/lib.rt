@@ -12,8 +12,8 @@ mod arguments;
 mod check_command;
 mod diagnosis;
 mod ever_command;
-mod label_texts;
 mod listing_output;
+mod listing_search;
 mod output_flush;
 mod output_lines;
 mod output_progress;
@@ -30,7 +30,7 @@ pub use arguments::run_args;
 pub use check_command::check_text;
 pub use ever_command::ever;
 pub use lotos_command::{
-    CommandFault, DiagnoseRequest, EverRequest, Request, SearchRequest, request,
+    CommandFault, DiagnoseRequest, EverRequest, Extent, Request, SearchRequest, request,
 };
 pub use lotos_device::{DeviceFailed, FromRead, FromWrite, Sink, Source};
 pub use lotos_listing::{NoProgress, Progress};

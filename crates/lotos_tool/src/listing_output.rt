@@ -3,40 +3,42 @@ ghost use Rattle.std.specs.Prelude.{◌≡◌, ◌⊎◌, ◌≤◌, ℕ, List, 
 ghost use Rattle.std.specs.Io.KnownBytes.{Appends, Keeps};
 ghost use Rattle.lotos_listing.specs.Order.{Label as Text};
 ghost use Rattle.lotos_listing.specs.Question.{ArePrinted};
-ghost use Rattle.lotos_search.specs.SearchSteps.{running};
+ghost use Rattle.lotos_listing.specs.ListingSteps.{running};
+ghost use Rattle.lotos_tool.specs.ListingQuestions.{names_of};
 ghost use Rattle.lotos_tool.specs.OutcomeFlags.{is_output_fault};
 ghost use Rattle.lotos_tool.specs.OutputLines.{Item, IsItemOf, line_of, sequence_text};
 ghost use Rattle.lotos_tool.specs.SearchParts.{ListingOutcome, IsHalt, IsHaltCause, IsOversizedCause, IsSmall, is_at_limit};
 ghost use Rattle.lotos_device.specs.ByteOutput.{AppendsPart};
 ghost use Rattle.lotos_tool.specs.WriteFaults.{is_write_fault};
 
+use crate::listing_search::{ListingSearch, items_decrease_remaining};
 use crate::output_flush::{flush_complete, flush_stopped};
 use crate::output_lines::{format_line, format_sequence};
 use crate::output_progress::OutputProgress;
 use lotos_command::SearchRequest;
 use lotos_device::{DeviceFailed, Sink, write_bytes};
-use lotos_listing::laws::{items_decrease_remaining, strict_order};
+use lotos_listing::laws::strict_order;
 use lotos_listing::{Found, Halt};
 use lotos_report::{Ended, Why};
-use lotos_search::Search;
 use lotos_terms::Label;
+use lotos_text::Name;
 use std::alloc::{AllocError, Global};
 
 /// Writes the line of each item as the search returns it, until the listing ends or stops. The search must not have
 /// ended or halted. One flush follows a listing that ends, or stops at the limit or at an oversized prefix. The observer
 /// is told of each prefix that the search visits, and of each line before it is written.
-pub fn write_listing<W: Sink, P: OutputProgress>(
+pub fn write_listing<S: ListingSearch, W: Sink, P: OutputProgress>(
     alloc: Global,
     request: &SearchRequest,
-    search: &mut Search,
+    search: &mut S,
     writer: &mut W,
     progress: &mut P,
 ) -> Ended
-    requires begun { search.old.stage ≡ running }
+    requires begun { (S.state search.old).stage ≡ running }
     requires limit { IfSome request.now.limit (λ n. 1 ≤ n) }
     requires unfailed { W.has_failed writer.old ≡ false }
-    ensures ends { ListingOutcome request.now search.old.question search.old.cursor
-        (W.written writer.old) (W.written writer.new) result }
+    ensures ends { ListingOutcome request.now (S.state search.old).question
+        (S.state search.old).cursor (W.written writer.old) (W.written writer.new) result }
     ensures failed { W.has_failed writer.new ≡ is_output_fault result }
 {
     items_decrease_remaining();
@@ -44,7 +46,7 @@ pub fn write_listing<W: Sink, P: OutputProgress>(
     let mut last = None;
     let mut lines: u64 = 0;
     loop {
-        let found = match search.next_with_progress(progress) {
+        let found = match search.next_item(progress) {
             Ok(Some(found)) => found,
             Ok(None) => return flush_complete(writer, last, lines),
             Err(halt) => {
@@ -67,34 +69,35 @@ pub fn write_listing<W: Sink, P: OutputProgress>(
 
 /// Writes an item's line and returns the text of its sequence. The line and the text are composed before the first byte
 /// is written. Fails with `Why::Memory`, with nothing written, or `Why::Write`.
-fn write_item<W: Sink>(
+fn write_item<S: ListingSearch, W: Sink>(
     alloc: Global,
-    search: &Search,
+    search: &S,
     found: &Found,
     explain: bool,
     writer: &mut W,
 ) -> Result<String, Why>
     requires printed { (item : Item) ×
-        IsItemOf search.now.question.names found.now.sequence.items found.now.word.items item }
+        IsItemOf (names_of (S.state search.now).question) found.now.sequence.items found.now.word.items item }
     requires unfailed { W.has_failed writer.old ≡ false }
     ensures whole { OnOk result ((item : Item) →
-        IsItemOf search.now.question.names found.now.sequence.items found.now.word.items item →
+        IsItemOf (names_of (S.state search.now).question) found.now.sequence.items found.now.word.items item →
         Appends (W.written writer.old) (W.written writer.new) (line_of explain item)) }
     ensures text { IfOk result (λ text. (item : Item) →
-        IsItemOf search.now.question.names found.now.sequence.items found.now.word.items item →
+        IsItemOf (names_of (S.state search.now).question) found.now.sequence.items found.now.word.items item →
         string_bytes text ≡ sequence_text item.sequence) }
     ensures memory { IsErrOf result Why.Memory → Keeps (W.written writer.old) (W.written writer.new) }
     ensures part { IsErrOf result Why.Write →
         (item : Item) →
-        IsItemOf search.now.question.names found.now.sequence.items found.now.word.items item →
+        IsItemOf (names_of (S.state search.now).question) found.now.sequence.items found.now.word.items item →
         AppendsPart (W.written writer.old) (W.written writer.new) (line_of explain item) }
     ensures causes { IfErr result (λ why. (why ≡ Why.Memory) ⊎ (why ≡ Why.Write)) }
     ensures failed { W.has_failed writer.new ≡ is_write_fault result }
 {
-    let Ok(text) = format_sequence(alloc, search, found.sequence.as_slice()) else {
+    let gates = search.gates();
+    let Ok(text) = format_sequence(alloc, gates, found.sequence.as_slice()) else {
         return Err(Why::Memory);
     };
-    let Ok(line) = format_line(alloc, search, text.as_str(), found.word.as_slice(), explain) else {
+    let Ok(line) = format_line(alloc, gates, text.as_str(), found.word.as_slice(), explain) else {
         return Err(Why::Memory);
     };
     match write_bytes(writer, line.as_slice()) {
@@ -115,15 +118,22 @@ fn is_at_limit(lines: u64, limit: Option<u32>) -> bool
 }
 
 /// Why a listing stops, given the halt of a search that was running. Flushes the output at an oversized prefix.
-fn cause_of_halt<W: Sink>(alloc: Global, search: &Search, halt: &Halt, writer: &mut W) -> Why
-    requires halt { (cursor : Option (List Text)) × IsHalt search.now.question cursor halt.now }
+fn cause_of_halt<S: ListingSearch, W: Sink>(
+    alloc: Global,
+    search: &S,
+    halt: &Halt,
+    writer: &mut W,
+) -> Why
+    requires halt { (cursor : Option (List Text)) × IsHalt (S.state search.now).question cursor halt.now }
     requires unfailed { W.has_failed writer.old ≡ false }
     ensures kept { Keeps (W.written writer.old) (W.written writer.new) }
-    ensures cause { (cursor : Option (List Text)) → IsHalt search.now.question cursor halt.now →
-        IsHaltCause search.now.question cursor (W.has_failed writer.new) result }
+    ensures cause { (cursor : Option (List Text)) → IsHalt (S.state search.now).question cursor halt.now →
+        IsHaltCause (S.state search.now).question cursor (W.has_failed writer.new) result }
 {
     match halt {
-        Halt::OverTerms(prefix) => oversized_cause(alloc, search, prefix.as_slice(), writer),
+        Halt::OverTerms(prefix) => {
+            oversized_cause(alloc, search.gates(), prefix.as_slice(), writer)
+        }
         Halt::Memory => Why::Memory,
         Halt::Failed => unreachable!(),
     }
@@ -131,14 +141,14 @@ fn cause_of_halt<W: Sink>(alloc: Global, search: &Search, halt: &Halt, writer: &
 
 /// Why a listing stops at an oversized prefix: that prefix, or out of memory for its text, or a failed flush. There is
 /// no flush if memory runs out.
-fn oversized_cause<W: Sink>(alloc: Global, search: &Search, prefix: &[Label], writer: &mut W) -> Why
-    requires printed { (r : List Text) × ArePrinted search.now.question.names prefix.now r }
+fn oversized_cause<W: Sink>(alloc: Global, gates: &[Name], prefix: &[Label], writer: &mut W) -> Why
+    requires printed { (r : List Text) × ArePrinted gates.now prefix.now r }
     requires unfailed { W.has_failed writer.old ≡ false }
     ensures kept { Keeps (W.written writer.old) (W.written writer.new) }
-    ensures cause { (r : List Text) → ArePrinted search.now.question.names prefix.now r →
+    ensures cause { (r : List Text) → ArePrinted gates.now prefix.now r →
         IsOversizedCause r (W.has_failed writer.new) result }
 {
-    match format_sequence(alloc, search, prefix) {
+    match format_sequence(alloc, gates, prefix) {
         Ok(text) => flush_stopped(writer, Why::OverTerms(text)),
         Err(AllocError) => Why::Memory,
     }

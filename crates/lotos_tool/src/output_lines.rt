@@ -5,31 +5,29 @@ ghost use Rattle.lotos_listing.specs.Order.{Label as Text};
 ghost use Rattle.lotos_listing.specs.Question.{ArePrinted};
 ghost use Rattle.lotos_tool.specs.OutputLines.{run_text, functionality_text, process_line, sequence_text};
 
-use crate::label_texts::LabelTexts;
 use itoa::Buffer;
 use lotos_check::Process;
-use lotos_terms::Label;
-use lotos_text::Functionality;
+use lotos_terms::{Label, label_text};
+use lotos_text::{Functionality, Name};
 use std::alloc::{AllocError, Global};
 
 /// The most bytes of a text that is copied byte by byte.
 const SHORT_TEXT: usize = 8;
 
-/// A sequence as text: its printed labels, separated by one blank each, or `<empty>`. The labels must be labels of
-/// `texts`.
-pub fn format_sequence<T: LabelTexts>(
+/// A sequence as text: its printed labels, separated by one blank each, or `<empty>`. The gates have these names.
+pub fn format_sequence(
     alloc: Global,
-    texts: &T,
+    gates: &[Name],
     labels: &[Label],
 ) -> Result<String, AllocError>
-    requires { (s : List Text) × ArePrinted (T.names texts.now) labels.now s }
-    ensures { IfOk result (λ text. (s : List Text) → ArePrinted (T.names texts.now) labels.now s →
+    requires { (s : List Text) × ArePrinted gates.now labels.now s }
+    ensures { IfOk result (λ text. (s : List Text) → ArePrinted gates.now labels.now s →
         string_bytes text ≡ sequence_text s) }
 {
     let Some((first, rest)) = labels.split_first() else {
         return String::from_str(alloc, "<empty>");
     };
-    let shown = texts.text(*first);
+    let shown = label_text(gates, *first);
     // Enough if no label is longer than the first, nor than what is short.
     let each = shown.len().min(SHORT_TEXT) + 1;
     let capacity = rest.len().saturating_mul(each).saturating_add(shown.len());
@@ -37,7 +35,7 @@ pub fn format_sequence<T: LabelTexts>(
     append_text(&mut bytes, shown)?;
     for label in rest {
         bytes.push(b' ')?;
-        append_text(&mut bytes, texts.text(*label))?;
+        append_text(&mut bytes, label_text(gates, *label))?;
     }
     Ok(String::from_utf8(bytes).unwrap())
 }
@@ -56,38 +54,38 @@ fn append_text(bytes: &mut Vec<u8>, text: &str) -> Result<(), AllocError>
 }
 
 /// The line of a sequence with this text: the text, with `explain` ` : ` and the run, and a line feed.
-pub fn format_line<T: LabelTexts>(
+pub fn format_line(
     alloc: Global,
-    texts: &T,
+    gates: &[Name],
     text: &str,
     run: &[Label],
     explain: bool,
 ) -> Result<Vec<u8>, AllocError>
-    requires { (w : List Text) × ArePrinted (T.names texts.now) run.now w }
-    ensures { IfOk result (λ line. (w : List Text) → ArePrinted (T.names texts.now) run.now w →
+    requires { (w : List Text) × ArePrinted gates.now run.now w }
+    ensures { IfOk result (λ line. (w : List Text) → ArePrinted gates.now run.now w →
         line.items ≡ text.now ++ run_text explain w ++ 10 ∷ []) }
 {
     let mut line = Vec::with_capacity(alloc, text.len() + 1)?;
     line.extend_from_slice(text.as_bytes())?;
     if explain {
-        append_run(alloc, texts, run, &mut line)?;
+        append_run(alloc, gates, run, &mut line)?;
     }
     line.push(b'\n')?;
     Ok(line)
 }
 
 /// Appends ` : ` and the run.
-fn append_run<T: LabelTexts>(
+fn append_run(
     alloc: Global,
-    texts: &T,
+    gates: &[Name],
     run: &[Label],
     line: &mut Vec<u8>,
 ) -> Result<(), AllocError>
-    requires { (w : List Text) × ArePrinted (T.names texts.now) run.now w }
-    ensures { OnOk result ((w : List Text) → ArePrinted (T.names texts.now) run.now w →
+    requires { (w : List Text) × ArePrinted gates.now run.now w }
+    ensures { OnOk result ((w : List Text) → ArePrinted gates.now run.now w →
         line.new.items ≡ line.old.items ++ run_text true w) }
 {
-    let text = format_sequence(alloc, texts, run)?;
+    let text = format_sequence(alloc, gates, run)?;
     line.extend_from_slice(b" : ")?;
     line.extend_from_slice(text.as_bytes())
 }

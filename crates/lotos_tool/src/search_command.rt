@@ -7,7 +7,9 @@ ghost use Rattle.lotos_tool.specs.OutcomeFlags.{is_input_fault, is_output_fault}
 ghost use Rattle.lotos_tool.specs.RefusalCauses.{IsSearchRefusal};
 ghost use Rattle.lotos_tool.specs.Rejections.{IsRejectionBy, is_input_failure};
 ghost use Rattle.lotos_tool.specs.SearchOutcome.{AreSearchParts, SearchOutcome};
+ghost use Rattle.lotos_tool.specs.ListingQuestions.{depth_state, length_state};
 ghost use Rattle.lotos_tool.specs.SearchParts.{IsOutcomeFor, IsSearchFor};
+ghost use Rattle.lotos_command.specs.declared.command.Extent.TheVariants.{Depth, Length};
 ghost use Rattle.lotos_report.specs.declared.outcome.Ended.TheVariants.{Stopped};
 ghost use Rattle.lotos_report.specs.declared.outcome.Why.TheVariants.{Memory};
 
@@ -17,9 +19,12 @@ use crate::question_parts::{read_mark, read_pattern, refuse_unknown_gates};
 use crate::rejection::{Rejection, end_of};
 use crate::specification_input::read_specification;
 use lotos_check::Checked;
-use lotos_command::SearchRequest;
+use lotos_command::{Extent, SearchRequest};
 use lotos_device::{Sink, Source};
+use lotos_length::LengthSearch;
+use lotos_length::laws::begun_length_search_has_question;
 use lotos_listing::Mark;
+use lotos_normal::NormalTable;
 use lotos_pattern::Pattern;
 use lotos_report::{Ended, Why};
 use lotos_search::Search;
@@ -28,15 +33,16 @@ use lotos_terms::Table;
 use std::alloc::{AllocError, Global};
 
 /// Reads a specification and writes the listing of its sequences that match the request's pattern: what is observed of
-/// its derivations of at most the request's depth of steps, each sequence once, shorter ones first, then in the order
-/// of their labels. With a mark only the sequences after it are listed.
+/// its derivations of at most the request's depth of steps, or, if it has a length in place of a depth, the sequences
+/// of at most so many labels that are observed of any; each sequence once, shorter ones first, then in the order of
+/// their labels. With a mark only the sequences after it are listed.
 ///
 /// The words of the pattern are read first, then the mark, then the text, whose specification is checked; then, if the
 /// request refuses unknown gates, the gates that the words name are looked up in the specification's own list. The
 /// first of these to be refused is returned with nothing written, and the words and the mark are refused with nothing
 /// read. A line is composed completely before its first byte is written. The listing stops when as many lines as the
-/// limit are written, at the first prefix that can still match and reaches more terms than the request allows, when
-/// memory runs out, and when the output cannot be written. A complete listing, be it without lines, and one that stops
+/// limit are written, at the first prefix that can still match and reaches more terms than the request allows (normal
+/// forms, if it has a length), when memory runs out, and when the output cannot be written. A complete listing, be it without lines, and one that stops
 /// at the limit or at such a prefix, ends with one flush. At most one byte more than a text may have is taken from the
 /// reader, whatever it returns. Neither the reader nor the writer may have failed before.
 /// The observer is told when the text is accepted, of each prefix that the search visits, and of each line before it is
@@ -105,27 +111,68 @@ fn list_system<W: Sink, P: OutputProgress>(
         (W.written writer.old) (W.written writer.new) result }
     ensures failed { W.has_failed writer.new ≡ is_output_fault result }
 {
-    match begin_search(alloc, request, system, pattern, mark) {
-        Ok(mut search) => write_listing(alloc, request, &mut search, writer, progress),
-        Err(AllocError) => out_of_memory(),
+    match request.extent {
+        Extent::Depth(depth) => {
+            match begin_by_depth(alloc, request, depth, system, pattern, mark) {
+                Ok(mut search) => write_listing(alloc, request, &mut search, writer, progress),
+                Err(AllocError) => out_of_memory(),
+            }
+        }
+        Extent::Length(length) => {
+            match begin_by_length(alloc, request, length, system, pattern, mark) {
+                Ok(mut search) => write_listing(alloc, request, &mut search, writer, progress),
+                Err(AllocError) => out_of_memory(),
+            }
+        }
     }
 }
 
-/// Begins the search that the request asks for in an accepted specification.
-fn begin_search(
+/// Begins the search of an accepted specification for the sequences of derivations of at most `depth` steps.
+fn begin_by_depth(
     alloc: Global,
     request: &SearchRequest,
+    depth: u8,
     system: Checked,
     pattern: Pattern,
     mark: Option<Mark>,
 ) -> Result<Search, AllocError>
-    requires { 1 ≤ request.now.terms }
-    ensures { IfOk result (IsSearchFor request.now (system_of system) pattern mark) }
+    requires some { 1 ≤ request.now.terms }
+    requires extent { request.now.extent ≡ Depth depth }
+    ensures { IfOk result (λ search. IsSearchFor request.now (system_of system) pattern mark
+        (depth_state search)) }
 {
     begun_search_has_question();
     let table = Table::new(alloc, system)?;
     table.recall_sound();
-    Search::begin(alloc, table, pattern, request.depth, mark, request.terms)
+    Search::begin(alloc, table, pattern, depth, mark, request.terms)
+}
+
+/// Begins the search of an accepted specification for the sequences of at most `length` labels. The runs of the
+/// sequences are asked for only if they are written.
+fn begin_by_length(
+    alloc: Global,
+    request: &SearchRequest,
+    length: u8,
+    system: Checked,
+    pattern: Pattern,
+    mark: Option<Mark>,
+) -> Result<LengthSearch, AllocError>
+    requires extent { request.now.extent ≡ Length length }
+    ensures { IfOk result (λ search. IsSearchFor request.now (system_of system) pattern mark
+        (length_state search)) }
+{
+    begun_length_search_has_question();
+    let table = NormalTable::new(alloc, system)?;
+    table.recall_sound();
+    LengthSearch::begin(
+        alloc,
+        table,
+        pattern,
+        length,
+        request.terms,
+        mark,
+        request.explain,
+    )
 }
 
 /// The outcome if memory runs out before the listing begins.

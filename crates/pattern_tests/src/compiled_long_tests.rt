@@ -1,5 +1,5 @@
 //! Compiled patterns of many elements and labels.
-use super::compiled_walks::{compiled_end_after, number_after};
+use super::compiled_walks::{boxed, compiled_end_after, number_after};
 use lotos_pattern::{CompiledPattern, End, Pattern, PatternFault};
 use std::alloc::{AllocError, Global};
 use std::process::Abort;
@@ -66,10 +66,14 @@ fn texts(alloc: Global) -> Result<Vec<String>, AllocError> {
 fn set_word(alloc: Global, first: usize) -> Result<String, AllocError> {
     let mut word = format!(in alloc; "G{first}")?;
     for further in 1..SIZE {
-        let number = first.saturating_add(further);
-        word.push_str(format!(in alloc; ",G{number}")?.as_str())?;
+        add_label(alloc, &mut word, first.saturating_add(further))?;
     }
     Ok(word)
+}
+
+/// Appends a comma and the label with this number.
+fn add_label(alloc: Global, word: &mut String, number: usize) -> Result<(), AllocError> {
+    word.push_str(format!(in alloc; ",G{number}")?.as_str())
 }
 
 /// The pattern whose elements are each one label, or each any number of labels.
@@ -129,9 +133,19 @@ fn assert_walks(
     any_number: bool,
     rows: &[(Walk, Option<End>)],
 ) -> Result<(), PatternFault> {
-    let mut pattern = CompiledPattern::new(alloc, pattern_of(alloc, any_number)?, labels(alloc)?)?;
+    let labels = labels(alloc)?;
+    let mut pattern = boxed(alloc, pattern_of(alloc, any_number)?, labels)?;
+    Ok(assert_walks_in(rt, alloc, &mut pattern, rows)?)
+}
+
+fn assert_walks_in(
+    rt: &impl Abort,
+    alloc: Global,
+    pattern: &mut CompiledPattern,
+    rows: &[(Walk, Option<End>)],
+) -> Result<(), AllocError> {
     for row in rows {
-        assert_walk(rt, alloc, &mut pattern, *row)?;
+        assert_walk(rt, alloc, pattern, *row)?;
     }
     Ok(())
 }

@@ -44,9 +44,18 @@ fn first_difference(
 ) -> Result<Option<usize>, PatternFault> {
     let pattern = Pattern::read(alloc, spelled.1, spelled.0)?;
     let mut same = compiled(alloc, pattern.copied(alloc)?, &LABELS)?;
+    Ok(first_other_end(alloc, &pattern, &mut same, all)?)
+}
+
+fn first_other_end(
+    alloc: Global,
+    pattern: &Pattern,
+    same: &mut CompiledPattern,
+    all: &[Vec<&'static str>],
+) -> Result<Option<usize>, AllocError> {
     for index in 0..all.len() {
         let labels = all[index].as_slice();
-        if end_after(&pattern, labels) != end_in(alloc, &mut same, labels)? {
+        if end_after(pattern, labels) != end_in(alloc, same, labels)? {
             return Ok(Some(index));
         }
     }
@@ -95,7 +104,14 @@ fn leads_as_ends_and_internal_steps_do(rt: HostRuntime) -> Result<(), Fail> {
 
 /// Words of a pattern, two sequences, and whether they have one place: whether the same numbers of elements can be done
 /// after them.
-const PLACES: &[(&[&str], &[&str], &[&str], bool)] = &[
+type PlacesRow = (
+    &'static [&'static str],
+    &'static [&'static str],
+    &'static [&'static str],
+    bool,
+);
+
+const PLACES: &[PlacesRow] = &[
     (&["<while>", "<any>", "B"], &[], &["A"], true),
     (&["<while>", "<any>", "B"], &["A"], &["A", "A"], true),
     (&["<while>", "<any>", "B"], &["B"], &["A", "B"], true),
@@ -131,21 +147,54 @@ fn have_one_number(
     one: &[&str],
     other: &[&str],
 ) -> Result<bool, PatternFault> {
+    let mut pattern = compiled_words(alloc, words)?;
+    Ok(have_one_number_in(alloc, &mut pattern, one, other)?)
+}
+
+/// The pattern of the words, compiled.
+fn compiled_words(alloc: Global, words: &[&str]) -> Result<Box<CompiledPattern>, PatternFault> {
     let pattern = Pattern::read(alloc, words, false)?;
-    let mut pattern = compiled(alloc, pattern, &LABELS)?;
-    let first = number_in(alloc, &mut pattern, one)?;
-    let second = number_in(alloc, &mut pattern, other)?;
+    Ok(compiled(alloc, pattern, &LABELS)?)
+}
+
+fn have_one_number_in(
+    alloc: Global,
+    pattern: &mut CompiledPattern,
+    one: &[&str],
+    other: &[&str],
+) -> Result<bool, AllocError> {
+    let first = number_in(alloc, pattern, one)?;
+    let second = number_in(alloc, pattern, other)?;
     Ok(first == second)
+}
+
+fn assert_places(rt: &impl Abort, alloc: Global, row: PlacesRow) -> Result<(), PatternFault> {
+    let (words, one, other, alike) = row;
+    let found = have_one_number(alloc, words, one, other)?;
+    assert_eq!(rt; found, alike, "{:?}: {:?} and {:?}", words, one, other);
+    Ok(())
 }
 
 /// A place has one number, in whichever ways it is reached, and different places have different numbers.
 #[test]
 fn numbers_each_place_once(rt: HostRuntime) -> Result<(), Fail> {
-    for (words, one, other, alike) in PLACES {
-        let found = have_one_number(rt.alloc(), words, one, other)?;
-        assert_eq!(&rt; found, *alike, "{:?}: {:?} and {:?}", words, one, other);
+    for row in PLACES {
+        assert_places(&rt, rt.alloc(), *row)?;
     }
     Ok(())
+}
+
+/// The numbers of the places of all sequences.
+fn numbers_in(
+    alloc: Global,
+    pattern: &mut CompiledPattern,
+    all: &[Vec<&'static str>],
+) -> Result<Vec<Option<PlaceNumber>>, AllocError> {
+    let mut numbers = Vec::new(alloc);
+    for labels in all {
+        numbers.push(number_in(alloc, pattern, labels.as_slice())?)?;
+    }
+    Ok(numbers)
 }
 
 /// The first sequence that has another number when it is followed again, after all others; none if there is none.
@@ -154,14 +203,18 @@ fn first_renumbered(
     words: &[&str],
     all: &[Vec<&'static str>],
 ) -> Result<Option<usize>, PatternFault> {
-    let pattern = Pattern::read(alloc, words, false)?;
-    let mut pattern = compiled(alloc, pattern, &LABELS)?;
-    let mut numbers = Vec::new(alloc);
-    for labels in all {
-        numbers.push(number_in(alloc, &mut pattern, labels.as_slice())?)?;
-    }
+    let mut pattern = compiled_words(alloc, words)?;
+    Ok(first_other_number(alloc, &mut pattern, all)?)
+}
+
+fn first_other_number(
+    alloc: Global,
+    pattern: &mut CompiledPattern,
+    all: &[Vec<&'static str>],
+) -> Result<Option<usize>, AllocError> {
+    let numbers = numbers_in(alloc, pattern, all)?;
     for index in 0..all.len() {
-        let again = number_in(alloc, &mut pattern, all[index].as_slice())?;
+        let again = number_in(alloc, pattern, all[index].as_slice())?;
         if numbers.get(index) != Some(&again) {
             return Ok(Some(index));
         }

@@ -9,12 +9,25 @@ pub fn compiled(
     alloc: Global,
     pattern: Pattern,
     labels: &[&str],
-) -> Result<CompiledPattern, AllocError> {
+) -> Result<Box<CompiledPattern>, AllocError> {
+    boxed(alloc, pattern, texts_of(alloc, labels)?)
+}
+
+/// The same, in a box, as a compiled pattern is large.
+pub fn boxed(
+    alloc: Global,
+    pattern: Pattern,
+    labels: Vec<String>,
+) -> Result<Box<CompiledPattern>, AllocError> {
+    Ok(Box::new(alloc, CompiledPattern::new(alloc, pattern, labels)?)?)
+}
+
+fn texts_of(alloc: Global, labels: &[&str]) -> Result<Vec<String>, AllocError> {
     let mut texts = Vec::new(alloc);
     for label in labels {
         texts.push(String::from_str(alloc, label)?)?;
     }
-    CompiledPattern::new(alloc, pattern, texts)
+    Ok(texts)
 }
 
 /// The numbers of the labels in a list, for each the first; the list's length for one that is not there.

@@ -9,6 +9,10 @@ mod compiled_tests;
 #[cfg(test)]
 mod compiled_walks;
 #[cfg(test)]
+mod exact_tests;
+#[cfg(test)]
+mod fault_tests;
+#[cfg(test)]
 mod language_tests;
 #[cfg(test)]
 mod long_tests;

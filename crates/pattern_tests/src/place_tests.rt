@@ -1,12 +1,20 @@
 //! Places of sequences, and whether a pattern accepts there.
-use super::sequence_ends::{assert_end, end_after, joined, place_after};
+use super::sequence_ends::{end_after, joined, place_after};
 use lotos_pattern::{End, Pattern, PatternFault};
 use std::alloc::{AllocError, Global};
 use std::process::Abort;
 use std::test::Fail;
 
 /// Whether internal steps are observed, a pattern, labels, and whether their sequence may end; none if it has no place.
-const PLACES: &[(bool, &[&str], &[&str], Option<End>)] = &[
+type Row = (
+    bool,
+    &'static [&'static str],
+    &'static [&'static str],
+    Option<End>,
+);
+
+/// Places in patterns that end with a label to come.
+const UP_TO_A_LABEL: &[Row] = &[
     (false, &["<until>", "B"], &[], Some(End::No)),
     (false, &["<until>", "B"], &["B"], Some(End::Yes)),
     (false, &["<until>", "B"], &["A"], Some(End::No)),
@@ -21,6 +29,10 @@ const PLACES: &[(bool, &[&str], &[&str], Option<End>)] = &[
     (false, &["<until>", "B"], &["B", "B"], None),
     (false, &["<until>", "B"], &["i"], None),
     (false, &["<until>", "B"], &["A", "i"], None),
+];
+
+/// Places in patterns that end with a deadlock.
+const DEADLOCKS: &[Row] = &[
     (false, &["A", "<deadlock>"], &[], Some(End::No)),
     (false, &["A", "<deadlock>"], &["A"], Some(End::IfDead)),
     (false, &["A", "<deadlock>"], &["B"], None),
@@ -35,6 +47,12 @@ const PLACES: &[(bool, &[&str], &[&str], Option<End>)] = &[
     ),
     (false, &["<until>", "<deadlock>"], &["i"], None),
     (false, &["<until>", "<deadlock>"], &["A", "i"], None),
+    (false, &["<deadlock>"], &[], Some(End::IfDead)),
+    (false, &["<deadlock>"], &["A"], None),
+];
+
+/// Places in patterns without repetitions.
+const LABELS: &[Row] = &[
     (false, &[], &[], Some(End::Yes)),
     (false, &[], &["A"], None),
     (false, &[], &["i"], None),
@@ -43,12 +61,14 @@ const PLACES: &[(bool, &[&str], &[&str], Option<End>)] = &[
     (false, &["<any>"], &["exit"], Some(End::Yes)),
     (false, &["<any>"], &["A", "A"], None),
     (false, &["<any>"], &["i"], None),
-    (false, &["<deadlock>"], &[], Some(End::IfDead)),
-    (false, &["<deadlock>"], &["A"], None),
     (false, &["a"], &["A"], Some(End::Yes)),
     (false, &["a"], &["a"], None),
     (false, &["EXIT"], &["exit"], Some(End::Yes)),
     (false, &["EXIT"], &["EXIT"], None),
+];
+
+/// Places in patterns with one repetition at the end.
+const REPETITIONS: &[Row] = &[
     (false, &["A", "<while>", "B"], &[], Some(End::No)),
     (false, &["A", "<while>", "B"], &["A"], Some(End::Yes)),
     (
@@ -63,6 +83,10 @@ const PLACES: &[(bool, &[&str], &[&str], Option<End>)] = &[
     (false, &["<while>", "<any>"], &["A", "exit"], Some(End::Yes)),
     (false, &["<while>", "<any>"], &["i"], None),
     (true, &["<while>", "<any>"], &["i"], Some(End::Yes)),
+];
+
+/// Places in patterns with repetitions before other elements.
+const LONGER_REPETITIONS: &[Row] = &[
     (
         false,
         &["<while>", "<any>", "B"],
@@ -106,6 +130,10 @@ const PLACES: &[(bool, &[&str], &[&str], Option<End>)] = &[
         Some(End::IfDead),
     ),
     (false, &["<while>", "A", "<deadlock>"], &["A", "B"], None),
+];
+
+/// Places in patterns where internal steps are observed.
+const INTERNAL_STEPS: &[Row] = &[
     (true, &["i", "I", "A"], &["i", "i", "A"], Some(End::Yes)),
     (true, &["i", "I", "A"], &["i", "A"], None),
     (true, &["i", "I", "A"], &["i", "I"], None),
@@ -113,8 +141,8 @@ const PLACES: &[(bool, &[&str], &[&str], Option<End>)] = &[
     (true, &["<until>", "<deadlock>"], &["i"], Some(End::IfDead)),
 ];
 
-/// The same, of patterns with sets of labels.
-const PLACES_IN_SETS: &[(bool, &[&str], &[&str], Option<End>)] = &[
+/// Places in patterns of sets of labels.
+const SETS: &[Row] = &[
     (false, &["A,B"], &[], Some(End::No)),
     (false, &["A,B"], &["B"], Some(End::Yes)),
     (false, &["A,B"], &["exit"], None),
@@ -125,6 +153,10 @@ const PLACES_IN_SETS: &[(bool, &[&str], &[&str], Option<End>)] = &[
     (false, &["<not>", "A"], &["i"], None),
     (true, &["<not>", "A"], &["i"], Some(End::Yes)),
     (true, &["<not>", "i"], &["i"], None),
+];
+
+/// Places in patterns that repeat labels of sets, or pass over them.
+const SETS_WITH_OTHERS: &[Row] = &[
     (false, &["<until>", "A,B"], &["exit", "B"], Some(End::Yes)),
     (false, &["<until>", "A,B"], &["B", "A"], None),
     (
@@ -170,52 +202,82 @@ const PLACES_IN_SETS: &[(bool, &[&str], &[&str], Option<End>)] = &[
     ),
 ];
 
-fn end_of(
+/// Whether internal steps are observed in the pattern of the words, and whether the sequence may end in it; none if it
+/// has no place.
+fn place_in(
     alloc: Global,
     words: &[&str],
     strong: bool,
     labels: &[&str],
-) -> Result<Option<End>, PatternFault> {
+) -> Result<(bool, Option<End>), PatternFault> {
     let pattern = Pattern::read(alloc, words, strong)?;
-    Ok(end_after(&pattern, labels))
+    Ok((pattern.strong(), end_after(&pattern, labels)))
+}
+
+fn assert_place(rt: &impl Abort, alloc: Global, row: Row) -> Result<(), PatternFault> {
+    let (strong, words, labels, end) = row;
+    let found = place_in(alloc, words, strong, labels)?;
+    assert_eq!(rt; found, (strong, end), "{:?} at {:?}", words, labels);
+    Ok(())
+}
+
+/// Asserts whether each sequence may end, and that internal steps are observed exactly where they are asked for.
+fn assert_places(rt: &impl Abort, alloc: Global, rows: &[Row]) -> Result<(), PatternFault> {
+    for row in rows {
+        assert_place(rt, alloc, *row)?;
+    }
+    Ok(())
 }
 
 #[test]
-fn finds_places(rt: HostRuntime) -> Result<(), Fail> {
-    for (strong, words, labels, end) in PLACES {
-        let found = end_of(rt.alloc(), words, *strong, labels)?;
-        assert_end(&rt, words, labels, found, *end);
-    }
-    Ok(())
+fn finds_places_up_to_a_label(rt: HostRuntime) -> Result<(), Fail> {
+    Ok(assert_places(&rt, rt.alloc(), UP_TO_A_LABEL)?)
+}
+
+#[test]
+fn finds_places_before_deadlocks(rt: HostRuntime) -> Result<(), Fail> {
+    Ok(assert_places(&rt, rt.alloc(), DEADLOCKS)?)
+}
+
+#[test]
+fn finds_places_of_labels(rt: HostRuntime) -> Result<(), Fail> {
+    Ok(assert_places(&rt, rt.alloc(), LABELS)?)
+}
+
+#[test]
+fn finds_places_in_repetitions(rt: HostRuntime) -> Result<(), Fail> {
+    Ok(assert_places(&rt, rt.alloc(), REPETITIONS)?)
+}
+
+#[test]
+fn finds_places_in_longer_repetitions(rt: HostRuntime) -> Result<(), Fail> {
+    Ok(assert_places(&rt, rt.alloc(), LONGER_REPETITIONS)?)
+}
+
+#[test]
+fn finds_places_where_internal_steps_are_observed(rt: HostRuntime) -> Result<(), Fail> {
+    Ok(assert_places(&rt, rt.alloc(), INTERNAL_STEPS)?)
 }
 
 #[test]
 fn finds_places_in_sets(rt: HostRuntime) -> Result<(), Fail> {
-    for (strong, words, labels, end) in PLACES_IN_SETS {
-        let found = end_of(rt.alloc(), words, *strong, labels)?;
-        assert_end(&rt, words, labels, found, *end);
-    }
-    Ok(())
-}
-
-fn is_strong(alloc: Global, words: &[&str], strong: bool) -> Result<bool, PatternFault> {
-    Ok(Pattern::read(alloc, words, strong)?.strong())
+    Ok(assert_places(&rt, rt.alloc(), SETS)?)
 }
 
 #[test]
-fn knows_whether_internal_steps_are_observed(rt: HostRuntime) -> Result<(), Fail> {
-    for (strong, words, _, _) in PLACES {
-        assert!(rt;
-            is_strong(rt.alloc(), words, *strong)? == *strong,
-            "{:?}",
-            words
-        );
-    }
-    Ok(())
+fn finds_places_in_sets_with_others(rt: HostRuntime) -> Result<(), Fail> {
+    Ok(assert_places(&rt, rt.alloc(), SETS_WITH_OTHERS)?)
 }
 
 /// A pattern, labels, and the NFA states after their sequence.
-const STATES: &[(&[&str], &[&str], &[usize])] = &[
+type StatesRow = (
+    &'static [&'static str],
+    &'static [&'static str],
+    &'static [usize],
+);
+
+/// States in patterns in which each label can be done in one way.
+const STATES: &[StatesRow] = &[
     (&[], &[], &[0]),
     (&["A"], &["A"], &[1]),
     (&["<until>", "B", "A"], &["A", "A"], &[0]),
@@ -225,6 +287,10 @@ const STATES: &[(&[&str], &[&str], &[usize])] = &[
     (&["<while>", "A", "<any>"], &["A"], &[0, 2]),
     (&["<while>", "A", "<any>"], &["A", "A"], &[0, 2]),
     (&["<while>", "A", "<any>"], &["A", "B"], &[2]),
+];
+
+/// The same in patterns in which a label can be done in more than one way.
+const STATES_OF_TWO_WAYS: &[StatesRow] = &[
     (&["<while>", "<any>", "B"], &["B"], &[0, 2]),
     (&["<while>", "<any>", "B"], &["B", "A"], &[0]),
     (&["<while>", "A", "<while>", "B", "A"], &["A"], &[0, 3]),
@@ -279,11 +345,24 @@ fn assert_states(
     Ok(())
 }
 
-/// The places have the states in the table, and no others.
-#[test]
-fn has_states(rt: HostRuntime) -> Result<(), Fail> {
-    for (words, labels, states) in STATES {
-        assert_states(&rt, rt.alloc(), words, labels, states)?;
+/// Asserts that the places have the states of the rows, and no others.
+fn assert_each_states(
+    rt: &impl Abort,
+    alloc: Global,
+    rows: &[StatesRow],
+) -> Result<(), PatternFault> {
+    for (words, labels, states) in rows {
+        assert_states(rt, alloc, words, labels, states)?;
     }
     Ok(())
+}
+
+#[test]
+fn has_states(rt: HostRuntime) -> Result<(), Fail> {
+    Ok(assert_each_states(&rt, rt.alloc(), STATES)?)
+}
+
+#[test]
+fn has_states_of_two_ways(rt: HostRuntime) -> Result<(), Fail> {
+    Ok(assert_each_states(&rt, rt.alloc(), STATES_OF_TWO_WAYS)?)
 }

@@ -56,9 +56,10 @@ Statuses:
 const SEARCH: &str = "Lists the sequences that match a pattern
 
 Reads a specification in basic LOTOS from standard input (a file is given by `< FILE`)
-and writes a listing to standard output. The listing has every sequence that matches
-the pattern and that some derivation of at most N steps from the specification's
-behaviour shows.
+and writes a listing to standard output. With `--length N` it has every sequence of at
+most N labels that matches the pattern and that some derivation from the
+specification's behaviour shows, of any number of steps; with `--depth N` it has
+those of derivations of at most N steps. One of the two is given.
 
 Each sequence occurs once, on a line of its own: its labels, separated by one
 blank, or `<empty>`. Shorter sequences come first, and sequences of one length in
@@ -66,10 +67,10 @@ the order of their labels: gates by their names, then `exit`.
 
 For example, with the specification
   specification S [a,b] : exit behaviour a; b; exit endspec
-the command `lotosseq search --depth 3 a b exit` lists
+the command `lotosseq search --length 3 a b exit` lists
   A B exit
 
-Usage: lotosseq search [OPTIONS] --depth <N> [WORD]...
+Usage: lotosseq search [OPTIONS] <--depth <N>|--length <N>> [WORD]...
 
 Arguments:
   [WORD]...
@@ -113,6 +114,12 @@ Options:
           termination. For example, `a; b; exit` shows `A B exit` with `--depth 3` and not with
           `--depth 2`.
 
+      --length <N>
+          The most labels of a sequence, 0 to 255
+         \x20
+          How many steps a derivation takes is no matter, so internal steps do not count. For
+          example, `i; i; a; b; exit` shows `A B` with `--length 2`.
+
       --limit <N>
           The most lines that are written, 1 to 1000000000
          \x20
@@ -123,9 +130,10 @@ Options:
           The most terms that a prefix may reach, 1 to 1000000
          \x20
           A prefix is a beginning of a sequence that can still match. It reaches the terms in
-          which derivations that show it end. The search stops with status 4 at the first prefix
-          that reaches more. For example, with `--terms 1` the specification's behaviour
-          `i; a; stop` stops the search at `<empty>`, which reaches two terms.
+          which derivations that show it end; with `--length` their normal forms count. The
+          search stops with status 4 at the first prefix that reaches more. For example, with
+          `--terms 1` the specification's behaviour `i; a; stop` stops the search at `<empty>`,
+          which reaches two terms.
          \x20
           [default: 100000]
 
@@ -142,8 +150,8 @@ Options:
          \x20
           A line is then the sequence, ` : ` and a run: the labels of a derivation that shows
           the sequence, internal steps included. It is the shortest one, and of those the first
-          in the order of labels, `i` being the last of these. For example, `i; i; a; stop` with
-          `--depth 3 --explain A` lists
+          in the order of labels, `i` being the last of these. With `--length` it may have any
+          number of steps. For example, `i; i; a; stop` with `--length 1 --explain A` lists
             A : i i A
 
       --strong
@@ -362,13 +370,14 @@ Statuses:
 /// `lotosseq search -h`
 const SEARCH_SUMMARY: &str = "Lists the sequences that match a pattern
 
-Usage: lotosseq search [OPTIONS] --depth <N> [WORD]...
+Usage: lotosseq search [OPTIONS] <--depth <N>|--length <N>> [WORD]...
 
 Arguments:
   [WORD]...  The words of the pattern: labels and elements
 
 Options:
       --depth <N>     The most steps of a derivation, 0 to 255
+      --length <N>    The most labels of a sequence, 0 to 255
       --limit <N>     The most lines that are written, 1 to 1000000000
       --terms <N>     The most terms that a prefix may reach, 1 to 1000000 [default: 100000]
       --after <LINE>  Lists only what comes after this line of a listing

@@ -5,6 +5,7 @@ mod deadlocks_and_elements;
 mod enabling_and_parallel;
 mod known_gates;
 mod label_sets;
+mod lengths;
 mod limits;
 mod marks;
 mod operator_rows;

@@ -10,7 +10,15 @@ const ROWS: &[(&[&str], &[u8])] = &[
     ),
     (
         &["lotosseq", "search", "A"],
-        b"error: the following required arguments were not provided:\n  --depth <N>\n\nUsage: lotosseq search --depth <N> [WORD]...\n\nFor more information, try '--help'.\n",
+        b"error: the following required arguments were not provided:\n  <--depth <N>|--length <N>>\n\nUsage: lotosseq search [OPTIONS] <--depth <N>|--length <N>> [WORD]...\n\nFor more information, try '--help'.\n",
+    ),
+    (
+        &["lotosseq", "search", "--length", "3", "--depth", "3", "A"],
+        b"error: the argument '--depth <N>' cannot be used with '--length <N>'\n\nUsage: lotosseq search [OPTIONS] <--depth <N>|--length <N>> [WORD]...\n\nFor more information, try '--help'.\n",
+    ),
+    (
+        &["lotosseq", "search", "--length", "256", "A"],
+        b"error: invalid value '256' for '--length <N>': 256 is not in 0..=255\n\nFor more information, try '--help'.\n",
     ),
     (
         &["lotosseq", "search", "--depth", "256", "A"],

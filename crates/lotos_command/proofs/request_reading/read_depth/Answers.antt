@@ -1,24 +1,14 @@
-use Rattle.std.proofs.Common.{◌∙◌, arith, codes, sym}
+use Rattle.std.proofs.Common.{arith, codes}
 use Rattle.std.specs.Str.Parse.{ParsesUnsigned, ExplainsUnsignedError, HasUnsignedDigitsIfOk}
 use Rattle.clap.specs.Words.{found_of, one_text, one_of, rows_of}
 use Rattle.clap.proofs.WalkLemmas.{one_text-rows}
-use Rattle.lotos_command.proofs.EntryReading.{entry_reads, number_is_there, read_if_there}
+use Rattle.lotos_command.proofs.EntryReading.{entry_reads}
 use Rattle.lotos_command.proofs.request_reading.read_depth.Goals as goal
-
-pub unwrap-requires : goal.unwrap-requires
-unwrap-requires c =
-    let f = found_of c.args.found.now in
-    let entry = one_of (codes "depth") (rows_of f) in
-    let e = entry_reads _ (λ bs r. ParsesUnsigned 8 10 bs r × ExplainsUnsignedError 10 bs r × HasUnsignedDigitsIfOk bs r) 8 0 255
-    (λ t r read. read.0) (omega arith) (one_text f (codes "depth")) entry c.get_one.result (one_text-rows f (codes "depth"))
-    c.get_one.ensures.value c.get_one.ensures.none (read_if_there 0 255 entry c.requires) in
-    number_is_there 0 255 entry c.get_one.result c.requires e
 
 pub returns : goal.returns
 returns c =
     let f = found_of c.args.found.now in
     let entry = one_of (codes "depth") (rows_of f) in
-    let e = entry_reads _ (λ bs r. ParsesUnsigned 8 10 bs r × ExplainsUnsignedError 10 bs r × HasUnsignedDigitsIfOk bs r) 8 0 255
+    entry_reads _ (λ bs r. ParsesUnsigned 8 10 bs r × ExplainsUnsignedError 10 bs r × HasUnsignedDigitsIfOk bs r) 8 0 255
     (λ t r read. read.0) (omega arith) (one_text f (codes "depth")) entry c.get_one.result (one_text-rows f (codes "depth"))
-    c.get_one.ensures.value c.get_one.ensures.none (read_if_there 0 255 entry c.requires) in
-    sym e ∙ c.unwrap.ensures
+    c.get_one.ensures.value c.get_one.ensures.none c.requires

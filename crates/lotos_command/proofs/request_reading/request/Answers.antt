@@ -1,11 +1,15 @@
-use Rattle.std.proofs.Common.{ap, sym, subst, true, ◌∙◌, ◌≡◌, []}
+use Rattle.std.proofs.Common.{ap, sym, subst, true, Err, ◌∙◌, ◌≡◌, []}
+use Rattle.std.specs.Prelude.{IfErr}
+use Rattle.std.proofs.lemmas.Result.{err_from_is_err_and}
 use Rattle.clap.specs.Words.{App, HasKind, fault_of, is_simple, is_simple_and_free, kind_of, subcommand_of, subcommand_rows_of, takes}
 use Rattle.lotos_command.specs.CommandRules.{lotosseq}
+use Rattle.lotos_command.specs.CommandFaults.{AreAccepted, IsFaultOf, IsFaultOfEntries}
 use Rattle.lotos_command.specs.EntryRules.{FitsRequest}
+use Rattle.lotos_command.specs.declared.command.CommandFault.TheVariants.{Memory}
 use Rattle.clap.specs.Walk.{texts as texts_of}
 use Rattle.lotos_command.specs.Request.{request_from}
 use Rattle.lotos_command.proofs.CommandFacts.{simple, simple_and_free}
-use Rattle.lotos_command.proofs.FaultKinds.{fault_known, memory_known}
+use Rattle.lotos_command.proofs.FaultKinds.{entries_known, entries_memory, fault_known, memory_known}
 use Rattle.lotos_command.proofs.RequestFits.{request_fits}
 use Rattle.lotos_command.proofs.request_reading.request.Goals as goal
 
@@ -19,16 +23,6 @@ read_request-requires c =
     (c.in-Ok.ensures.matches (ap is_simple app ∙ simple)).1 ∙ ap (λ (a : App). subcommand_of a words) app in
     subst FitsRequest (sym given) (request_fits words none)
 
-pub returns-in_ok-read_request-in-Ok-clause-is : goal.returns-in_ok-read_request-in-Ok-clause-is
-returns-in_ok-read_request-in-Ok-clause-is c =
-    let app = c.in_ok-lotosseq_command.ensures in
-    let words = texts_of c.args.words.now in
-    let none : fault_of lotosseq words ≡ [] =
-    subst (λ (a : App). fault_of a words ≡ []) app (c.in-Ok.ensures.kinds (ap is_simple_and_free app ∙ simple_and_free)) in
-    let given : subcommand_rows_of c.in-Ok.found ≡ subcommand_of lotosseq words =
-    (c.in-Ok.ensures.matches (ap is_simple app ∙ simple)).1 ∙ ap (λ (a : App). subcommand_of a words) app in
-    record { faultless = none; reads = ap request_from (sym given) ∙ c.in_ok-read_request-in-Ok.ensures.is }
-
 pub returns-in-Err-clause-fault : goal.returns-in-Err-clause-fault
 returns-in-Err-clause-fault c =
     let app = c.in_ok-lotosseq_command.ensures in
@@ -40,5 +34,39 @@ pub returns-in-Err-clause-taken : goal.returns-in-Err-clause-taken
 returns-in-Err-clause-taken c = λ taken.
     let app = c.in_ok-lotosseq_command.ensures in
     let words = texts_of c.args.words.now in
-    let mine : takes lotosseq words ≡ true = taken in
+    let mine : takes lotosseq words ≡ true = taken.0 in
     memory_known (kind_of c.in-Err.error) c.command_fault.result (c.in-Err.ensures.passes (ap (λ (a : App). takes a words) app ∙ mine)) c.command_fault.ensures
+
+pub returns-in_ok-read_request-in-Ok-clause-is : goal.returns-in_ok-read_request-in-Ok-clause-is
+returns-in_ok-read_request-in-Ok-clause-is c =
+    let app = c.in_ok-lotosseq_command.ensures in
+    let words = texts_of c.args.words.now in
+    let none : fault_of lotosseq words ≡ [] =
+    subst (λ (a : App). fault_of a words ≡ []) app (c.in-Ok.ensures.kinds (ap is_simple_and_free app ∙ simple_and_free)) in
+    let given : subcommand_rows_of c.in-Ok.found ≡ subcommand_of lotosseq words =
+    (c.in-Ok.ensures.matches (ap is_simple app ∙ simple)).1 ∙ ap (λ (a : App). subcommand_of a words) app in
+    record { faultless = none; reads = ap request_from (sym given) ∙ c.in_ok-read_request-in-Ok.ensures.is }
+
+pub returns-in_err-read_request-in-Ok-clause-fault : goal.returns-in_err-read_request-in-Ok-clause-fault
+returns-in_err-read_request-in-Ok-clause-fault c =
+    let app = c.in_ok-lotosseq_command.ensures in
+    let words = texts_of c.args.words.now in
+    let none : fault_of lotosseq words ≡ [] =
+    subst (λ (a : App). fault_of a words ≡ []) app (c.in-Ok.ensures.kinds (ap is_simple_and_free app ∙ simple_and_free)) in
+    let given : subcommand_rows_of c.in-Ok.found ≡ subcommand_of lotosseq words =
+    (c.in-Ok.ensures.matches (ap is_simple app ∙ simple)).1 ∙ ap (λ (a : App). subcommand_of a words) app in
+    let f = c.in_err-read_request-in-Ok.field-0.0 in
+    let p = err_from_is_err_and c.from_residual-in_err-read_request-in-Ok.result c.from_residual-in_err-read_request-in-Ok.ensures.1 in
+    subst (λ r. IfErr r (IsFaultOf words)) (sym (p.1 ∙ ap (λ v. Err v) p.2))
+    (entries_known words f none (subst (λ g. IsFaultOfEntries (request_from g) f) given c.in_err-read_request-in-Ok.ensures.fault))
+
+pub returns-in_err-read_request-in-Ok-clause-taken : goal.returns-in_err-read_request-in-Ok-clause-taken
+returns-in_err-read_request-in-Ok-clause-taken c =
+    let app = c.in_ok-lotosseq_command.ensures in
+    let words = texts_of c.args.words.now in
+    let given : subcommand_rows_of c.in-Ok.found ≡ subcommand_of lotosseq words =
+    (c.in-Ok.ensures.matches (ap is_simple app ∙ simple)).1 ∙ ap (λ (a : App). subcommand_of a words) app in
+    let f = c.in_err-read_request-in-Ok.field-0.0 in
+    let p = err_from_is_err_and c.from_residual-in_err-read_request-in-Ok.result c.from_residual-in_err-read_request-in-Ok.ensures.1 in
+    subst (λ r. IfErr r (λ e. AreAccepted words → e ≡ Memory)) (sym (p.1 ∙ ap (λ v. Err v) p.2))
+    (λ taken. entries_memory words f taken.1.0 taken.1.1 (subst (λ g. IsFaultOfEntries (request_from g) f) given c.in_err-read_request-in-Ok.ensures.fault))

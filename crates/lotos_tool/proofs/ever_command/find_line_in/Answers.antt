@@ -1,9 +1,10 @@
-use Rattle.std.proofs.Common.{ap, refl, subst, ◌∙◌}
+use Rattle.std.proofs.Common.{ap, refl, subst, sym, ◌∙◌}
 use Rattle.std.specs.Prelude.{Err}
 use Rattle.std.proofs.lemmas.Result.{err_from_is_err_and}
 use Rattle.lotos_ever.specs.MatchQuestions.{IsAnswer, IsFound, match_question_of}
 use Rattle.lotos_tool.specs.EverParts.{IsEverQuestionFor}
 use Rattle.lotos_tool.specs.EverOutcome.{item_of}
+use Rattle.lotos_tool.specs.OutputLines.{IsItemOf}
 use Rattle.lotos_tool.proofs.MatchOutcomes.{handed_on, out_of_memory, shown_now}
 use Rattle.lotos_tool.proofs.ever_command.find_line_in.Goals as goal
 
@@ -23,7 +24,14 @@ format_match-requires g c =
     let p = c.args.pattern.now in
     let q = match_question_of c.args.table.now p in
     let found : IsFound q c.in-Some.found = subst (IsAnswer q) c.in-Some.is c.in_ok-found.ensures.answer in
-    record { printed = (item_of q found.run, shown_now c.args.table.now c.find_shortest_match_with_progress.new.table p c.in-Some.found c.in_ok-found.ensures.grows found) }
+    let item = item_of q found.run in
+    let shown = shown_now c.args.table.now c.find_shortest_match_with_progress.new.table p c.in-Some.found c.in_ok-found.ensures.grows found in
+    record {
+      printed = (
+        item,
+        subst (λ names. IsItemOf names c.in-Some.found.sequence.items c.in-Some.found.word.items item) (sym c.gates.ensures) shown,
+      );
+    }
 
 pub returns-in_err-format_match-in-Some-clause-none :
     goal.returns-in_err-format_match-in-Some-clause-none
@@ -41,8 +49,10 @@ returns-in_ok-format_match-in-Some-clause-line g c = λ system is.
       question = c.table_has_match_question.ensures system c.args.table.now p is c.recall_sound.ensures.sound;
       pattern = refl;
     } in
-    let shown = shown_now c.args.table.now c.find_shortest_match_with_progress.new.table p c.in-Some.found c.in_ok-found.ensures.grows found in
-    (q, asked, (found.run, found.first, c.in_ok-format_match-in-Some.ensures (item_of q found.run) shown))
+    let item = item_of q found.run in
+    let shown = subst (λ names. IsItemOf names c.in-Some.found.sequence.items c.in-Some.found.word.items item) (sym c.gates.ensures)
+    (shown_now c.args.table.now c.find_shortest_match_with_progress.new.table p c.in-Some.found c.in_ok-found.ensures.grows found) in
+    (q, asked, (found.run, found.first, c.in_ok-format_match-in-Some.ensures item shown))
 
 pub returns-in-None-clause-line : goal.returns-in-None-clause-line
 returns-in-None-clause-line g c = λ system is.

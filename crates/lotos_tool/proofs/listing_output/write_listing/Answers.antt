@@ -18,45 +18,45 @@ pub returns-in-Ok-None-clause-ends : goal.returns-in-Ok-None-clause-ends
 returns-in-Ok-None-clause-ends g c =
     let inv = c.loop-found.invariant in
     ends_finished _ _ _ _ c.strict_order.ensures.total _ _ _ _ inv.items inv.progress _ _ c.flush_complete.result inv.question
-    (told_end c.loop-found.search c.next_with_progress.new.self _ inv.stage c.in-Ok-None.field-0-is c.in-Ok-None.ensures.next_returns) inv.below c.flush_complete.ensures.finished
+    (told_end (g.S.ListingSearch.state c.loop-found.search) (g.S.ListingSearch.state c.next_item.new.self) _ inv.stage c.in-Ok-None.field-0-is c.in-Ok-None.ensures.next_returns) inv.below c.flush_complete.ensures.finished
 
 pub cause_of_halt-why-requires-clause-halt : goal.cause_of_halt-why-requires-clause-halt
 cause_of_halt-why-requires-clause-halt g c =
     let inv = c.loop-found.invariant in
-    (c.loop-found.search.cursor, told_halt c.loop-found.search c.next_with_progress.new.self c.in-Err.halt c.next_with_progress.ensures.same inv.stage c.in-Err.ensures.next_returns)
+    ((g.S.ListingSearch.state c.loop-found.search).cursor, told_halt (g.S.ListingSearch.state c.loop-found.search) (g.S.ListingSearch.state c.next_item.new.self) c.in-Err.halt c.next_item.ensures.same inv.stage c.in-Err.ensures.next_returns)
 
 pub returns-in-Err-clause-ends : goal.returns-in-Err-clause-ends
 returns-in-Err-clause-ends g c =
     let inv = c.loop-found.invariant in
-    let halt = told_halt c.loop-found.search c.next_with_progress.new.self c.in-Err.halt c.next_with_progress.ensures.same inv.stage c.in-Err.ensures.next_returns in
-    ends_halted _ _ _ _ c.strict_order.ensures.total _ _ _ _ inv.items inv.progress _ _ _ c.cause_of_halt-why.result (c.next_with_progress.ensures.same ∙ inv.question) inv.below
-    (c.cause_of_halt-why.ensures.cause c.loop-found.search.cursor halt) c.cause_of_halt-why.ensures.kept
+    let halt = told_halt (g.S.ListingSearch.state c.loop-found.search) (g.S.ListingSearch.state c.next_item.new.self) c.in-Err.halt c.next_item.ensures.same inv.stage c.in-Err.ensures.next_returns in
+    ends_halted _ _ _ _ c.strict_order.ensures.total _ _ _ _ inv.items inv.progress _ _ _ c.cause_of_halt-why.result (c.next_item.ensures.same ∙ inv.question) inv.below
+    (c.cause_of_halt-why.ensures.cause (g.S.ListingSearch.state c.loop-found.search).cursor halt) c.cause_of_halt-why.ensures.kept
 
 pub returns-in-Err-clause-failed : goal.returns-in-Err-clause-failed
 returns-in-Err-clause-failed g c =
     let inv = c.loop-found.invariant in
-    let halt = told_halt c.loop-found.search c.next_with_progress.new.self c.in-Err.halt c.next_with_progress.ensures.same inv.stage c.in-Err.ensures.next_returns in
-    halt_failed c.next_with_progress.new.self.question c.loop-found.search.cursor _ c.cause_of_halt-why.result (c.cause_of_halt-why.ensures.cause c.loop-found.search.cursor halt)
+    let halt = told_halt (g.S.ListingSearch.state c.loop-found.search) (g.S.ListingSearch.state c.next_item.new.self) c.in-Err.halt c.next_item.ensures.same inv.stage c.in-Err.ensures.next_returns in
+    halt_failed (g.S.ListingSearch.state c.next_item.new.self).question (g.S.ListingSearch.state c.loop-found.search).cursor _ c.cause_of_halt-why.result (c.cause_of_halt-why.ensures.cause (g.S.ListingSearch.state c.loop-found.search).cursor halt)
 
 pub write_item-requires-clause-printed : goal.write_item-requires-clause-printed
 write_item-requires-clause-printed g c =
     let inv = c.loop-found.invariant in
-    let returned = returned_item c.loop-found.search c.next_with_progress.new.self _ _ inv.stage c.in-Ok-Some.field-0-is c.in-Ok-Some.ensures.next_returns in
-    its_labels_now c.loop-found.search c.next_with_progress.new.self c.in-Ok-Some.found c.next_with_progress.ensures.same returned.0
+    let returned = returned_item (g.S.ListingSearch.state c.loop-found.search) (g.S.ListingSearch.state c.next_item.new.self) _ _ inv.stage c.in-Ok-Some.field-0-is c.in-Ok-Some.ensures.next_returns in
+    its_labels_now (g.S.ListingSearch.state c.loop-found.search) (g.S.ListingSearch.state c.next_item.new.self) c.in-Ok-Some.found c.next_item.ensures.same returned.0
 
 pub returns-in-Err-write_item-clause-ends : goal.returns-in-Err-write_item-clause-ends
 returns-in-Err-write_item-clause-ends g c =
     let inv = c.loop-found.invariant in
-    let returned = returned_item c.loop-found.search c.next_with_progress.new.self _ _ inv.stage c.in-Ok-Some.field-0-is c.in-Ok-Some.ensures.next_returns in
+    let returned = returned_item (g.S.ListingSearch.state c.loop-found.search) (g.S.ListingSearch.state c.next_item.new.self) _ _ inv.stage c.in-Ok-Some.field-0-is c.in-Ok-Some.ensures.next_returns in
     let failed = c.in-Err-write_item.ensures in
-    ends_unwritten _ _ _ _ c.strict_order.ensures.total _ _ _ _ inv.items inv.progress _ _ _ _ _ c.in-Err-write_item.why inv.question (c.next_with_progress.ensures.same ∙ inv.question) returned.0 inv.below
+    ends_unwritten _ _ _ _ c.strict_order.ensures.total _ _ _ _ inv.items inv.progress _ _ _ _ _ c.in-Err-write_item.why inv.question (c.next_item.ensures.same ∙ inv.question) returned.0 inv.below
     failed.causes (λ e. failed.memory (ap Err e)) (λ e. failed.part (ap Err e))
 
 pub returns-then-is_at_limit-clause-ends : goal.returns-then-is_at_limit-clause-ends
 returns-then-is_at_limit-clause-ends g c =
     let inv = c.loop-found.invariant in
-    let returned = returned_item c.loop-found.search c.next_with_progress.new.self _ _ inv.stage c.in-Ok-Some.field-0-is c.in-Ok-Some.ensures.next_returns in
-    let more = progress_more _ _ _ _ c.strict_order.ensures.total _ _ _ _ inv.items inv.progress _ _ _ _ _ _ c.in-Ok.text inv.question (c.next_with_progress.ensures.same ∙ inv.question) returned.0
+    let returned = returned_item (g.S.ListingSearch.state c.loop-found.search) (g.S.ListingSearch.state c.next_item.new.self) _ _ inv.stage c.in-Ok-Some.field-0-is c.in-Ok-Some.ensures.next_returns in
+    let more = progress_more _ _ _ _ c.strict_order.ensures.total _ _ _ _ inv.items inv.progress _ _ _ _ _ _ c.in-Ok.text inv.question (c.next_item.ensures.same ∙ inv.question) returned.0
     c.in-Ok.ensures.whole c.in-Ok.ensures.text c.saturating_add-lines.ensures in
     let at : is_at_limit c.saturating_add-lines.result c.args.request.now.limit ≡ true = search rules in
     ends_limited _ _ _ _ c.strict_order.ensures.total _ _ _ _ _ more _ _ c.flush_stopped-why.result c.is_at_limit.ensures.small at
@@ -65,15 +65,15 @@ returns-then-is_at_limit-clause-ends g c =
 pub loop-found-preserved : goal.loop-found-preserved
 loop-found-preserved g c =
     let inv = c.loop-found.invariant in
-    let returned = returned_item c.loop-found.search c.next_with_progress.new.self _ _ inv.stage c.in-Ok-Some.field-0-is c.in-Ok-Some.ensures.next_returns in
-    let more = progress_more _ _ _ _ c.strict_order.ensures.total _ _ _ _ inv.items inv.progress _ _ _ _ _ _ c.in-Ok.text inv.question (c.next_with_progress.ensures.same ∙ inv.question) returned.0
+    let returned = returned_item (g.S.ListingSearch.state c.loop-found.search) (g.S.ListingSearch.state c.next_item.new.self) _ _ inv.stage c.in-Ok-Some.field-0-is c.in-Ok-Some.ensures.next_returns in
+    let more = progress_more _ _ _ _ c.strict_order.ensures.total _ _ _ _ inv.items inv.progress _ _ _ _ _ _ c.in-Ok.text inv.question (c.next_item.ensures.same ∙ inv.question) returned.0
     c.in-Ok.ensures.whole c.in-Ok.ensures.text c.saturating_add-lines.ensures in
     let at : is_at_limit c.saturating_add-lines.result c.args.request.now.limit ≡ false = search rules in
     record {
       items = _;
       progress = more;
       below = below_limit _ _ _ at more.count (within_more inv.items (item_of _ _ _ _ returned.0) c.args.request.now.limit inv.below) c.is_at_limit.ensures.small;
-      question = c.next_with_progress.ensures.same ∙ inv.question;
+      question = c.next_item.ensures.same ∙ inv.question;
       stage = returned.1;
       unfailed = c.in-Ok.ensures.failed;
     }

@@ -1,6 +1,7 @@
 use Rattle.std.proofs.Common.{◌≡◌, List, length, false}
+use Rattle.lotos_listing.specs.ListingSteps.{running}
 use Rattle.lotos_listing.specs.Remaining.{remaining}
-use Rattle.lotos_search.specs.SearchSteps.{running}
+use Rattle.lotos_tool.specs.ListingQuestions.{most_of, names_of}
 use Rattle.lotos_tool.specs.SearchOutcome.{IsBelowLimit}
 use Rattle.lotos_tool.specs.OutputLines.{Item}
 use Rattle.lotos_tool.proofs.ListingProgress.{Progress}
@@ -8,16 +9,21 @@ use Rattle.lotos_tool.proofs.listing_output.write_listing.Given as goal
 
 -- the lines of some items were written, fewer than the limit; the search goes on, and the writer has not failed
 abbrev pub invariant-loop-found : goal.invariant-loop-found
-invariant-loop-found g l = record {
-  items : List Item;
-  progress : Progress l.fn.request l.fn.search.question l.fn.search.cursor (g.W.Sink.written l.fn.writer)
-      (g.W.Sink.written l.writer) l.search.cursor l.lines l.last items;
-  below : IsBelowLimit (length items) l.fn.request.limit;
-  question : l.search.question ≡ l.fn.search.question;
-  stage : l.search.stage ≡ running;
-  unfailed : g.W.Sink.has_failed l.writer ≡ false;
-}
+invariant-loop-found g l =
+    let begun = g.S.ListingSearch.state l.fn.search in
+    let now = g.S.ListingSearch.state l.search in
+    record {
+      items : List Item;
+      progress : Progress l.fn.request begun.question begun.cursor (g.W.Sink.written l.fn.writer) (g.W.Sink.written l.writer)
+          now.cursor l.lines l.last items;
+      below : IsBelowLimit (length items) l.fn.request.limit;
+      question : now.question ≡ begun.question;
+      stage : now.stage ≡ running;
+      unfailed : g.W.Sink.has_failed l.writer ≡ false;
+    }
 
--- how many sequences of at most the question's depth come after the last item
+-- how many sequences of at most as many labels as a member may have come after the last item
 abbrev pub decreases-loop-found : goal.decreases-loop-found
-decreases-loop-found g l = remaining l.search.question l.search.cursor
+decreases-loop-found g l =
+    let now = g.S.ListingSearch.state l.search in
+    remaining (names_of now.question) (most_of now.question) now.cursor

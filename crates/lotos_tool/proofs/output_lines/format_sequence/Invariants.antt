@@ -8,9 +8,9 @@ use Rattle.lotos_tool.proofs.output_lines.format_sequence.Given as goal
 -- the bytes so far are text, and with a blank and the printed text of each label that is left they make up the text of
 -- the sequence
 abbrev pub invariant-loop-label : goal.invariant-loop-label
-invariant-loop-label g l = record {
+invariant-loop-label l = record {
   utf8 : IsUtf8 l.bytes.items;
-  left : (s : List Label) → ArePrinted (g.T.LabelTexts.names l.texts) l.labels s →
-      (left : List Label) × ArePrinted (g.T.LabelTexts.names l.texts) (drop l.label-index l.rest) left
+  left : (s : List Label) → ArePrinted l.gates l.labels s →
+      (left : List Label) × ArePrinted l.gates (drop l.label-index l.rest) left
       × (l.bytes.items ++ flat_map (λ m. 32 ∷ m) left ≡ sequence_text s);
 }

@@ -1,0 +1,464 @@
+//! Accepted specifications with their warnings.
+ghost use Rattle.std.specs.Prelude.{IfOk};
+ghost use Rattle.lotos_text.specs.AstOf.{definition_view};
+ghost use Rattle.lotos_check.specs.Acceptance.{IsAccepted};
+ghost use Rattle.lotos_check.specs.CheckedView.{system_of};
+
+use super::table_texts::joined;
+use lotos_check::{AcceptFault, AcceptedText, accept};
+use lotos_warn::{Side, Warning, warnings};
+use std::alloc::{AllocError, Global};
+use std::process::Abort;
+use std::test::Fail;
+
+/// What is tested, a specification, and its warnings: the offset and the text of each, a line for each.
+type Row = (&'static str, &'static str, &'static str);
+
+/// Gates that are used, and gates that are not.
+const USED_GATES: &[Row] = &[
+    (
+        "no warning",
+        "specification S [a] : noexit behaviour a; stop endspec",
+        "",
+    ),
+    (
+        "no gates and no processes",
+        "specification S : noexit behaviour stop endspec",
+        "",
+    ),
+    (
+        "a gate that is not used",
+        "specification S [a, b] : noexit behaviour a; stop endspec",
+        "20 gate B of S is not used\n",
+    ),
+    (
+        "all gates, in their order",
+        "specification S [b, a] : noexit behaviour i; stop endspec",
+        "17 gate B of S is not used\n20 gate A of S is not used\n",
+    ),
+    (
+        "a hidden gate is another one",
+        "specification S [a] : noexit behaviour hide a in a; stop endspec",
+        "17 gate A of S is not used\n",
+    ),
+    (
+        "a gate outside the form that hides it",
+        "specification S [a] : noexit behaviour (hide a in a; stop) [] a; stop endspec",
+        "",
+    ),
+    (
+        "a gate of the form around the list",
+        "specification S [a] : noexit behaviour hide a in (a; stop |[a]| a; stop) endspec",
+        "17 gate A of S is not used\n",
+    ),
+    (
+        "one of two hidden gates",
+        "specification S [a, b] : noexit behaviour hide b, c in a; b; c; stop endspec",
+        "20 gate B of S is not used\n",
+    ),
+];
+
+/// Gates that a side of a composition offers, or does not.
+const OFFERED_GATES: &[Row] = &[
+    (
+        "a gate in a list only is used, and neither side offers it",
+        "specification S [a] : noexit behaviour stop |[a]| stop endspec",
+        "46 gate A of `|[..]|` is never offered on the left\n46 gate A of `|[..]|` is never offered on the right\n",
+    ),
+    (
+        "a gate that one side offers",
+        "specification S [a] : noexit behaviour a; stop |[a]| stop endspec",
+        "49 gate A of `|[..]|` is never offered on the right\n",
+    ),
+    (
+        "a gate that the other side offers",
+        "specification S [a] : noexit behaviour stop |[a]| a; stop endspec",
+        "46 gate A of `|[..]|` is never offered on the left\n",
+    ),
+    (
+        "a gate that both sides offer",
+        "specification S [a] : noexit behaviour a; stop |[a]| a; stop endspec",
+        "",
+    ),
+    (
+        "a hidden gate that a list has too",
+        "specification S [a] : noexit behaviour (hide a in a; stop) |[a]| a; stop endspec",
+        "61 gate A of `|[..]|` is never offered on the left\n",
+    ),
+    (
+        "a gate that is passed on is used and offered",
+        "specification S [a] : noexit behaviour P[a] |[a]| a; stop where process P[x] : noexit := x; stop endproc endspec",
+        "",
+    ),
+    (
+        "a gate in the list of an inner composition is not offered by it",
+        "specification S [a] : noexit behaviour (stop |[a]| stop) |[a]| a; stop endspec",
+        "47 gate A of `|[..]|` is never offered on the left\n47 gate A of `|[..]|` is never offered on the right\n59 gate A of `|[..]|` is never offered on the left\n",
+    ),
+    (
+        "a gate that an operand of an operand offers",
+        "specification S [a, b] : noexit behaviour (b; stop |[b]| (b; a; stop)) |[a]| (i; stop [] i; a; stop) endspec",
+        "",
+    ),
+];
+
+/// The same among other operators, and lists in other forms.
+const COMPOSITIONS: &[Row] = &[
+    (
+        "a gate that is offered before the composition, and not by its sides",
+        "specification S [a] : noexit behaviour a; (stop |[a]| a; stop) endspec",
+        "50 gate A of `|[..]|` is never offered on the left\n",
+    ),
+    (
+        "a gate that the other operand of a choice offers",
+        "specification S [a] : noexit behaviour a; stop [] (stop |[a]| a; stop) [] a; stop endspec",
+        "58 gate A of `|[..]|` is never offered on the left\n",
+    ),
+    (
+        "operands of enabling and disabling",
+        "specification S [a, b, c] : noexit behaviour ((a; exit >> b; stop) [> c; stop) |[a, b, c]| (a; b; c; stop) endspec",
+        "",
+    ),
+    (
+        "interleaving and full synchronization have no list",
+        "specification S [a, b] : noexit behaviour (a; stop ||| b; stop) || (a; stop ||| b; stop) endspec",
+        "",
+    ),
+    (
+        "the empty list",
+        "specification S [a] : noexit behaviour a; stop |[]| stop endspec",
+        "",
+    ),
+    (
+        "a gate twice in a list",
+        "specification S [a] : noexit behaviour a; stop |[a, a]| stop endspec",
+        "49 gate A of `|[..]|` is never offered on the right\n52 gate A of `|[..]|` is never offered on the right\n",
+    ),
+    (
+        "two gates, each side with another",
+        "specification S [a, b] : noexit behaviour a; stop |[b, a]| b; stop endspec",
+        "52 gate B of `|[..]|` is never offered on the left\n55 gate A of `|[..]|` is never offered on the right\n",
+    ),
+    (
+        "names in other letter case",
+        "specification s [Ab] : noexit behaviour aB; stop |[AB]| stop endspec",
+        "51 gate AB of `|[..]|` is never offered on the right\n",
+    ),
+];
+
+/// Processes that are called, and processes that are not.
+const PROCESSES: &[Row] = &[
+    (
+        "a process that is not called",
+        "specification S : noexit behaviour stop where process P : noexit := stop endproc endspec",
+        "54 process P is never called\n",
+    ),
+    (
+        "a process that is called",
+        "specification S : noexit behaviour P where process P : noexit := stop endproc endspec",
+        "",
+    ),
+    (
+        "a process that only itself calls is called",
+        "specification S : noexit behaviour stop where process P : noexit := i; P endproc endspec",
+        "",
+    ),
+    (
+        "a process that only one that is not called calls",
+        "specification S : noexit behaviour stop where process P : noexit := Q endproc process Q : noexit := stop endproc endspec",
+        "54 process P is never called\n",
+    ),
+    (
+        "of two processes of one name the inner one is called",
+        "specification S : noexit behaviour Q where process P : noexit := stop endproc process Q : noexit := P where process P : noexit := stop endproc endproc endspec",
+        "51 process P is never called\n",
+    ),
+    (
+        "of two processes of one name the outer one is called",
+        "specification S : noexit behaviour P ||| Q where process P : noexit := stop endproc process Q : noexit := stop where process P : noexit := stop endproc endproc endspec",
+        "125 process P is never called\n",
+    ),
+    (
+        "a process with the name of the specification",
+        "specification P : noexit behaviour stop where process P : noexit := stop endproc endspec",
+        "54 process P is never called\n",
+    ),
+    (
+        "a call under each operator",
+        "specification S [a] : noexit behaviour (a; A [] B) ||| (hide h in h; C) ||| (D >> E) ||| (F [> G) where process A : noexit := stop endproc process B : noexit := stop endproc process C : noexit := stop endproc process D : exit := exit endproc process E : noexit := stop endproc process F : noexit := stop endproc process G : noexit := stop endproc process H : noexit := stop endproc endspec",
+        "355 process H is never called\n",
+    ),
+    (
+        "a process sees its own gates alone",
+        "specification S [a] : noexit behaviour stop where process P [a, b] : noexit := a; stop endproc endspec",
+        "17 gate A of S is not used\n58 process P is never called\n64 gate B of P is not used\n",
+    ),
+    (
+        "the gates of inner processes",
+        "specification S [a] : noexit behaviour P[a] where process P [x] : noexit := i; stop where process Q [y, z] : noexit := y; stop endproc endproc endspec",
+        "61 gate X of P is not used\n98 process Q is never called\n104 gate Z of Q is not used\n",
+    ),
+    (
+        "several warnings in the order of the text",
+        "specification S [a, b] : noexit behaviour P[a] |[a]| stop where process P [x] : noexit := x; (stop |[x]| x; stop) endproc process Q [y] : noexit := stop endproc endspec",
+        "20 gate B of S is not used\n49 gate A of `|[..]|` is never offered on the right\n101 gate X of `|[..]|` is never offered on the left\n130 process Q is never called\n133 gate Y of Q is not used\n",
+    ),
+];
+
+/// What is written of a specification that is not accepted.
+const NOT_ACCEPTED: &str = "not accepted";
+
+/// The warnings about a specification, a line for each.
+fn warning_lines(alloc: Global, text: &str) -> Result<String, AllocError> {
+    let answer = accept(alloc, text.as_bytes());
+    lines_of_answer(alloc, &answer)
+}
+
+fn lines_of_answer(
+    alloc: Global,
+    answer: &Result<AcceptedText, AcceptFault>,
+) -> Result<String, AllocError>
+    requires { IfOk answer.now (λ it.
+        IsAccepted (definition_view it.specification.whole) (system_of it.system)) }
+{
+    match answer {
+        Ok(accepted) => lines_of(alloc, accepted),
+        Err(AcceptFault::Memory) => Err(AllocError),
+        Err(_) => String::from_str(alloc, NOT_ACCEPTED),
+    }
+}
+
+fn lines_of(alloc: Global, accepted: &AcceptedText) -> Result<String, AllocError>
+    requires { IsAccepted (definition_view accepted.now.specification.whole) (system_of accepted.now.system) }
+{
+    let mut lines = String::new(alloc);
+    let found = warnings(alloc, &accepted.specification, &accepted.system)?;
+    for warning in &found {
+        add_line(alloc, &mut lines, warning)?;
+    }
+    Ok(lines)
+}
+
+fn add_line(alloc: Global, lines: &mut String, warning: &Warning) -> Result<(), AllocError> {
+    lines.push_str(warning.at().to_string(alloc)?.as_str())?;
+    lines.push_str(" ")?;
+    lines.push_str(warning.to_string(alloc)?.as_str())?;
+    lines.push_str("\n")
+}
+
+fn assert_row(
+    rt: &impl Abort,
+    alloc: Global,
+    words: &str,
+    text: &str,
+    expected: &str,
+) -> Result<(), AllocError> {
+    let lines = warning_lines(alloc, text)?;
+    assert!(rt; lines.as_str() == expected, "{words}: {}", lines.as_str());
+    Ok(())
+}
+
+fn assert_rows(rt: &impl Abort, alloc: Global, rows: &[Row]) -> Result<(), AllocError> {
+    for (words, text, expected) in rows {
+        assert_row(rt, alloc, words, text, expected)?;
+    }
+    Ok(())
+}
+
+#[test]
+fn warns_about_gates_that_are_not_used(rt: HostRuntime) -> Result<(), Fail> {
+    Ok(assert_rows(&rt, rt.alloc(), USED_GATES)?)
+}
+
+#[test]
+fn warns_about_gates_that_are_not_offered(rt: HostRuntime) -> Result<(), Fail> {
+    Ok(assert_rows(&rt, rt.alloc(), OFFERED_GATES)?)
+}
+
+#[test]
+fn warns_about_lists_of_compositions(rt: HostRuntime) -> Result<(), Fail> {
+    Ok(assert_rows(&rt, rt.alloc(), COMPOSITIONS)?)
+}
+
+#[test]
+fn warns_about_processes_that_are_not_called(rt: HostRuntime) -> Result<(), Fail> {
+    Ok(assert_rows(&rt, rt.alloc(), PROCESSES)?)
+}
+
+/// A piece of text with each of the numbers after it, the pieces separated.
+fn numbered(
+    alloc: Global,
+    piece: &str,
+    separator: &str,
+    count: usize,
+) -> Result<String, AllocError> {
+    let mut text = String::new(alloc);
+    for number in 0..count {
+        if number > 0 {
+            text.push_str(separator)?;
+        }
+        text.push_str(piece)?;
+        text.push_str(number.to_string(alloc)?.as_str())?;
+    }
+    Ok(text)
+}
+
+/// One hundred actions, by the gates from this number on, and then `stop`.
+fn add_actions(alloc: Global, text: &mut String, first: usize) -> Result<(), AllocError> {
+    for number in 0..100usize {
+        text.push_str("a")?;
+        text.push_str(
+            (first.saturating_add(number) % GATES)
+                .to_string(alloc)?
+                .as_str(),
+        )?;
+        text.push_str("; ")?;
+    }
+    text.push_str("stop")
+}
+
+/// How many gates the long text has.
+const GATES: usize = 3000;
+
+/// A choice of thirty sequences of one hundred actions, in parentheses.
+fn add_choice(alloc: Global, text: &mut String, first: usize) -> Result<(), AllocError> {
+    text.push_str("(")?;
+    for number in 0..30usize {
+        if number > 0 {
+            text.push_str(" [] ")?;
+        }
+        add_actions(alloc, text, first.saturating_add(100 * number))?;
+    }
+    text.push_str(")")
+}
+
+/// A behaviour of 30,000 actions by all gates: a choice of ten choices.
+fn long_body(alloc: Global) -> Result<String, AllocError> {
+    let mut text = String::new(alloc);
+    for number in 0..10usize {
+        if number > 0 {
+            text.push_str(" [] ")?;
+        }
+        add_choice(alloc, &mut text, 3000 * number)?;
+    }
+    Ok(text)
+}
+
+/// A specification with 3,000 gates in a list: the left side has 30,000 actions and offers each, the right side offers
+/// none.
+fn long_text(alloc: Global) -> Result<String, AllocError> {
+    let gates = numbered(alloc, "a", ",", GATES)?;
+    let body = long_body(alloc)?;
+    joined(
+        alloc,
+        &[
+            "specification S[",
+            gates.as_str(),
+            "] : noexit behaviour (",
+            body.as_str(),
+            ") |[",
+            gates.as_str(),
+            "]| stop endspec",
+        ],
+    )
+}
+
+/// How many of the warnings are about the right side.
+fn count_right(found: &[Warning]) -> usize {
+    let mut count = 0usize;
+    for warning in found {
+        if is_right(warning) {
+            count = count.saturating_add(1);
+        }
+    }
+    count
+}
+
+fn is_right(warning: &Warning) -> bool {
+    matches!(
+        warning,
+        Warning::UnofferedGate {
+            side: Side::Right,
+            ..
+        }
+    )
+}
+
+/// How many warnings a specification has, and how many of these are about the right side.
+fn warning_counts(alloc: Global, text: &str) -> Result<(usize, usize), AllocError> {
+    let answer = accept(alloc, text.as_bytes());
+    counts_of_answer(alloc, &answer)
+}
+
+fn counts_of_answer(
+    alloc: Global,
+    answer: &Result<AcceptedText, AcceptFault>,
+) -> Result<(usize, usize), AllocError>
+    requires { IfOk answer.now (λ it.
+        IsAccepted (definition_view it.specification.whole) (system_of it.system)) }
+{
+    match answer {
+        Ok(accepted) => counts_of(alloc, accepted),
+        Err(_) => Ok((0, 0)),
+    }
+}
+
+fn counts_of(alloc: Global, accepted: &AcceptedText) -> Result<(usize, usize), AllocError>
+    requires { IsAccepted (definition_view accepted.now.specification.whole) (system_of accepted.now.system) }
+{
+    let found = warnings(alloc, &accepted.specification, &accepted.system)?;
+    Ok((found.as_slice().len(), count_right(found.as_slice())))
+}
+
+#[test]
+fn warns_about_each_gate_of_a_long_text(rt: HostRuntime) -> Result<(), Fail> {
+    let text = long_text(rt.alloc())?;
+    let (all, right) = warning_counts(rt.alloc(), text.as_str())?;
+    assert_eq!(rt; all, GATES);
+    assert_eq!(rt; right, GATES);
+    Ok(())
+}
+
+/// How many lists are around the call.
+const LISTS: usize = 190;
+
+/// A specification with a call that has 20,000 gates inside 190 compositions, each of which has one gate in its list
+/// and `stop` on its left side.
+fn nested_text(alloc: Global) -> Result<String, AllocError> {
+    let gates = numbered(alloc, "a", ",", 20000)?;
+    let lists = lists(alloc)?;
+    joined(
+        alloc,
+        &[
+            "specification S[",
+            gates.as_str(),
+            "] : noexit behaviour ",
+            lists.as_str(),
+            "P[",
+            gates.as_str(),
+            "] where process P[",
+            gates.as_str(),
+            "] : noexit := i; P[",
+            gates.as_str(),
+            "] endproc endspec",
+        ],
+    )
+}
+
+/// What stands before the call.
+fn lists(alloc: Global) -> Result<String, AllocError> {
+    let mut text = String::new(alloc);
+    for _ in 0..LISTS {
+        text.push_str("stop |[a0]| ")?;
+    }
+    Ok(text)
+}
+
+#[test]
+fn warns_about_lists_around_a_call_with_many_gates(rt: HostRuntime) -> Result<(), Fail> {
+    let text = nested_text(rt.alloc())?;
+    let (all, right) = warning_counts(rt.alloc(), text.as_str())?;
+    assert_eq!(rt; all, LISTS);
+    assert_eq!(rt; right, 0);
+    Ok(())
+}
