@@ -9,6 +9,7 @@ mod ast_lines;
 mod check_calls;
 mod compiled_calls;
 mod front_end;
+mod item_search;
 mod lexing_calls;
 mod lines;
 mod mark_calls;
@@ -16,8 +17,10 @@ mod match_calls;
 mod pattern_calls;
 mod read_calls;
 mod request_calls;
+mod retried_sets;
 mod retry_heap;
 mod search_calls;
+mod set_calls;
 mod system_lines;
 mod table_calls;
 
@@ -47,6 +50,7 @@ fn all(rt: &impl Print, heap: &mut Heap) -> Result<(), Stop> {
     mark_calls::rows(rt, heap)?;
     search_calls::rows(rt, heap)?;
     match_calls::rows(rt, heap)?;
+    set_calls::rows(rt, heap)?;
     request_calls::rows(rt, heap)?;
     read_calls::rows(rt, heap)
 }

@@ -120,7 +120,7 @@ fn find_match(
 }
 
 /// Writes the observed sequence and the run of a match.
-fn write_match(line: &mut Line, table: &NormalTable, found: &Found) -> Result<(), Stop>
+pub fn write_match(line: &mut Line, table: &NormalTable, found: &Found) -> Result<(), Stop>
     requires sequence { AreLabels table.now found.now.sequence.items }
     requires word { AreLabels table.now found.now.word.items }
 {

@@ -1,8 +1,9 @@
-//! Words of patterns, and whether the prefixes of a sequence match.
+//! Words of patterns, and whether the prefixes of a sequence match; patterns that match one sequence alone.
 
 use crate::lines::{Line, put};
 use crate::retry_heap::{Heap, Stop};
 use lotos_pattern::{Pattern, PatternFault};
+use std::alloc::Global;
 use std::fmt::Write;
 
 /// Words, whether internal steps are observed, and a sequence.
@@ -28,6 +29,17 @@ const ROWS: &[(&[&str], bool, &[&str])] = &[
     (&["<not>"], false, &[]),
 ];
 
+/// Words of a pattern that observes internal steps, the sequence that is matched alone, and another sequence.
+const EXACT_ROWS: &[(&[&str], &[&str], &[&str])] = &[
+    (
+        &["<until>", "<deadlock>"],
+        &["A", "i", "exit"],
+        &["A", "i", "exit", "A"],
+    ),
+    (&["<while>", "<any>"], &["B", "B"], &["B", "B"]),
+    (&["<any>"], &[], &["A"]),
+];
+
 pub fn rows(rt: &impl Print, heap: &mut Heap) -> Result<(), Stop> {
     for (words, strong, sequence) in ROWS {
         let mut line = Line::new();
@@ -37,7 +49,40 @@ pub fn rows(rt: &impl Print, heap: &mut Heap) -> Result<(), Stop> {
         }
         println!(rt; "pattern:{line}")?;
     }
+    exact_rows(rt, heap)
+}
+
+fn exact_rows(rt: &impl Print, heap: &mut Heap) -> Result<(), Stop> {
+    for (words, labels, sequence) in EXACT_ROWS {
+        let mut line = Line::new();
+        let pattern = pattern_of(heap, words, true)?;
+        let exact = exact_of(heap, &pattern, labels)?;
+        write_ends(&mut line, &exact, sequence)?;
+        println!(rt; "exact:{line}")?;
+    }
     Ok(())
+}
+
+/// The pattern that matches the labels alone.
+fn exact_of(heap: &mut Heap, pattern: &Pattern, labels: &[&str]) -> Result<Pattern, Stop> {
+    match exactly(heap.alloc, pattern, labels) {
+        Err(Stop::Memory) => {
+            heap.count_failure();
+            exactly(heap.alloc, pattern, labels)
+        }
+        answer => answer,
+    }
+}
+
+/// The same, if internal steps are observed, so that all labels are, and there are not too many.
+fn exactly(alloc: Global, pattern: &Pattern, labels: &[&str]) -> Result<Pattern, Stop> {
+    if pattern.strong() {
+        if labels.len() < 256 {
+            let exact = pattern.exactly(alloc, labels)?;
+            return Ok(exact);
+        }
+    }
+    Err(Stop::Row)
 }
 
 pub fn pattern_of(heap: &mut Heap, words: &[&str], strong: bool) -> Result<Pattern, PatternFault> {

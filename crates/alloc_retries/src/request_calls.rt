@@ -20,6 +20,7 @@ const ROWS: &[&[&str]] = &[
     ],
     &["lotosseq", "search", "--length", "2", "A"],
     &["lotosseq", "ever", "<until> A", " B  <deadlock> "],
+    &["lotosseq", "after", "--strong", "A  B", "i"],
     &["lotosseq", "search", "--depth", "256"],
     &["lotosseq", "check", "-h"],
 ];

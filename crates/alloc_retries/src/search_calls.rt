@@ -1,27 +1,37 @@
-//! Listings. A search that runs out of memory is begun again after its last item.
+//! Listings, by depth and by length. A search that runs out of memory is begun again after its last item.
 ghost use Rattle.lotos_listing.specs.Question.{HaveTexts};
 
-use crate::front_end::table_of;
+use crate::item_search::{Bounds, ItemSearch};
 use crate::lines::{Line, put, put_blank};
 use crate::mark_calls::mark_of;
 use crate::pattern_calls::pattern_of;
 use crate::retry_heap::{Heap, Stop};
+use lotos_length::LengthSearch;
 use lotos_listing::{Found, Halt};
 use lotos_search::Search;
 use lotos_terms::Label;
-use std::alloc::{AllocError, Global};
+use std::alloc::AllocError;
 
 /// More calls than any listing here takes.
 const MOST_CALLS: usize = 50;
 
+/// What bounds the sequences of a listing.
+#[derive(Clone, Copy)]
+enum Extent {
+    /// The most steps of a derivation.
+    Depth(u8),
+    /// The most labels of a sequence, of derivations of any number of steps.
+    Length(u8),
+}
+
 /// What is searched for.
 #[derive(Clone, Copy)]
 struct Question {
-    /// The functionality and the behaviour of a specification, and what follows them.
+    /// A specification.
     text: &'static str,
     words: &'static [&'static str],
     strong: bool,
-    depth: u8,
+    extent: Extent,
     /// The line after which the listing starts; empty for none.
     after: &'static str,
     terms: usize,
@@ -33,7 +43,7 @@ const DISABLING: Question = Question {
     text: "specification S [a,b] : exit behaviour a; exit [> b; stop endspec",
     words: ENDS,
     strong: false,
-    depth: 2,
+    extent: Extent::Depth(2),
     after: "",
     terms: 100,
 };
@@ -55,7 +65,7 @@ const ROWS: &[Question] = &[
     Question {
         text: "specification S [a] : exit behaviour P[a] where process P [x] : exit := x; exit >> P[x] endproc endspec",
         words: &["A", "A", "A"],
-        depth: 5,
+        extent: Extent::Depth(5),
         ..DISABLING
     },
     Question {
@@ -72,7 +82,7 @@ const ROWS: &[Question] = &[
     Question {
         text: "specification S [a,b] : noexit behaviour a; b; b; stop endspec",
         words: &["<while>", "<any>"],
-        depth: 3,
+        extent: Extent::Depth(3),
         ..DISABLING
     },
     Question {
@@ -82,18 +92,74 @@ const ROWS: &[Question] = &[
     Question {
         text: "specification S [a,b,c] : noexit behaviour (a; stop ||| b; stop) ||| c; stop endspec",
         words: &["<until>", "exit"],
-        depth: 4,
+        extent: Extent::Depth(4),
         ..DISABLING
+    },
+];
+
+/// The sequences begin with A; an internal step leads back to the beginning, and B ends.
+const LOOP: Question = Question {
+    text: "specification S [a,b] : noexit behaviour P[a,b] where process P [x,y] : noexit := x; (i; P[x,y] [] y; stop) endproc endspec",
+    words: &["<while>", "<any>"],
+    strong: false,
+    extent: Extent::Length(2),
+    after: "",
+    terms: 100,
+};
+
+const LENGTH_ROWS: &[Question] = &[
+    LOOP,
+    Question {
+        words: ENDS,
+        extent: Extent::Length(3),
+        after: "A A",
+        ..LOOP
+    },
+    Question {
+        words: &["<any>", "<any>"],
+        strong: true,
+        ..LOOP
+    },
+    Question {
+        words: &["B", "A"],
+        extent: Extent::Length(5),
+        ..LOOP
+    },
+    Question {
+        words: &["<while>", "A", "B", "A"],
+        extent: Extent::Length(4),
+        ..LOOP
+    },
+    Question {
+        text: BRANCHES,
+        words: &["<any>"],
+        extent: Extent::Length(1),
+        terms: 1,
+        ..LOOP
+    },
+    // A chain of parallel compositions, which is regrouped.
+    Question {
+        text: "specification S [a,b,c,d] : noexit behaviour a; stop ||| b; stop ||| c; stop ||| d; i; stop endspec",
+        words: &["D", "C", "<until>", "<deadlock>"],
+        extent: Extent::Length(4),
+        ..LOOP
     },
 ];
 
 pub fn rows(rt: &impl Print, heap: &mut Heap) -> Result<(), Stop> {
     for question in ROWS {
-        let mut line = Line::new();
-        list(heap, question, &mut line)?;
-        println!(rt; "listing: {line}")?;
+        write_row(rt, heap, question)?;
+    }
+    for question in LENGTH_ROWS {
+        write_row(rt, heap, question)?;
     }
     Ok(())
+}
+
+fn write_row(rt: &impl Print, heap: &mut Heap, question: &Question) -> Result<(), Stop> {
+    let mut line = Line::new();
+    list(heap, question, &mut line)?;
+    Ok(println!(rt; "listing: {line}")?)
 }
 
 /// Writes the items of a listing, and how it ends.
@@ -117,13 +183,31 @@ fn list_part(
     line: &mut Line,
     last: &mut Line,
 ) -> Result<bool, Stop> {
-    let mut search = begin(heap, question, last.as_str())?;
-    write_items(&mut search, line, last)
+    match question.extent {
+        Extent::Depth(depth) => list_by::<Search>(heap, question, depth, line, last),
+        Extent::Length(length) => list_by::<LengthSearch>(heap, question, length, line, last),
+    }
+}
+
+/// The same by a search of this kind.
+fn list_by<S: ItemSearch + Drop>(
+    heap: &mut Heap,
+    question: &Question,
+    most: u8,
+    line: &mut Line,
+    last: &mut Line,
+) -> Result<bool, Stop> {
+    let mut search = begin::<S>(heap, question, most, last.as_str())?;
+    write_items(&mut *search, line, last)
 }
 
 /// Writes the items of a search, and stores the last one, until the listing ends or memory runs out. Returns whether it
 /// ended.
-fn write_items(search: &mut Search, line: &mut Line, last: &mut Line) -> Result<bool, Stop> {
+fn write_items<S: ItemSearch>(
+    search: &mut S,
+    line: &mut Line,
+    last: &mut Line,
+) -> Result<bool, Stop> {
     for _ in 0..MOST_CALLS {
         match advance(search, line, last)? {
             NextResult::Item => {}
@@ -137,50 +221,45 @@ fn write_items(search: &mut Search, line: &mut Line, last: &mut Line) -> Result<
     Err(Stop::Row)
 }
 
-fn begin(heap: &mut Heap, question: &Question, after: &str) -> Result<Box<Search>, Stop> {
-    match begun(heap, question, after)? {
+fn begin<S: ItemSearch + Drop>(
+    heap: &mut Heap,
+    question: &Question,
+    most: u8,
+    after: &str,
+) -> Result<Box<S>, Stop> {
+    match begin_once::<S>(heap, question, most, after)? {
         Ok(search) => Ok(search),
         Err(_) => {
             heap.count_failure();
-            Ok(begun(heap, question, after)??)
+            Ok(begin_once::<S>(heap, question, most, after)??)
         }
     }
 }
 
-fn begun(
+fn begin_once<S: ItemSearch>(
     heap: &mut Heap,
     question: &Question,
+    most: u8,
     after: &str,
-) -> Result<Result<Box<Search>, AllocError>, Stop> {
-    if question.terms == 0 {
-        return Err(Stop::Row);
-    }
+) -> Result<Result<Box<S>, AllocError>, Stop> {
     let pattern = pattern_of(heap, question.words, question.strong)?;
     let mark = if after.is_empty() {
         None
     } else {
         Some(mark_of(heap, after, question.strong)?)
     };
-    let table = table_of(heap, question.text)?;
-    let search = Search::begin(
-        heap.alloc,
-        Box::into_inner(table),
-        pattern,
-        question.depth,
-        mark,
-        question.terms,
-    );
-    Ok(boxed(heap.alloc, search))
-}
-
-fn boxed(alloc: Global, search: Result<Search, AllocError>) -> Result<Box<Search>, AllocError> {
-    Ok(Box::new(alloc, search?)?)
+    let bounds = Bounds {
+        text: question.text,
+        most,
+        terms: question.terms,
+    };
+    S::begun(heap, bounds, pattern, mark)
 }
 
 /// Fails unless a search that ran out of memory returns `Halt::Failed`, again and again.
-fn fail(search: &mut Search) -> Result<(), Stop> {
+fn fail<S: ItemSearch>(search: &mut S) -> Result<(), Stop> {
     for _ in 0..2 {
-        if !matches!(search.next(), Err(Halt::Failed)) {
+        if !matches!(search.next_item(), Err(Halt::Failed)) {
             return Err(Stop::Row);
         }
     }
@@ -195,8 +274,12 @@ enum NextResult {
 }
 
 /// Writes what a call returns, and stores the sequence of an item as the last one.
-fn advance(search: &mut Search, line: &mut Line, last: &mut Line) -> Result<NextResult, Stop> {
-    match search.next() {
+fn advance<S: ItemSearch>(
+    search: &mut S,
+    line: &mut Line,
+    last: &mut Line,
+) -> Result<NextResult, Stop> {
+    match search.next_item() {
         Ok(Some(found)) => write_item(search, &found, line, last),
         Ok(None) => write_end(line),
         Err(Halt::OverTerms(labels)) => write_over(search, labels.as_slice(), line),
@@ -206,14 +289,14 @@ fn advance(search: &mut Search, line: &mut Line, last: &mut Line) -> Result<Next
 }
 
 /// Writes an item, and stores its sequence as the last one.
-fn write_item(
-    search: &Search,
+fn write_item<S: ItemSearch>(
+    search: &S,
     found: &Found,
     line: &mut Line,
     last: &mut Line,
 ) -> Result<NextResult, Stop>
-    requires sequence { HaveTexts search.now.question.names found.now.sequence.items }
-    requires word { HaveTexts search.now.question.names found.now.word.items }
+    requires sequence { HaveTexts (S.names search.now) found.now.sequence.items }
+    requires word { HaveTexts (S.names search.now) found.now.word.items }
 {
     last.clear();
     spell(last, search, found.sequence.as_slice())?;
@@ -231,8 +314,12 @@ fn write_end(line: &mut Line) -> Result<NextResult, Stop> {
 }
 
 /// Writes the prefix whose terms are more than the bound.
-fn write_over(search: &Search, prefix: &[Label], line: &mut Line) -> Result<NextResult, Stop>
-    requires { HaveTexts search.now.question.names prefix.now }
+fn write_over<S: ItemSearch>(
+    search: &S,
+    prefix: &[Label],
+    line: &mut Line,
+) -> Result<NextResult, Stop>
+    requires { HaveTexts (S.names search.now) prefix.now }
 {
     put(line, "over ")?;
     spell(line, search, prefix)?;
@@ -240,8 +327,8 @@ fn write_over(search: &Search, prefix: &[Label], line: &mut Line) -> Result<Next
 }
 
 /// Writes a sequence of labels of the search, separated by one blank each.
-fn spell(line: &mut Line, search: &Search, labels: &[Label]) -> Result<(), Stop>
-    requires { HaveTexts search.now.question.names labels.now }
+fn spell<S: ItemSearch>(line: &mut Line, search: &S, labels: &[Label]) -> Result<(), Stop>
+    requires { HaveTexts (S.names search.now) labels.now }
 {
     if labels.is_empty() {
         put(line, "<empty>")?;

@@ -65,6 +65,28 @@ const REQUESTS: &[(&str, &[&str], &str)] = &[
         &["lotosseq", "ever"],
         "Ever(EverRequest { states: 1000000, explain: false, strong: false, progress: false, words: [] })",
     ),
+    (
+        "a sequence without labels",
+        &["lotosseq", "after"],
+        "After(AfterRequest { terms: 100000, strong: false, progress: false, words: [] })",
+    ),
+    (
+        "a sequence with options among its labels",
+        &["lotosseq", "after", "put", "--strong", "i", "--terms", "1"],
+        "After(AfterRequest { terms: 1, strong: true, progress: false, words: [\"put\", \"i\"] })",
+    ),
+    (
+        "a sequence with the greatest number of terms, that tells how far it is",
+        &[
+            "lotosseq",
+            "after",
+            "--progress",
+            "--terms=1000000",
+            "--",
+            "A",
+        ],
+        "After(AfterRequest { terms: 1000000, strong: false, progress: true, words: [\"A\"] })",
+    ),
 ];
 
 /// The request of the words as `Debug` writes it, or `help` or `wrong`.
@@ -118,6 +140,16 @@ const QUOTED: &[(&str, &[&str], &str)] = &[
         "[\"A\\u{b}B\\u{a0}C\\u{2003}D\"]",
     ),
     (
+        "the labels of a log, one a line",
+        &["lotosseq", "after", "PUT\nGET\nPUT\n"],
+        "[\"PUT\", \"GET\", \"PUT\"]",
+    ),
+    (
+        "an empty word among labels",
+        &["lotosseq", "after", "A B", "", "\n"],
+        "[\"A\", \"B\", \"\", \"\\n\"]",
+    ),
+    (
         "an empty word",
         &["lotosseq", "ever", "A", "", "B"],
         "[\"A\", \"\", \"B\"]",
@@ -144,6 +176,7 @@ fn pattern_words(alloc: Global, words: &[&str]) -> Result<String, AllocError> {
     match request(alloc, words) {
         Ok(Request::Search(asked)) => format!(in alloc; "{:?}", asked.words),
         Ok(Request::Ever(asked)) => format!(in alloc; "{:?}", asked.words),
+        Ok(Request::After(asked)) => format!(in alloc; "{:?}", asked.words),
         _ => format!(in alloc; "no pattern"),
     }
 }
@@ -156,6 +189,26 @@ fn splits_words_at_blanks(rt: HostRuntime) -> Result<(), Fail> {
     }
     Ok(())
 }
+
+/// Words of `after`, and whether they ask for help, or fit no command.
+const SEQUENCES: &[(&[&str], &str)] = &[
+    (&["lotosseq", "after", "--help"], "help"),
+    (&["lotosseq", "help", "after"], "help"),
+    (&["lotosseq", "after", "A", "-h"], "help"),
+    (&["lotosseq", "after", "-V"], "wrong"),
+    (&["lotosseq", "after", "--terms", "0"], "wrong"),
+    (&["lotosseq", "after", "--terms", "1000001"], "wrong"),
+    (&["lotosseq", "after", "--terms=1", "--terms=1"], "wrong"),
+    (&["lotosseq", "after", "--strong", "--strong"], "wrong"),
+    (&["lotosseq", "after", "--strong=true"], "wrong"),
+    (&["lotosseq", "after", "--explain", "A"], "wrong"),
+    (&["lotosseq", "after", "--known", "A"], "wrong"),
+    (&["lotosseq", "after", "--depth", "3"], "wrong"),
+    (&["lotosseq", "after", "--length", "3"], "wrong"),
+    (&["lotosseq", "after", "--states", "3"], "wrong"),
+    (&["lotosseq", "after", "--limit", "3"], "wrong"),
+    (&["lotosseq", "after", "--after", "A"], "wrong"),
+];
 
 /// Words, and whether they ask for help or for the version, or fit no command.
 const OTHERS: &[(&[&str], &str)] = &[
@@ -206,6 +259,15 @@ const OTHERS: &[(&[&str], &str)] = &[
 #[test]
 fn distinguishes_help_from_faults(rt: HostRuntime) -> Result<(), Fail> {
     for (words, expected) in OTHERS {
+        let found = answer(rt.alloc(), words)?;
+        assert_eq!(rt; found.as_str(), *expected, "{:?}", words);
+    }
+    Ok(())
+}
+
+#[test]
+fn distinguishes_help_from_faults_of_after(rt: HostRuntime) -> Result<(), Fail> {
+    for (words, expected) in SEQUENCES {
         let found = answer(rt.alloc(), words)?;
         assert_eq!(rt; found.as_str(), *expected, "{:?}", words);
     }

@@ -5,7 +5,7 @@ use Rattle.clap.specs.declared.error.kind.ErrorKind.TheVariants.{DisplayVersion,
 use Rattle.clap.proofs.OnLiterals.{clap_on_literals}
 use Rattle.lotos_command.specs.CommandFaults.{MakeNoRequest}
 use Rattle.lotos_command.specs.CommandRules.{lotosseq}
-use Rattle.lotos_command.specs.Request.{RequestOf, check, diagnose, ever, search}
+use Rattle.lotos_command.specs.Request.{RequestOf, after, check, diagnose, ever, search}
 use Rattle.lotos_command.specs.declared.command.Extent.TheVariants.{Depth, Length}
 
 pub simple_and_free : is_simple_and_free lotosseq ≡ true
@@ -178,3 +178,20 @@ ever_has_no_depth = refl
 ever_has_no_known : fault_of lotosseq (codes "lotosseq" ∷ codes "ever" ∷ codes "--known" ∷ []) ≡ UnknownArgument ∷ []
 unfolding clap_on_literals
 ever_has_no_known = refl
+
+bare_after_asks : RequestOf (codes "lotosseq" ∷ codes "after" ∷ []) (after (record { terms = 100000; strong = false; progress = false; words = [] }))
+unfolding clap_on_literals
+bare_after_asks = record { faultless = refl; reads = refl }
+
+after_asks : RequestOf (codes "lotosseq" ∷ codes "after" ∷ codes "PUT GET" ∷ codes "--strong" ∷ codes "i" ∷ codes "--terms=1" ∷ codes "--progress" ∷ [])
+    (after (record { terms = 1; strong = true; progress = true; words = codes "PUT" ∷ codes "GET" ∷ codes "i" ∷ [] }))
+unfolding clap_on_literals
+after_asks = record { faultless = refl; reads = refl }
+
+after_has_no_explain : fault_of lotosseq (codes "lotosseq" ∷ codes "after" ∷ codes "--explain" ∷ []) ≡ UnknownArgument ∷ []
+unfolding clap_on_literals
+after_has_no_explain = refl
+
+after_needs_a_term : fault_of lotosseq (codes "lotosseq" ∷ codes "after" ∷ codes "--terms=0" ∷ []) ≡ ValueValidation ∷ []
+unfolding clap_on_literals
+after_needs_a_term = refl

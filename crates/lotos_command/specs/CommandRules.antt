@@ -110,6 +110,14 @@ ever_rules = states_rule ∷ explain_rule ∷ strong_rule ∷ progress_rule ∷ 
 abbrev pub ever_app : App
 ever_app = with_rules (new_app (codes "ever")) ever_rules
 
+-- the arguments of `after`, in the order of its help
+abbrev pub after_rules : List Rule
+after_rules = terms_rule ∷ strong_rule ∷ progress_rule ∷ words_rule ∷ []
+
+-- `after [--terms N] [--strong] [--progress] [LABEL ..]`
+abbrev pub after_app : App
+after_app = with_rules (new_app (codes "after")) after_rules
+
 -- the arguments of `check`, in the order of its help
 abbrev pub check_rules : List Rule
 check_rules = explain_rule ∷ warn_rule ∷ []
@@ -125,7 +133,7 @@ with_subcommands app (subcommand ∷ subcommands) = with_subcommands (with_subco
 
 -- the subcommands, in the order of the help
 abbrev pub subcommand_apps : List App
-subcommand_apps = search_app ∷ check_app ∷ ever_app ∷ []
+subcommand_apps = search_app ∷ check_app ∷ ever_app ∷ after_app ∷ []
 
 -- `lotosseq`, which has a version and needs one of its subcommands
 abbrev pub lotosseq : App

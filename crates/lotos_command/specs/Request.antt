@@ -13,6 +13,7 @@ use Rattle.lotos_command.specs.declared.command.Extent.{Extent}
 use Rattle.lotos_command.specs.declared.command.Extent.TheVariants.{Depth, Length}
 use Rattle.lotos_command.specs.declared.command.SearchRequest.{SearchRequest}
 use Rattle.lotos_command.specs.declared.command.EverRequest.{EverRequest}
+use Rattle.lotos_command.specs.declared.command.AfterRequest.{AfterRequest}
 
 -- the view of a search: texts for strings
 pub record SearchView : Type 0 where
@@ -34,12 +35,20 @@ pub record EverView : Type 0 where
   pub progress : Bool
   pub words : List Text
 
+-- the view of a request for what can come after a sequence: texts for strings
+pub record AfterView : Type 0 where
+  pub terms : ℕ
+  pub strong : Bool
+  pub progress : Bool
+  pub words : List Text
+
 -- the view of a request: texts for strings
 pub data RequestView : Type 0 where
   check : RequestView
   diagnose : DiagnoseRequest → RequestView
   search : SearchView → RequestView
   ever : EverView → RequestView
+  after : AfterView → RequestView
 
 -- the view of this search
 abbrev pub search_view : SearchRequest → SearchView
@@ -65,12 +74,22 @@ ever_view request = record {
   words = map string_bytes request.words.items;
 }
 
+-- the view of this request for what can come after a sequence
+abbrev pub after_view : AfterRequest → AfterView
+after_view request = record {
+  terms = request.terms;
+  strong = request.strong;
+  progress = request.progress;
+  words = map string_bytes request.words.items;
+}
+
 -- the view of this request
 abbrev pub request_view : Request → RequestView
 request_view request.Check = check
 request_view (request.Diagnose request) = diagnose request
 request_view (request.Search request) = search (search_view request)
 request_view (request.Ever request) = ever (ever_view request)
+request_view (request.After request) = after (after_view request)
 
 -- the number of a decimal numeral, perhaps after a plus sign
 abbrev pub number : Text → ℕ
@@ -115,6 +134,15 @@ ever_from rows = record {
   words = pattern_words (unwrap_or (all_of (codes "words") rows) []);
 }
 
+-- the request for what can come after a sequence that the entries of the subcommand `after` make
+abbrev pub after_from : List Row → AfterView
+after_from rows = record {
+  terms = option_map_or number (one_of (codes "terms") rows) 100000;
+  strong = flag (codes "strong") rows;
+  progress = flag (codes "progress") rows;
+  words = pattern_words (unwrap_or (all_of (codes "words") rows) []);
+}
+
 -- the check with these diagnostics, or the plain one if it has none
 abbrev pub check_with : DiagnoseRequest → RequestView
 check_with request = if request.explain || request.warn then diagnose request else check
@@ -128,7 +156,8 @@ abbrev pub request_named : Text → List Row → Option RequestView
 request_named name rows =
     if bytes_eq name (codes "search") then option_map search (search_from rows)
     else (if bytes_eq name (codes "check") then Some (check_from rows)
-    else (if bytes_eq name (codes "ever") then Some (ever (ever_from rows)) else None))
+    else (if bytes_eq name (codes "ever") then Some (ever (ever_from rows))
+    else (if bytes_eq name (codes "after") then Some (after (after_from rows)) else None)))
 
 -- the request that the given subcommand with its entries makes, if one was given
 abbrev pub request_from : Option (Text × List Row) → Option RequestView
@@ -149,9 +178,11 @@ pub record HasSearchBounds (request : SearchRequest) : Type 0 where
   pub terms : 1 ≤ request.terms
   pub limit : IfSome request.limit (λ n. 1 ≤ n)
 
--- the bounds of a search, if the request is one; at least one state, if it is a search for a match of any length
+-- the bounds of a search, if the request is one; at least one state, if it is a search for a match of any length, and at
+-- least one normal form, if it is for what can come after a sequence
 abbrev pub HasBounds : Request → Type 0
 HasBounds request.Check = ⊤
 HasBounds (request.Diagnose request) = ⊤
 HasBounds (request.Search request) = HasSearchBounds request
 HasBounds (request.Ever request) = 1 ≤ request.states
+HasBounds (request.After request) = 1 ≤ request.terms

@@ -13,6 +13,8 @@ pub enum Request {
     Search(SearchRequest),
     /// Find a shortest match of a pattern, of any length.
     Ever(EverRequest),
+    /// Tell what can come after a sequence.
+    After(AfterRequest),
 }
 
 /// A request for a check with diagnostics, at least one of them. They change neither output nor status.
@@ -72,6 +74,20 @@ pub struct EverRequest {
     /// Whether standard error tells how far the search is.
     pub progress: bool,
     /// The words of the pattern, as those of a [`SearchRequest`].
+    pub words: Vec<String>,
+}
+
+/// A request for what can come after a sequence. The words are not yet read as labels.
+#[derive(Debug, Drop)]
+pub struct AfterRequest {
+    /// The most normal forms of terms that a beginning of the sequence may reach, at least 1.
+    pub terms: usize,
+    /// Whether internal steps are observed: `i` is then a label like others.
+    pub strong: bool,
+    /// Whether standard error tells how far the sequence was followed.
+    pub progress: bool,
+    /// The words of the sequence, each a label. The command line may have several of them in one word, with blanks
+    /// between.
     pub words: Vec<String>,
 }
 

@@ -2,17 +2,19 @@
 ghost use Rattle.std.specs.Prelude.{◌≡◌, IfOk, false, map};
 ghost use Rattle.clap.specs.Words.{app_of, rule_of};
 ghost use Rattle.clap.specs.declared.builder.command.Command.TheViews.{out-Command as fields_of};
-ghost use Rattle.lotos_command.specs.CommandRules.{AreCommandsOf, check_app, check_rules, ever_app, extent_rule, ever_rules, flag_rule, limit_rule, lotosseq, option_rule, search_app, search_rules, states_rule, subcommand_apps, terms_rule, words_rule};
+ghost use Rattle.lotos_command.specs.CommandRules.{AreCommandsOf, after_app, after_rules, check_app, check_rules, ever_app, extent_rule, ever_rules, flag_rule, limit_rule, lotosseq, option_rule, search_app, search_rules, states_rule, subcommand_apps, terms_rule, words_rule};
 
 use crate::help::{
     ABOUT, AFTER_HELP, AFTER_LONG_HELP, CHECK_ABOUT, CHECK_EXPLAIN_HELP, CHECK_EXPLAIN_LONG_HELP,
     CHECK_LONG_ABOUT, CHECK_STATUSES, DEPTH_HELP, DEPTH_LONG_HELP, EVER_ABOUT, EVER_EXPLAIN_HELP,
     EVER_EXPLAIN_LONG_HELP, EVER_LONG_ABOUT, EVER_STATUSES, EVER_STRONG_LONG_HELP,
     EVER_WORDS_LONG_HELP, EXPLAIN_HELP, EXPLAIN_LONG_HELP, KNOWN_HELP, KNOWN_LONG_HELP,
-    LENGTH_HELP, LENGTH_LONG_HELP, LIMIT_HELP, LIMIT_LONG_HELP, LONG_ABOUT, PROGRESS_HELP,
-    PROGRESS_LONG_HELP, SEARCH_ABOUT, SEARCH_LONG_ABOUT, SEARCH_STATUSES, SEARCH_USAGE,
-    STATES_HELP, STATES_LONG_HELP, STATUSES, STRONG_HELP, STRONG_LONG_HELP, TERMS_HELP,
-    TERMS_LONG_HELP, VERSION, WARN_HELP, WARN_LONG_HELP, WORDS_HELP, WORDS_LONG_HELP,
+    LABELS_HELP, LABELS_LONG_HELP, LENGTH_HELP, LENGTH_LONG_HELP, LIMIT_HELP, LIMIT_LONG_HELP,
+    LONG_ABOUT, NEXT_ABOUT, NEXT_LONG_ABOUT, NEXT_STATUSES, NEXT_STRONG_LONG_HELP, NEXT_TERMS_HELP,
+    NEXT_TERMS_LONG_HELP, PROGRESS_HELP, PROGRESS_LONG_HELP, SEARCH_ABOUT, SEARCH_LONG_ABOUT,
+    SEARCH_STATUSES, SEARCH_USAGE, STATES_HELP, STATES_LONG_HELP, STATUSES, STRONG_HELP,
+    STRONG_LONG_HELP, TERMS_HELP, TERMS_LONG_HELP, VERSION, WARN_HELP, WARN_LONG_HELP, WORDS_HELP,
+    WORDS_LONG_HELP,
 };
 use clap::{Arg, ArgAction, Command, value_parser};
 use std::alloc::{AllocError, Global};
@@ -38,6 +40,7 @@ fn subcommands<'a>(alloc: Global) -> Result<Vec<Command<'a>>, AllocError>
     all.push(search_command(alloc)?)?;
     all.push(check_command(alloc)?)?;
     all.push(ever_command(alloc)?)?;
+    all.push(after_command(alloc)?)?;
     Ok(all)
 }
 
@@ -62,13 +65,13 @@ fn search_args<'a>(alloc: Global) -> Result<Vec<Arg<'a>>, AllocError>
         extent_arg(alloc, "depth", DEPTH_HELP, DEPTH_LONG_HELP),
         extent_arg(alloc, "length", LENGTH_HELP, LENGTH_LONG_HELP),
         limit_arg(alloc),
-        terms_arg(alloc),
+        terms_arg(alloc, TERMS_HELP, TERMS_LONG_HELP),
         option(alloc, "after", "LINE", AFTER_HELP, AFTER_LONG_HELP),
         flag(alloc, "explain", EXPLAIN_HELP, EXPLAIN_LONG_HELP),
         flag(alloc, "strong", STRONG_HELP, STRONG_LONG_HELP),
         flag(alloc, "known", KNOWN_HELP, KNOWN_LONG_HELP),
         flag(alloc, "progress", PROGRESS_HELP, PROGRESS_LONG_HELP),
-        words_arg(alloc, WORDS_LONG_HELP),
+        words_arg(alloc, "WORD", WORDS_HELP, WORDS_LONG_HELP),
     ]?)
 }
 
@@ -120,7 +123,31 @@ fn ever_args<'a>(alloc: Global) -> Result<Vec<Arg<'a>>, AllocError>
         flag(alloc, "explain", EVER_EXPLAIN_HELP, EVER_EXPLAIN_LONG_HELP),
         flag(alloc, "strong", STRONG_HELP, EVER_STRONG_LONG_HELP),
         flag(alloc, "progress", PROGRESS_HELP, PROGRESS_LONG_HELP),
-        words_arg(alloc, EVER_WORDS_LONG_HELP),
+        words_arg(alloc, "WORD", WORDS_HELP, EVER_WORDS_LONG_HELP),
+    ]?)
+}
+
+fn after_command<'a>(alloc: Global) -> Result<Command<'a>, AllocError>
+    ensures app { IfOk result (λ c. app_of c ≡ after_app) }
+    ensures local { IfOk result (λ c. (fields_of c).has_globals ≡ false) }
+{
+    let args = after_args(alloc)?;
+    Command::new(alloc, "after")
+        .about(NEXT_ABOUT)
+        .long_about(NEXT_LONG_ABOUT)
+        .after_help(NEXT_STATUSES)
+        .args(args)
+}
+
+/// The arguments of `after`, in the order of its help.
+fn after_args<'a>(alloc: Global) -> Result<Vec<Arg<'a>>, AllocError>
+    ensures { IfOk result (λ args. map rule_of args.items ≡ after_rules) }
+{
+    Ok(vec![in alloc;
+        terms_arg(alloc, NEXT_TERMS_HELP, NEXT_TERMS_LONG_HELP),
+        flag(alloc, "strong", STRONG_HELP, NEXT_STRONG_LONG_HELP),
+        flag(alloc, "progress", PROGRESS_HELP, PROGRESS_LONG_HELP),
+        words_arg(alloc, "LABEL", LABELS_HELP, LABELS_LONG_HELP),
     ]?)
 }
 
@@ -138,10 +165,10 @@ fn limit_arg<'a>(alloc: Global) -> Arg<'a>
     option(alloc, "limit", "N", LIMIT_HELP, LIMIT_LONG_HELP).value_parser(limits)
 }
 
-fn terms_arg<'a>(alloc: Global) -> Arg<'a>
+fn terms_arg<'a>(alloc: Global, help: &'a str, long_help: &'a str) -> Arg<'a>
     ensures { rule_of result ≡ terms_rule }
 {
-    option(alloc, "terms", "N", TERMS_HELP, TERMS_LONG_HELP)
+    option(alloc, "terms", "N", help, long_help)
         .value_parser(value_parser!(usize).range(1..=1000000))
         .default_value("100000")
 }
@@ -183,13 +210,14 @@ fn flag<'a>(alloc: Global, name: &'a str, help: &'a str, long_help: &'a str) -> 
         .long_help(long_help)
 }
 
-fn words_arg<'a>(alloc: Global, long_help: &'a str) -> Arg<'a>
+/// The words that are no options. The help calls each of them by the value name.
+fn words_arg<'a>(alloc: Global, value_name: &'a str, help: &'a str, long_help: &'a str) -> Arg<'a>
     ensures { rule_of result ≡ words_rule }
 {
     Arg::new(alloc, "words")
         .action(ArgAction::Append)
         .num_args(0..)
-        .value_name("WORD")
-        .help(WORDS_HELP)
+        .value_name(value_name)
+        .help(help)
         .long_help(long_help)
 }

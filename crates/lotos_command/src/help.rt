@@ -13,14 +13,15 @@ The specification is read from standard input, and what is asked of it is writte
 standard output. A file is given by `< FILE`, as in
   lotosseq check < ring.lotos
 `lotosseq check --help` tells of the static rules, `lotosseq search --help` of the
-listing, its options and the words of a pattern, and `lotosseq ever --help` of matches
-of any length.";
+listing, its options and the words of a pattern, `lotosseq ever --help` of matches of
+any length, and `lotosseq after --help` of what can come after a sequence.";
 
 pub(crate) const STATUSES: &str = "Statuses:
-  0  the specification is accepted, the listing is complete and has lines, or there is
-     a match
-  1  the listing is complete and has none, or there is no match
-  2  the command, the pattern, the mark or the specification is refused, or cannot
+  0  the specification is accepted, the listing is complete and has lines, there is a
+     match, or the sequence can happen
+  1  the listing is complete and has none, there is no match, or the sequence cannot
+     happen
+  2  the command, its words, the mark or the specification is refused, or cannot
      be read
   3  the limit of lines is reached
   4  a prefix reaches too many terms, or there are too many states
@@ -161,7 +162,7 @@ pub(crate) const STRONG_LONG_HELP: &str = "Makes the internal action `i` a label
 
 Sequences then show internal steps, `i` may be a word of the pattern, and elements
 match it like other labels. For example, `i; i; a; stop` with
-`--depth 3 --strong i i A` lists
+`--length 3 --strong i i A` lists
   i i A";
 
 pub(crate) const KNOWN_HELP: &str = "Refuses words that name no gate of the specification";
@@ -172,7 +173,7 @@ Each label of the pattern must then be a gate of the specification's own list, `
 or with `--strong` `i`. Without this option any other label is no fault, and never
 matches. For example, with the specification
   specification S [a] : exit behaviour a; exit endspec
-the command `lotosseq search --depth 2 --known B exit` is refused with
+the command `lotosseq search --length 2 --known B exit` is refused with
   E49 word 1 is no gate of the specification";
 
 pub(crate) const PROGRESS_HELP: &str = "Tells on standard error how far the search is";
@@ -307,3 +308,58 @@ internal step either. A name that is neither `exit` nor `i` is that of a gate of
 specification's own list. If the list does not have it, its word is refused with E49
 and status 2, as no sequence has that label. For example, `C` is refused for
   specification S [a,b] : noexit behaviour a; b; stop endspec";
+
+pub(crate) const NEXT_ABOUT: &str = "Tells what can come after a sequence";
+
+pub(crate) const NEXT_LONG_ABOUT: &str = "Tells what can come after a sequence
+
+Reads a specification in basic LOTOS from standard input (a file is given by `< FILE`)
+and follows the sequence of the labels. If some derivation, of any number of steps,
+shows the sequence, each label that can come after it, after internal steps or none, is
+written on a line, in order; and then `<deadlock>`, if the system can be in a state
+without any step. If no derivation shows it, nothing is written, the status is 1, and
+standard error has the first label that cannot come and what can come in its place.
+
+A log of any number of labels is followed by `lotosseq after $(cat LOG) < FILE`.
+
+For example, with the specification
+  specification S [a,b,c] : noexit behaviour a; (b; stop [] i; c; stop) endspec
+the command `lotosseq after A` writes
+  B
+  C
+and `lotosseq after A A` tells that
+  label 2, A, cannot come here; what can: B C";
+
+pub(crate) const NEXT_STATUSES: &str = "Statuses:
+  0  the sequence can happen
+  1  the sequence cannot happen
+  2  the command, a label or the specification is refused, or cannot be read
+  4  a beginning of the sequence reaches too many terms
+  5  out of memory
+  6  the output cannot be written";
+
+pub(crate) const NEXT_TERMS_HELP: &str =
+    "The most terms that a beginning of the sequence may reach, 1 to 1000000";
+
+pub(crate) const NEXT_TERMS_LONG_HELP: &str =
+    "The most terms that a beginning of the sequence may reach, 1 to 1000000
+
+The beginning reaches the terms in which derivations that show it end; their normal
+forms count. If one reaches more, the search stops with status 4. For example, with
+`--terms 1` and the specification's behaviour `i; a; stop` it stops at once: with no
+label, two terms are reached.";
+
+pub(crate) const NEXT_STRONG_LONG_HELP: &str = "Makes the internal action `i` a label like others
+
+Sequences then show internal steps, and `i` may be a label of the sequence. For
+example, after `--strong i` the behaviour `i; a; stop` has
+  A";
+
+pub(crate) const LABELS_HELP: &str = "The labels of the sequence";
+
+pub(crate) const LABELS_LONG_HELP: &str = "The labels of the sequence
+
+Each is a gate of the specification's own list, or `exit` for successful termination, in
+upper or lower case; several may stand in one pair of quotes. With none, it is told what
+can come at first. `i` is a label only with `--strong`, as the internal action cannot be
+observed.";

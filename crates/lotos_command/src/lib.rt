@@ -10,5 +10,7 @@ mod command_line;
 mod help;
 mod request_reading;
 
-pub use command::{CommandFault, DiagnoseRequest, EverRequest, Extent, Request, SearchRequest};
+pub use command::{
+    AfterRequest, CommandFault, DiagnoseRequest, EverRequest, Extent, Request, SearchRequest,
+};
 pub use request_reading::request;

@@ -5,11 +5,13 @@ ghost use Rattle.clap.specs.Walk.{texts as texts_of};
 ghost use Rattle.clap.specs.declared.error.kind.ErrorKind.TheVariants as ErrorKind;
 ghost use Rattle.clap.specs.Words.{all_of, first_of, found_of, kind_of, one_of, rows_of, subcommand_rows_of};
 ghost use Rattle.lotos_command.specs.CommandFaults.{AreAccepted, IsExtentFault, IsFaultOf, IsFaultOfEntries, IsFaultOfKind};
-ghost use Rattle.lotos_command.specs.EntryRules.{FitsCheck, FitsEver, FitsRequest, FitsSearch, IsNumberIn, IsTruthText};
+ghost use Rattle.lotos_command.specs.EntryRules.{FitsAfter, FitsCheck, FitsEver, FitsRequest, FitsSearch, IsNumberIn, IsTruthText};
 ghost use Rattle.lotos_command.specs.PatternWords.{parts_between_blanks, pattern_words, pattern_words_in};
-ghost use Rattle.lotos_command.specs.Request.{HasBounds, HasSearchBounds, RequestOf, check_from, ever_from, ever_view, extent_from, flag, number, request_from, request_view, search_from, search_view};
+ghost use Rattle.lotos_command.specs.Request.{HasBounds, HasSearchBounds, RequestOf, after_from, after_view, check_from, ever_from, ever_view, extent_from, flag, number, request_from, request_view, search_from, search_view};
 
-use crate::command::{CommandFault, DiagnoseRequest, EverRequest, Extent, Request, SearchRequest};
+use crate::command::{
+    AfterRequest, CommandFault, DiagnoseRequest, EverRequest, Extent, Request, SearchRequest,
+};
 use crate::command_line::{lotosseq_command, search_command};
 use crate::help::{NO_EXTENT, TWO_EXTENTS};
 use clap::error::ErrorKind;
@@ -58,6 +60,8 @@ fn read_request(alloc: Global, found: &ArgMatches<'_>) -> Result<Request, Comman
         Ok(Request::Search(read_search_request(alloc, given)?))
     } else if name == "ever" {
         Ok(Request::Ever(read_ever_request(alloc, given)?))
+    } else if name == "after" {
+        Ok(Request::After(read_after_request(alloc, given)?))
     } else {
         Ok(read_check_request(given))
     }
@@ -108,6 +112,21 @@ fn read_ever_request(alloc: Global, found: &ArgMatches<'_>) -> Result<EverReques
     Ok(EverRequest {
         states: read_states(found),
         explain,
+        strong,
+        progress,
+        words: read_words(alloc, found)?,
+    })
+}
+
+fn read_after_request(alloc: Global, found: &ArgMatches<'_>) -> Result<AfterRequest, AllocError>
+    requires { FitsAfter (rows_of (found_of found.now)) }
+    ensures is { IfOk result (λ r. after_from (rows_of (found_of found.now)) ≡ after_view r) }
+    ensures bounds { IfOk result (λ r. 1 ≤ r.terms) }
+{
+    let strong = read_strong(found);
+    let progress = read_progress(found);
+    Ok(AfterRequest {
+        terms: read_terms(found),
         strong,
         progress,
         words: read_words(alloc, found)?,

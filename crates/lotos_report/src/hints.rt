@@ -19,11 +19,38 @@ const ELEMENT_WORDS: [&str; 5] = ["<any>", "<not>", "<until>", "<while>", "<dead
 /// The most bytes of a word that may be almost an element.
 const LONGEST: usize = 16;
 
+/// A command that has words.
+#[derive(Clone, Copy, Debug)]
+pub enum WordCommand {
+    /// `search`, whose words are those of a pattern.
+    Search,
+    /// `ever`, whose words are those of a pattern.
+    Ever,
+    /// `after`, whose words are labels.
+    After,
+}
+
+impl WordCommand {
+    /// The words with which the command begins.
+    fn text(self) -> &'static str {
+        match self {
+            WordCommand::Search => "search ..",
+            WordCommand::Ever => "ever ..",
+            WordCommand::After => "after ..",
+        }
+    }
+
+    /// Whether its words may be elements of a pattern.
+    fn has_elements(self) -> bool {
+        !matches!(self, WordCommand::After)
+    }
+}
+
 /// Gives a hint if a command is refused for a word that names a file, that is almost an element, or that names no gate:
-/// for the last `hint` is what could be meant. `command` is the command's own words.
+/// for the last `hint` is what could be meant.
 pub fn hint_after_refusal<E: Write>(
     alloc: Global,
-    command: &str,
+    command: WordCommand,
     refusal: Option<&Refusal>,
     words: &[String],
     hint: &Option<NameHint>,
@@ -46,7 +73,7 @@ pub fn hint_after_fault<E: Write>(fault: &CommandFault, words: &[&str], err: &mu
 /// Gives a hint if the word that is refused names a file or is almost an element.
 fn hint_at_word<E: Write>(
     alloc: Global,
-    command: &str,
+    command: WordCommand,
     refusal: &Refusal,
     words: &[String],
     err: &mut E,
@@ -58,8 +85,12 @@ fn hint_at_word<E: Write>(
         return;
     };
     if word.as_str().ends_with(EXTENSION) {
-        write_hint(command, err);
-    } else if let Ok(Some(element)) = similar_element(alloc, word.as_str()) {
+        return write_hint(command.text(), err);
+    }
+    if !command.has_elements() {
+        return;
+    }
+    if let Ok(Some(element)) = similar_element(alloc, word.as_str()) {
         let number = NumberText(number);
         let _ = writeln!(
             err,
@@ -79,7 +110,8 @@ fn hint_at_unknown_gate<E: Write>(refusal: &Refusal, hint: &Option<NameHint>, er
 /// the one after a word that needs another.
 fn doubtful_word(refusal: &Refusal) -> Option<usize> {
     match refusal {
-        Refusal::Pattern(PatternFault::E41(number)) | Refusal::E49(number) => Some(*number),
+        Refusal::Pattern(PatternFault::E41(number)) | Refusal::E41(number) | Refusal::E49(number) =>
+            Some(*number),
         Refusal::Pattern(
             PatternFault::E42(number) | PatternFault::E48(number) | PatternFault::E50(number),
         ) => number.checked_add(1),

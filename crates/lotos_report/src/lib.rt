@@ -1,6 +1,6 @@
 //! What the program says on standard error, and the ways in which a command ends, of which it speaks.
 //!
-//! [`Ended`], [`EverEnded`] and [`Refusal`] are how a command ends and why it is refused. [`Messages`] is where messages
+//! [`Ended`], [`EverEnded`], [`AfterEnded`] and [`Refusal`] are how a command ends and why it is refused. [`Messages`] is where messages
 //! go. `report_refusal` and the functions beside it write a message each; hints and warnings say what may be meant, and
 //! [`ProgressReport`] how far a search is. No contract speaks of what is written there. Nothing here can fail: errors of
 //! the stream are ignored, and what there is no memory for is left out.
@@ -14,13 +14,13 @@ mod progress_report;
 mod refusal;
 mod warning_lines;
 
-pub use hints::{hint_after_fault, hint_after_refusal};
+pub use hints::{WordCommand, hint_after_fault, hint_after_refusal};
 pub use messages::{
-    Messages, report_ever_stop, report_failure, report_no_match, report_refusal, report_stop,
-    report_text,
+    Messages, report_after_stop, report_ever_stop, report_failure, report_label, report_no_match,
+    report_refusal, report_stop, report_text,
 };
 pub use name_hints::{NameHint, NamePlaces, UnknownName, first_name_hint, warn_of_names};
-pub use outcome::{Ended, EverEnded, EverWhy, Why};
+pub use outcome::{AfterEnded, AfterWhy, Ended, EverEnded, EverWhy, Why};
 pub use progress_report::{ProgressReport, Visited};
 pub use refusal::Refusal;
 pub use warning_lines::write_warnings;

@@ -1,6 +1,6 @@
 //! Messages for standard error. They do not allocate, and write errors are ignored.
 
-use crate::outcome::{EverWhy, Why};
+use crate::outcome::{AfterWhy, EverWhy, Why};
 use crate::refusal::Refusal;
 use itoa::Buffer;
 use std::fmt;
@@ -51,6 +51,46 @@ pub fn report_ever_stop<E: Write>(err: &mut E, why: &EverWhy, states: usize) {
         }
         EverWhy::Memory => report_failure(err, &Why::Memory),
         EverWhy::Write | EverWhy::Flush => report_failure(err, &Why::Write),
+    }
+}
+
+/// Reports that a label of a sequence cannot come, and what can come in its place. `number` is that of its word,
+/// counted from 1.
+pub fn report_label<E: Write>(
+    err: &mut E,
+    number: usize,
+    words: &[String],
+    instead: &Option<String>,
+) {
+    let Some(word) = words.get(number.saturating_sub(1)) else {
+        return;
+    };
+    let number = NumberText(number);
+    let _ = match instead {
+        Some(labels) => writeln!(
+            err,
+            "lotosseq: label {number}, {word}, cannot come here; what can: {labels}"
+        ),
+        None => writeln!(
+            err,
+            "lotosseq: label {number}, {word}, cannot come here, and no other can"
+        ),
+    };
+}
+
+/// Reports why following a sequence stopped. `terms` is the bound on the normal forms that a beginning of it reaches.
+pub fn report_after_stop<E: Write>(err: &mut E, why: &AfterWhy, terms: usize) {
+    match why {
+        AfterWhy::TooManyTerms(labels) => {
+            let terms = NumberText(terms);
+            let labels = NumberText(*labels);
+            let _ = writeln!(
+                err,
+                "lotosseq: stopped: more than {terms} terms after {labels} labels"
+            );
+        }
+        AfterWhy::Memory => report_failure(err, &Why::Memory),
+        AfterWhy::Write => report_failure(err, &Why::Write),
     }
 }
 

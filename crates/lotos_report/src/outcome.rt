@@ -60,6 +60,45 @@ impl EverEnded {
     }
 }
 
+/// How a command that follows a sequence ended.
+#[derive(Debug, Drop)]
+pub enum AfterEnded {
+    /// The sequence can be observed, and the lines of what can come after it were written and flushed.
+    Followed,
+    /// The label with this number, counted from 1, cannot come after those before it. `instead` is the text of the
+    /// labels that can, separated by one blank each; `None` if none can. Nothing was written.
+    CannotCome {
+        number: usize,
+        instead: Option<String>,
+    },
+    /// Nothing was written, for this reason.
+    Refused(Refusal),
+    /// Following the sequence or the output stopped, for this reason.
+    Stopped(AfterWhy),
+}
+
+impl AfterEnded {
+    /// Why the command is refused, if it is.
+    pub fn refusal(&self) -> Option<&Refusal> {
+        match self {
+            AfterEnded::Refused(refusal) => Some(refusal),
+            _ => None,
+        }
+    }
+}
+
+/// Why a command that follows a sequence, or its output, stopped.
+#[derive(Clone, Copy, Debug)]
+pub enum AfterWhy {
+    /// The first so many labels reach more normal forms than the request allows. Nothing was written.
+    TooManyTerms(usize),
+    /// Out of memory. Nothing was written.
+    Memory,
+    /// The sequence can be observed, and the lines of what can come after it could not be written or flushed. A prefix
+    /// of them may have been written.
+    Write,
+}
+
 /// Why a search for a match of any length, or its output, stopped.
 #[derive(Clone, Copy, Debug)]
 pub enum EverWhy {

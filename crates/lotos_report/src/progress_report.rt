@@ -9,6 +9,8 @@ use std::io::Write;
 pub enum Visited {
     Prefixes,
     States,
+    /// The beginnings of a sequence.
+    Labels,
 }
 
 /// The number of visits at the first report.
@@ -112,6 +114,7 @@ impl fmt::Display for Counts {
                 write!(f, "length {length}, {visits} prefixes, {lines} lines")
             }
             Visited::States => write!(f, "{length} steps, {visits} states"),
+            Visited::Labels => write!(f, "{length} labels"),
         }
     }
 }

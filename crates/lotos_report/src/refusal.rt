@@ -28,14 +28,20 @@ pub enum Refusal {
     /// The words spell no pattern. The fault is never E99.
     #[error(transparent)]
     Pattern(PatternFault),
+    /// The word of the sequence with this number, counted from 1, names no label.
+    #[error("E41 word {0} is no label")]
+    E41(usize),
+    /// The word of the sequence with this number, counted from 1, is `i`, and internal steps are not observed.
+    #[error("E45 word {0} is i, which cannot be observed")]
+    E45(usize),
     /// The line of the mark is not a line of a listing. The fault is never E99.
     #[error(transparent)]
     Mark(MarkFault),
     /// The input cannot be read.
     #[error("E47 input cannot be read")]
     E47,
-    /// The word of the pattern with this number, counted from 1, is the first that names a gate not in the
-    /// specification's own list.
+    /// The word of the pattern or the sequence with this number, counted from 1, is the first that names a gate not in
+    /// the specification's own list.
     #[error("E49 word {0} is no gate of the specification")]
     E49(usize),
 }

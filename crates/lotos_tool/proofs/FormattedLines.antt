@@ -66,3 +66,37 @@ pub left_none : (names : List Name) (rest : List TermLabel) (i : ℕ) (text : Li
 left_none names rest i text s passed (left, all, whole) =
     let e = nothing_shown names left (subst (λ ls. ArePrinted names ls left) (drop_of_length-le rest {i = i} passed) all) in
     sym (append-nil text) ∙ subst (λ x. text ++ flat_map (λ m. 32 ∷ m) x ≡ sequence_text s) e whole
+
+-- ---- a line for each label
+
+-- the line of a label
+abbrev pub label_line : Label → List ℕ
+label_line l = l ++ 10 ∷ []
+
+-- the lines so far, and those of the labels that are left, are the lines of all
+abbrev pub AreLinesLeft : List Name → List TermLabel → List ℕ → List Label → Type 0
+AreLinesLeft names rest lines all = (left : List Label) × ArePrinted names rest left × (lines ++ flat_map label_line left ≡ flat_map label_line all)
+
+-- one more line is written
+pub line_behind : (names : List Name) (rest later : List TermLabel) (label : TermLabel) (lines shown lines' : List ℕ) (all : List Label) →
+    rest ≡ label ∷ later → IsPrintedAs names label shown → lines' ≡ (lines ++ shown) ++ 10 ∷ [] → AreLinesLeft names rest lines all → AreLinesLeft names later lines' all
+line_behind names rest later label lines shown lines' all e h written (left, printed, whole) =
+    let cut = cut_first names label later left (subst (λ ls. ArePrinted names ls left) e printed) in
+    let same = one_text names label shown cut.first h cut.printed in
+    let whole' : lines ++ flat_map label_line (cut.first ∷ cut.others) ≡ flat_map label_line all =
+    subst (λ x. lines ++ flat_map label_line x ≡ flat_map label_line all) cut.joined whole in
+    let grown : lines' ≡ lines ++ label_line cut.first = written ∙ append_assoc lines shown (10 ∷ []) ∙ ap (λ x. lines ++ label_line x) same in
+    let others = flat_map label_line cut.others in
+    (cut.others, cut.all, ap (λ x. x ++ others) grown ∙ append_assoc lines (label_line cut.first) others ∙ whole')
+
+pub line_shown : (names : List Name) (rest later : List TermLabel) (label : TermLabel) (lines : List ℕ) (all : List Label) → rest ≡ label ∷ later →
+    AreLinesLeft names rest lines all → (t : List ℕ) × IsPrintedAs names label t
+line_shown names rest later label lines all e (left, printed, whole) =
+    let cut = cut_first names label later left (subst (λ ls. ArePrinted names ls left) e printed) in (cut.first, cut.printed)
+
+-- if no label is left, the lines are those of all
+pub lines_none : (names : List Name) (rest : List TermLabel) (i : ℕ) (lines : List ℕ) (all : List Label) → length rest ≤ i →
+    AreLinesLeft names (drop i rest) lines all → lines ≡ flat_map label_line all
+lines_none names rest i lines all passed (left, printed, whole) =
+    let e = nothing_shown names left (subst (λ ls. ArePrinted names ls left) (drop_of_length-le rest {i = i} passed) printed) in
+    sym (append-nil lines) ∙ subst (λ x. lines ++ flat_map label_line x ≡ flat_map label_line all) e whole

@@ -52,6 +52,8 @@ pub unread : (left left' : Option (List ℕ)) (text : List ℕ) (u : Rejection) 
 unread left left' text Memory r h = (text, (let w = r.within in omega arith), r.bytes)
 unread left left' text (Refused (refusal.Check fault line column)) r h = record { text = text; read = r; broken = h }
 unread left left' text (Refused (refusal.Pattern fault)) r h = absurd h
+unread left left' text (Refused (refusal.E41 n)) r h = absurd h
+unread left left' text (Refused (refusal.E45 n)) r h = absurd h
 unread left left' text (Refused (refusal.Mark fault)) r h = absurd h
 unread left left' text (Refused refusal.E47) r h = absurd h
 unread left left' text (Refused (refusal.E49 n)) r h = absurd h
@@ -73,6 +75,8 @@ text_was_read T text Memory h = refl
 text_was_read T text (Refused (refusal.Text fault position)) h = refl
 text_was_read T text (Refused (refusal.Check fault line column)) h = refl
 text_was_read T text (Refused (refusal.Pattern fault)) h = absurd h
+text_was_read T text (Refused (refusal.E41 n)) h = absurd h
+text_was_read T text (Refused (refusal.E45 n)) h = absurd h
 text_was_read T text (Refused (refusal.Mark fault)) h = absurd h
 text_was_read T text (Refused refusal.E47) h = absurd h
 text_was_read T text (Refused (refusal.E49 n)) h = absurd h
@@ -144,6 +148,8 @@ pub input_refused : (strong : Bool) (words : List (List ℕ)) (left left' : Opti
 input_refused strong words left left' (refusal.Text fault position) h = h
 input_refused strong words left left' (refusal.Check fault line column) h = h
 input_refused strong words left left' (refusal.Pattern fault) h = absurd h
+input_refused strong words left left' (refusal.E41 n) h = absurd h
+input_refused strong words left left' (refusal.E45 n) h = absurd h
 input_refused strong words left left' (refusal.Mark fault) h = absurd h
 input_refused strong words left left' refusal.E47 h = h
 input_refused strong words left left' (refusal.E49 n) h = absurd h

@@ -146,6 +146,8 @@ module _ (request : SearchRequest) (left left' : Option (List ℕ)) where
       means (refusal.Text fault position) h = h
       means (refusal.Check fault line column) h = h
       means (refusal.Pattern fault) h = absurd h
+      means (refusal.E41 n) h = absurd h
+      means (refusal.E45 n) h = absurd h
       means (refusal.Mark fault) h = absurd h
       means refusal.E47 h = h
       means (refusal.E49 n) h = absurd h

@@ -11,4 +11,6 @@ pub mod OutcomeFlags
 pub mod WriteFaults
 pub mod SearchParts
 pub mod EverParts
+pub mod AfterOutcome
+pub mod AfterParts
 pub mod ProgramRuns

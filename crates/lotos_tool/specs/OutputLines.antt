@@ -28,6 +28,11 @@ abbrev pub sequence_text : List Label → List ℕ
 sequence_text [] = codes "<empty>"
 sequence_text (l ∷ rest) = l ++ flat_map (λ m. 32 ∷ m) rest
 
+-- the line of a deadlock, if there can be one
+abbrev pub deadlock_line : (dead : Bool) → List ℕ
+deadlock_line false = []
+deadlock_line true = codes "<deadlock>\n"
+
 -- what follows the sequence in a line: nothing, or with `explain` ` : ` and the run
 abbrev pub run_text : (explain : Bool) → List Label → List ℕ
 run_text false run = []
@@ -40,6 +45,10 @@ line_of explain item = sequence_text item.sequence ++ run_text explain item.run 
 -- the lines of a list of items
 abbrev pub lines_of : (explain : Bool) → List Item → List ℕ
 lines_of explain items = flat_map (λ item. line_of explain item) items
+
+-- the lines of what can come after a sequence: each label on one, and then `<deadlock>`, if it can end in one
+abbrev pub next_lines : List Label → (dead : Bool) → List ℕ
+next_lines next dead = flat_map (λ l. l ++ 10 ∷ []) next ++ deadlock_line dead
 
 -- a functionality as text
 abbrev pub functionality_text : Functionality → List ℕ

@@ -20,6 +20,12 @@ use Rattle.lotos_report.specs.declared.outcome.EverEnded.{EverEnded}
 use Rattle.lotos_report.specs.declared.outcome.EverEnded.TheVariants as ever
 use Rattle.lotos_report.specs.declared.outcome.EverWhy.{EverWhy}
 use Rattle.lotos_report.specs.declared.outcome.EverWhy.TheVariants as ever_why
+use Rattle.lotos_tool.specs.AfterOutcome.{AfterOutcome, is_after_input_fault}
+use Rattle.lotos_report.specs.declared.outcome.AfterEnded.{AfterEnded}
+use Rattle.lotos_report.specs.declared.outcome.AfterEnded.TheVariants as after
+use Rattle.lotos_report.specs.declared.outcome.AfterWhy.{AfterWhy}
+use Rattle.lotos_report.specs.declared.outcome.AfterWhy.TheVariants as after_why
+use Rattle.lotos_command.specs.declared.command.AfterRequest.{AfterRequest}
 use Rattle.lotos_command.specs.declared.command.SearchRequest.{SearchRequest}
 use Rattle.lotos_command.specs.declared.command.DiagnoseRequest.{DiagnoseRequest}
 use Rattle.lotos_command.specs.declared.command.EverRequest.{EverRequest}
@@ -56,7 +62,8 @@ SearchReported request left left' got got' failed status =
     Reported Ended (SearchOutcome request left left' got got') is_input_fault status_of failed status
 
 -- the words ask for a search, which had an outcome, and the status is that of the outcome
-pub record SearchRan (words : List (List ℕ)) (left left' got got' : Option (List ℕ)) (failed : Bool) (status : ℕ) : Type 0 where
+pub record SearchRan (words : List (List ℕ)) (left left' got got' : Option (List ℕ)) (failed : Bool) (status : ℕ)
+    : Type 0 where
   pub request : SearchRequest
   pub asked : RequestOf words (request_view (command.Search request))
   pub reported : SearchReported request left left' got got' failed status
@@ -78,7 +85,8 @@ abbrev pub CheckReported : (left left' got got' : Option (List ℕ)) → Bool �
 CheckReported left left' got got' failed status =
     Reported Ended (CheckOutcome left left' got got') is_input_fault check_status_of failed status
 
--- the lines of an accepted specification's processes were written with an outcome, and the status is that of the outcome
+-- the lines of an accepted specification's processes were written with an outcome, and the status is that of the
+-- outcome
 pub record ProcessesReported (system : System) (got got' : Option (List ℕ)) (status : ℕ) : Type 0 where
   pub ended : Ended
   pub outcome : ProcessesOutcome system got got' ended
@@ -87,12 +95,14 @@ pub record ProcessesReported (system : System) (got got' : Option (List ℕ)) (s
 -- the check of a text that was read: the text is accepted and its lines were written, or it is rejected with nothing
 -- written
 pub data TextReported (text : List ℕ) (got got' : Option (List ℕ)) (status : ℕ) : Type 0 where
-  accepted : (system : System) → Accepted text system → ProcessesReported system got got' status → TextReported text got got' status
+  accepted : (system : System) → Accepted text system → ProcessesReported system got got' status →
+      TextReported text got got' status
   rejected : (cause : Rejection) → IsRejection text cause → Keeps got got' → status ≡ check_status_of (end_of cause)
       → TextReported text got got' status
 
 -- the words ask for a check, which had an outcome, and the status is that of the outcome
-pub record CheckRan (words : List (List ℕ)) (left left' got got' : Option (List ℕ)) (failed : Bool) (status : ℕ) : Type 0 where
+pub record CheckRan (words : List (List ℕ)) (left left' got got' : Option (List ℕ)) (failed : Bool) (status : ℕ)
+    : Type 0 where
   pub asked : AskForCheck words
   pub reported : CheckReported left left' got got' failed status
 
@@ -118,10 +128,38 @@ EverReported request left left' got got' failed status =
     Reported EverEnded (EverOutcome request left left' got got') is_ever_input_fault ever_status_of failed status
 
 -- the words ask for a match of any length, the search for it had an outcome, and the status is that of the outcome
-pub record EverRan (words : List (List ℕ)) (left left' got got' : Option (List ℕ)) (failed : Bool) (status : ℕ) : Type 0 where
+pub record EverRan (words : List (List ℕ)) (left left' got got' : Option (List ℕ)) (failed : Bool) (status : ℕ)
+    : Type 0 where
   pub request : EverRequest
   pub asked : RequestOf words (request_view (command.Ever request))
   pub reported : EverReported request left left' got got' failed status
+
+-- the status of a command that follows a sequence and stopped: 4 if there are too many normal forms, 5 out of memory, 6
+-- if the output could not be written
+abbrev pub after_stop_status_of : AfterWhy → ℕ
+after_stop_status_of (after_why.TooManyTerms labels) = 4
+after_stop_status_of after_why.Memory = 5
+after_stop_status_of after_why.Write = 6
+
+-- the status of a command that follows a sequence: 0 if it can be observed, 1 if it cannot, 2 if it is refused, and
+-- that of the stop if it stopped
+abbrev pub after_status_of : AfterEnded → ℕ
+after_status_of after.Followed = 0
+after_status_of (after.CannotCome number instead) = 1
+after_status_of (after.Refused cause) = 2
+after_status_of (after.Stopped cause) = after_stop_status_of cause
+
+-- following a sequence had an outcome, and the status is that of the outcome
+abbrev pub AfterReported : AfterRequest → (left left' got got' : Option (List ℕ)) → Bool → ℕ → Type 0
+AfterReported request left left' got got' failed status =
+    Reported AfterEnded (AfterOutcome request left left' got got') is_after_input_fault after_status_of failed status
+
+-- the words ask for what can come after a sequence, following it had an outcome, and the status is that of the outcome
+pub record AfterRan (words : List (List ℕ)) (left left' got got' : Option (List ℕ)) (failed : Bool) (status : ℕ)
+    : Type 0 where
+  pub request : AfterRequest
+  pub asked : RequestOf words (request_view (command.After request))
+  pub reported : AfterReported request left left' got got' failed status
 
 -- the text was written and the status is 0, or the output failed after a prefix of it, perhaps all of it, and the
 -- status is 6
@@ -145,17 +183,19 @@ pub data MessageOutput (words : List (List ℕ)) (got got' : Option (List ℕ)) 
   out_of_memory : status ≡ 5 → Keeps got got' → MessageOutput words got got' status
 
 -- no command ran, and nothing was read; if clap accepts the words, memory ran out
-pub record NoCommandRan (words : List (List ℕ)) (left left' got got' : Option (List ℕ)) (failed : Bool) (status : ℕ) : Type 0 where
+pub record NoCommandRan (words : List (List ℕ)) (left left' got got' : Option (List ℕ)) (failed : Bool) (status : ℕ)
+    : Type 0 where
   pub kept : Keeps left left'
   pub unfailed : failed ≡ false
   pub reported : MessageOutput words got got' status
   pub taken : AreAccepted words → status ≡ 5
 
 -- what the program did for the words, whether the reader failed, and the exit status
-abbrev pub Ran : List (List ℕ) → Option (List ℕ) → Option (List ℕ) → Option (List ℕ) → Option (List ℕ) → Bool → ℕ → Type 0
+abbrev pub Ran : List (List ℕ) → (left left' got got' : Option (List ℕ)) → Bool → ℕ → Type 0
 Ran words left left' got got' failed status =
     SearchRan words left left' got got' failed status ⊎ CheckRan words left left' got got' failed status
-    ⊎ EverRan words left left' got got' failed status ⊎ NoCommandRan words left left' got got' failed status
+    ⊎ EverRan words left left' got got' failed status ⊎ AfterRan words left left' got got' failed status
+    ⊎ NoCommandRan words left left' got got' failed status
 
 -- no argument could be read: nothing was read or written, and the status is that of out of memory
 pub record NoArgumentRead (left left' got got' : Option (List ℕ)) (failed : Bool) (status : ℕ) : Type 0 where

@@ -10,11 +10,16 @@ use Rattle.lotos_listing.specs.Marks.{IsMarkFault}
 use Rattle.lotos_listing.specs.declared.fault.MarkFault.{MarkFault}
 use Rattle.lotos_listing.specs.declared.fault.MarkFault.TheVariants as mark_fault
 use Rattle.lotos_device.specs.TextInput.{TakesAtMost}
+use Rattle.lotos_after.specs.declared.label_words.WordFault.{WordFault}
+use Rattle.lotos_after.specs.declared.label_words.WordFault.TheVariants as word
 use Rattle.lotos_tool.specs.RefusalCauses.{IsCheckFault, IsPatternRefused, IsTextFault, is_memory}
 use Rattle.lotos_tool.specs.UnknownGates.{IsFirstUnknownGate}
 use Rattle.lotos_report.specs.declared.outcome.Ended.{Ended}
 use Rattle.lotos_report.specs.declared.outcome.Ended.TheVariants as ended
 use Rattle.lotos_report.specs.declared.outcome.Why.TheVariants as why
+use Rattle.lotos_report.specs.declared.outcome.AfterEnded.{AfterEnded}
+use Rattle.lotos_report.specs.declared.outcome.AfterEnded.TheVariants as after
+use Rattle.lotos_report.specs.declared.outcome.AfterWhy.TheVariants as after_why
 use Rattle.lotos_report.specs.declared.outcome.EverEnded.{EverEnded}
 use Rattle.lotos_report.specs.declared.outcome.EverEnded.TheVariants as ever
 use Rattle.lotos_report.specs.declared.outcome.EverWhy.TheVariants as ever_why
@@ -65,6 +70,11 @@ abbrev pub mark_rejection : MarkFault → Rejection
 mark_rejection mark_fault.E46 = Refused (refusal.Mark mark_fault.E46)
 mark_rejection (mark_fault.E99 e) = Memory
 
+-- the rejection for a word of a sequence
+abbrev pub word_rejection : WordFault → Rejection
+word_rejection (word.NoLabel n) = Refused (refusal.E41 n)
+word_rejection (word.Internal n) = Refused (refusal.E45 n)
+
 -- ---- how the commands end
 
 -- memory ran out: nothing was written, and at most one byte more than a text may have was taken from the reader
@@ -81,6 +91,11 @@ end_of Memory = ended.Stopped None why.Memory
 abbrev pub ever_end_of : Rejection → EverEnded
 ever_end_of (Refused cause) = ever.Refused cause
 ever_end_of Memory = ever.Stopped ever_why.Memory
+
+-- how a command that follows a sequence ends whose parts are rejected
+abbrev pub after_end_of : Rejection → AfterEnded
+after_end_of (Refused cause) = after.Refused cause
+after_end_of Memory = after.Stopped after_why.Memory
 
 -- ---- the reader
 

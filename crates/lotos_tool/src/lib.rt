@@ -2,12 +2,14 @@
 //! lines of the output and the exit status.
 //!
 //! [`request`] reads the words, [`list`] reads a text and writes the listing, [`check_text`] reads a text and writes
-//! its processes, [`ever`] reads a text and writes the first of the shortest matches, and [`run`] does what the words
-//! ask for and returns the exit status. [`report_search`], [`report_check`], [`report_ever`] and
-//! [`report_command_fault`] write the messages of [`run`]. [`run_args`] runs it on the arguments of a process. Readers
+//! its processes, [`ever`] reads a text and writes the first of the shortest matches, [`after`] reads a text and writes
+//! what can come after a sequence, and [`run`] does what the words ask for and returns the exit status.
+//! [`report_search`], [`report_check`], [`report_ever`], [`report_after`] and [`report_command_fault`] write the messages
+//! of [`run`]. [`run_args`] runs it on the arguments of a process. Readers
 //! and writers are a [`Source`] and a [`Sink`]; [`FromRead`] and [`FromWrite`] make them from std's.
 #![tactic(auto)]
 
+mod after_command;
 mod arguments;
 mod check_command;
 mod diagnosis;
@@ -26,15 +28,19 @@ mod specification_input;
 mod unknown_gates;
 mod unknown_names;
 
+pub use after_command::after;
 pub use arguments::run_args;
 pub use check_command::check_text;
 pub use ever_command::ever;
 pub use lotos_command::{
-    CommandFault, DiagnoseRequest, EverRequest, Extent, Request, SearchRequest, request,
+    AfterRequest, CommandFault, DiagnoseRequest, EverRequest, Extent, Request, SearchRequest,
+    request,
 };
 pub use lotos_device::{DeviceFailed, FromRead, FromWrite, Sink, Source};
 pub use lotos_listing::{NoProgress, Progress};
-pub use lotos_report::{Ended, EverEnded, EverWhy, Messages, Refusal, Why};
+pub use lotos_report::{AfterEnded, AfterWhy, Ended, EverEnded, EverWhy, Messages, Refusal, Why};
 pub use output_progress::OutputProgress;
-pub use program::{report_check, report_command_fault, report_ever, report_search, run};
+pub use program::{
+    report_after, report_check, report_command_fault, report_ever, report_search, run,
+};
 pub use search_command::list;

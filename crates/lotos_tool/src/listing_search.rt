@@ -59,8 +59,8 @@ impl ListingSearch for LengthSearch {
 
 /// After a member that comes after the cursor, fewer sequences remain than after the cursor.
 pub(crate) fn items_decrease_remaining()
-    ensures { (q : ListingQuestion) (cursor : Option (List Text)) (s : List Text) → IsMember q s → After cursor s →
-        remaining (names_of q) (most_of q) (Some s) < remaining (names_of q) (most_of q) cursor }
+    ensures { (q : ListingQuestion) (cursor : Option (List Text)) (s : List Text) → IsMember q s →
+        After cursor s → remaining (names_of q) (most_of q) (Some s) < remaining (names_of q) (most_of q) cursor }
 {
     laws::items_decrease_remaining();
     items_by_length_decrease_remaining();

@@ -3,7 +3,8 @@ ghost use Rattle.std.specs.Prelude.{◌≡◌, ◌∷◌, [], ◌++◌, IfOk, Li
 ghost use Rattle.lotos_check.specs.CheckedView.{process_of};
 ghost use Rattle.lotos_listing.specs.Order.{Label as Text};
 ghost use Rattle.lotos_listing.specs.Question.{ArePrinted};
-ghost use Rattle.lotos_tool.specs.OutputLines.{run_text, functionality_text, process_line, sequence_text};
+ghost use Rattle.lotos_tool.specs.OutputLines.{run_text, functionality_text, next_lines, process_line, sequence_text};
+ghost use Rattle.lotos_tool.specs.AfterOutcome.{IsTextOf};
 
 use itoa::Buffer;
 use lotos_check::Process;
@@ -88,6 +89,45 @@ fn append_run(
     let text = format_sequence(alloc, gates, run)?;
     line.extend_from_slice(b" : ")?;
     line.extend_from_slice(text.as_bytes())
+}
+
+/// The lines of what can come after a sequence: these labels, and then `<deadlock>` if it can end in one (`dead`). The
+/// gates have these names.
+pub fn format_next(
+    alloc: Global,
+    gates: &[Name],
+    labels: &[Label],
+    dead: bool,
+) -> Result<Vec<u8>, AllocError>
+    requires { (next : List Text) × ArePrinted gates.now labels.now next }
+    ensures { IfOk result (λ lines. (next : List Text) → ArePrinted gates.now labels.now next →
+        lines.items ≡ next_lines next dead) }
+{
+    let mut lines = Vec::new(alloc);
+    for label in labels {
+        append_text(&mut lines, label_text(gates, *label))?;
+        lines.push(b'\n')?;
+    }
+    if dead {
+        lines.extend_from_slice(b"<deadlock>\n")?;
+    }
+    Ok(lines)
+}
+
+/// The labels as text, as that of a sequence; `None` if there are none. The gates have these names.
+pub fn format_labels(
+    alloc: Global,
+    gates: &[Name],
+    labels: &[Label],
+) -> Result<Option<String>, AllocError>
+    requires { (next : List Text) × ArePrinted gates.now labels.now next }
+    ensures { IfOk result (λ text. (next : List Text) → ArePrinted gates.now labels.now next →
+        IsTextOf next text) }
+{
+    if labels.is_empty() {
+        return Ok(None);
+    }
+    Ok(Some(format_sequence(alloc, gates, labels)?))
 }
 
 /// The lines of the processes, in their order.

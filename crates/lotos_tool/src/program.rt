@@ -3,29 +3,33 @@ ghost use Rattle.std.specs.Prelude.{◌≡◌, ◌+◌, ◌≤◌, ◌==◌, fal
 ghost use Rattle.lotos_text.specs.Limits.{max_text_length};
 ghost use Rattle.lotos_tool.specs.OutcomeFlags.{is_output_cause, is_output_fault};
 ghost use Rattle.lotos_tool.specs.EverOutcome.{is_ever_output_cause, is_ever_output_fault};
+ghost use Rattle.lotos_tool.specs.AfterOutcome.{is_after_output_cause, is_after_output_fault};
 ghost use Rattle.lotos_command.specs.Request.{HasSearchBounds};
 ghost use Rattle.lotos_pattern.specs.Spelling.{texts_of};
-ghost use Rattle.lotos_tool.specs.ProgramRuns.{EverReported, IsAnswerTo, Ran, SearchReported, TextWritten, check_status_of, ever_status_of, ever_stop_status_of, status_of, stop_status_of};
+ghost use Rattle.lotos_tool.specs.ProgramRuns.{AfterReported, EverReported, IsAnswerTo, Ran, SearchReported, TextWritten, after_status_of, after_stop_status_of, check_status_of, ever_status_of, ever_stop_status_of, status_of, stop_status_of};
 
+use crate::after_command::after;
 use crate::check_command::check_text;
 use crate::diagnosis::diagnose;
 use crate::ever_command::ever;
 use crate::output_flush::write_and_flush;
 use crate::search_command::list;
 use crate::search_observer::{Observed, SearchObserver};
-use lotos_command::{CommandFault, EverRequest, Request, SearchRequest, request};
+use lotos_command::{AfterRequest, CommandFault, EverRequest, Request, SearchRequest, request};
 use lotos_device::{DeviceFailed, Sink, Source};
 use lotos_report::{
-    Ended, EverEnded, EverWhy, Messages, Visited, Why, hint_after_fault, hint_after_refusal,
-    report_ever_stop, report_failure, report_no_match, report_refusal, report_stop, report_text,
+    AfterEnded, AfterWhy, Ended, EverEnded, EverWhy, Messages, Visited, Why, WordCommand,
+    hint_after_fault, hint_after_refusal, report_after_stop, report_ever_stop, report_failure,
+    report_label, report_no_match, report_refusal, report_stop, report_text,
 };
 use std::alloc::Global;
 use std::io::Write;
 
 /// Runs the command that the words ask for and returns its exit status: 0 for a complete output with lines, an accepted
-/// specification, a match, help, or the version; 1 for a listing without lines, or no match; 2 for words, a pattern, a
-/// mark, or a specification that is refused, or input that cannot be read; 3 at the limit of lines; 4 for a prefix with
-/// too many terms, or too many states; 5 out of memory; 6 for output that cannot be written.
+/// specification, a match, a sequence that can be observed, help, or the version; 1 for a listing without lines, no
+/// match, or a sequence that cannot be observed; 2 for words, a pattern, a mark, or a specification that is refused, or
+/// input that cannot be read; 3 at the limit of lines; 4 for a prefix with too many terms, or too many states; 5 out of
+/// memory; 6 for output that cannot be written.
 ///
 /// The first of the words is the program's own name. The lines of the command, or the help or the version if the words
 /// ask for it, go to `out`, and every message to `messages`, whose errors change no status. At most one byte more than a
@@ -49,6 +53,7 @@ pub fn run<R: Source, W: Sink, E: Write>(
         Ok(Request::Diagnose(asked)) => diagnose(alloc, &asked, reader, out, &mut messages.stream),
         Ok(Request::Search(asked)) => run_search(alloc, &asked, reader, out, messages),
         Ok(Request::Ever(asked)) => run_ever(alloc, &asked, reader, out, messages),
+        Ok(Request::After(asked)) => run_after(alloc, &asked, reader, out, messages),
         Err(fault) => end_without_command(&fault, words, out, &mut messages.stream),
     }
 }
@@ -82,7 +87,7 @@ fn run_search<R: Source, W: Sink, E: Write>(
     let status = report_search(&ended, request.terms, &mut messages.stream);
     hint_after_refusal(
         alloc,
-        "search ..",
+        WordCommand::Search,
         ended.refusal(),
         request.words.as_slice(),
         &hint,
@@ -119,9 +124,47 @@ fn run_ever<R: Source, W: Sink, E: Write>(
     let status = report_ever(&ended, request.states, &mut messages.stream);
     hint_after_refusal(
         alloc,
-        "ever ..",
+        WordCommand::Ever,
         ended.refusal(),
         request.words.as_slice(),
+        &hint,
+        messages,
+    );
+    status
+}
+
+/// Follows a sequence and reports the outcome, with a hint if one of the request's words names a file or is refused
+/// because it names no gate. Returns the status.
+fn run_after<R: Source, W: Sink, E: Write>(
+    alloc: Global,
+    request: &AfterRequest,
+    reader: &mut R,
+    out: &mut W,
+    messages: &mut Messages<E>,
+) -> u8
+    requires reader { R.has_failed reader.old ≡ false }
+    requires out { W.has_failed out.old ≡ false }
+    ensures reported { AfterReported request.now (R.remaining reader.old) (R.remaining reader.new)
+        (W.written out.old) (W.written out.new) (R.has_failed reader.new) result }
+    ensures given { R.given reader.new ≤ R.given reader.old + (max_text_length + 1) }
+    ensures output { W.has_failed out.new ≡ (result == 6) }
+{
+    let words = request.words.as_slice();
+    let observed = Observed {
+        words,
+        refuses_unknown: true,
+        reports_progress: request.progress,
+        visited: Visited::Labels,
+    };
+    let mut observer = SearchObserver::new(alloc, observed, messages);
+    let ended = after(alloc, request, reader, out, &mut observer);
+    let hint = observer.finish();
+    let status = report_after(&ended, words, request.terms, &mut messages.stream);
+    hint_after_refusal(
+        alloc,
+        WordCommand::After,
+        ended.refusal(),
+        words,
         &hint,
         messages,
     );
@@ -222,6 +265,41 @@ pub fn report_ever<E: Write>(ended: &EverEnded, states: usize, err: &mut E) -> u
             report_ever_stop(err, why, states);
             ever_stop_status(why)
         }
+    }
+}
+
+/// Reports a command that follows a sequence unless the sequence can be observed, and returns its status. `words` are
+/// those of the sequence, and `terms` is the bound on the normal forms that a beginning of it reaches.
+pub fn report_after<E: Write>(ended: &AfterEnded, words: &[String], terms: usize, err: &mut E) -> u8
+    ensures status { result ≡ after_status_of ended.now }
+    ensures output { is_after_output_fault ended.now ≡ (result == 6) }
+{
+    match ended {
+        AfterEnded::Followed => 0,
+        AfterEnded::CannotCome { number, instead } => {
+            report_label(err, *number, words, instead);
+            1
+        }
+        AfterEnded::Refused(refusal) => {
+            report_refusal(err, refusal);
+            2
+        }
+        AfterEnded::Stopped(why) => {
+            report_after_stop(err, why, terms);
+            after_stop_status(why)
+        }
+    }
+}
+
+/// The status of a command that follows a sequence and stopped for this cause.
+fn after_stop_status(why: &AfterWhy) -> u8
+    ensures status { result ≡ after_stop_status_of why.now }
+    ensures output { is_after_output_cause why.now ≡ (result == 6) }
+{
+    match why {
+        AfterWhy::TooManyTerms(_) => 4,
+        AfterWhy::Memory => 5,
+        AfterWhy::Write => 6,
     }
 }
 

@@ -1,11 +1,12 @@
 //! Why a command gets no question: one of its parts is refused, or memory runs out.
 ghost use Rattle.std.specs.Prelude.{◌≡◌};
 ghost use Rattle.lotos_tool.specs.RefusalCauses.{is_memory};
-ghost use Rattle.lotos_tool.specs.Rejections.{end_of, ever_end_of};
+ghost use Rattle.lotos_tool.specs.Rejections.{after_end_of, end_of, ever_end_of};
 
+use lotos_after::WordFault;
 use lotos_listing::MarkFault;
 use lotos_pattern::PatternFault;
-use lotos_report::{Ended, EverEnded, EverWhy, Refusal, Why};
+use lotos_report::{AfterEnded, AfterWhy, Ended, EverEnded, EverWhy, Refusal, Why};
 use std::alloc::AllocError;
 
 /// Why the words and the text of a command make no question: one of them is refused, or memory ran out.
@@ -54,6 +55,20 @@ impl From<MarkFault> for Rejection {
     }
 }
 
+impl From<WordFault> for Rejection {
+    ghost use Rattle.std.specs.Prelude.{◌≡◌};
+    ghost use Rattle.lotos_tool.specs.Rejections.{word_rejection};
+
+    ghost from_gives = { λ fault rejection. rejection ≡ word_rejection fault };
+
+    fn from(fault: WordFault) -> Rejection {
+        match fault {
+            WordFault::NoLabel(number) => Rejection::Refused(Refusal::E41(number)),
+            WordFault::Internal(number) => Rejection::Refused(Refusal::E45(number)),
+        }
+    }
+}
+
 fn is_memory(fault: &PatternFault) -> bool
     ensures { result ≡ is_memory fault.now }
 {
@@ -80,5 +95,15 @@ pub fn ever_end_of(rejection: Rejection) -> EverEnded
     match rejection {
         Rejection::Refused(refusal) => EverEnded::Refused(refusal),
         Rejection::Memory => EverEnded::Stopped(EverWhy::Memory),
+    }
+}
+
+/// How a command that follows a sequence ends whose parts are rejected.
+pub fn after_end_of(rejection: Rejection) -> AfterEnded
+    ensures { result ≡ after_end_of rejection }
+{
+    match rejection {
+        Rejection::Refused(refusal) => AfterEnded::Refused(refusal),
+        Rejection::Memory => AfterEnded::Stopped(AfterWhy::Memory),
     }
 }

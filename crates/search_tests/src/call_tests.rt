@@ -1,5 +1,5 @@
 //! Calls after the end and after a halt, and the order of sequences.
-use super::listing_run::{Question, assert_text, begin};
+use super::listing_run::{Extent, Question, assert_text, begin};
 use lotos_listing::{Halt, compare};
 use lotos_search::Search;
 use std::alloc::{AllocError, Global};
@@ -9,7 +9,7 @@ const QUESTION: Question = Question {
     behaviour: "noexit behaviour a; stop [] b; stop [] b; a; stop",
     words: &["<any>"],
     strong: false,
-    depth: 1,
+    extent: Extent::Depth(1),
     mark: None,
     terms: 2,
 };

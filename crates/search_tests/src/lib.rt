@@ -1,5 +1,5 @@
 //! Tests of searches through public items: tables of listings, marks, small specifications against two oracles, first
-//! matches, what observers are told, and the examples of `uses`.
+//! matches, sets of normal forms, what observers are told, and the examples of `uses`.
 //!
 //! They are a crate of their own, because a crate with tests inside is proved twice, and one crate, because each that
 //! runs tests is linked with all libraries below.
@@ -15,6 +15,10 @@ mod derivation_oracle;
 mod fault_position_tests;
 #[cfg(test)]
 mod graph;
+#[cfg(test)]
+mod graph_question;
+#[cfg(test)]
+mod item_search;
 #[cfg(test)]
 mod length_oracle;
 #[cfg(test)]
@@ -34,6 +38,20 @@ mod progress_tests;
 #[cfg(test)]
 mod resumed_listing_tests;
 #[cfg(test)]
+mod run_oracle;
+#[cfg(test)]
 mod samples;
+#[cfg(test)]
+mod set_bound_tests;
+#[cfg(test)]
+mod set_count_tests;
+#[cfg(test)]
+mod set_sequence_tests;
+#[cfg(test)]
+mod set_texts;
+#[cfg(test)]
+mod set_walk;
+#[cfg(test)]
+mod set_walk_error;
 #[cfg(test)]
 mod term_run_tests;

@@ -1,9 +1,12 @@
-//! A search and all that it returns.
+//! A search, by depth or by length, and all that it returns.
 ghost use Rattle.std.specs.Prelude.{◌≤◌};
 ghost use Rattle.lotos_listing.specs.Question.{HaveTexts};
 
-use super::accepted_text::{joined, table_of_text};
+use super::accepted_text::{joined, normal_table_of_text, table_of_text};
+use super::item_search::ItemSearch;
+use lotos_length::LengthSearch;
 use lotos_listing::{Halt, Mark};
+use lotos_normal::NormalTable;
 use lotos_pattern::Pattern;
 use lotos_search::Search;
 use lotos_terms::{Label, Table};
@@ -17,6 +20,15 @@ pub const LABELS: [&str; 6] = ["A", "A1", "B", "C", "exit", "i"];
 /// More items than any listing here has.
 const MOST_ITEMS: usize = 10_000;
 
+/// What bounds the sequences of a listing.
+#[derive(Clone, Copy, Debug)]
+pub enum Extent {
+    /// The most steps of a derivation.
+    Depth(u8),
+    /// The most labels of a sequence, of derivations of any number of steps.
+    Length(u8),
+}
+
 /// What is searched for.
 #[derive(Clone, Copy)]
 pub struct Question<'a> {
@@ -25,7 +37,7 @@ pub struct Question<'a> {
     pub behaviour: &'a str,
     pub words: &'a [&'a str],
     pub strong: bool,
-    pub depth: u8,
+    pub extent: Extent,
     pub mark: Option<&'a str>,
     pub terms: usize,
 }
@@ -51,13 +63,24 @@ pub struct Listing {
     pub ending: Ending,
 }
 
-/// The table of a specification, given by its functionality and its behaviour.
-pub fn table_of(alloc: Global, behaviour: &str) -> Result<Box<Table>, Fail> {
-    let text = joined(
+/// The text of a specification, given by its functionality and its behaviour.
+fn specification(alloc: Global, behaviour: &str) -> Result<String, AllocError> {
+    joined(
         alloc,
         &["specification S [a,a1,b,c] : ", behaviour, " endspec"],
-    )?;
+    )
+}
+
+/// Its table.
+fn table_of(alloc: Global, behaviour: &str) -> Result<Box<Table>, Fail> {
+    let text = specification(alloc, behaviour)?;
     table_of_text(alloc, text.as_str())
+}
+
+/// Its normal table.
+pub fn normal_table_of(alloc: Global, behaviour: &str) -> Result<Box<NormalTable>, Fail> {
+    let text = specification(alloc, behaviour)?;
+    normal_table_of_text(alloc, text.as_str())
 }
 
 fn mark_of(alloc: Global, question: Question) -> Result<Option<Mark>, Fail> {
@@ -67,7 +90,7 @@ fn mark_of(alloc: Global, question: Question) -> Result<Option<Mark>, Fail> {
     }
 }
 
-/// The search, not yet asked for an item.
+/// The search by depth, not yet asked for an item.
 pub fn begin(alloc: Global, question: Question) -> Result<Box<Search>, Fail> {
     begin_with(alloc, question, None)
 }
@@ -78,64 +101,75 @@ pub fn begin_with(
     question: Question,
     capacity: Option<usize>,
 ) -> Result<Box<Search>, Fail> {
+    let Extent::Depth(depth) = question.extent else {
+        return Err("no listing by depth")?;
+    };
     if question.terms == 0 {
         return Err("a bound of no terms")?;
     }
     let mark = mark_of(alloc, question)?;
-    begin_after(alloc, question, capacity, mark)
+    begin_after(alloc, question, depth, capacity, mark)
 }
 
 fn begin_after(
     alloc: Global,
     question: Question,
+    depth: u8,
     capacity: Option<usize>,
     mark: Option<Mark>,
 ) -> Result<Box<Search>, Fail>
     requires { 1 ≤ question.terms }
 {
     let pattern = Pattern::read(alloc, question.words, question.strong)?;
-    begin_pattern(alloc, question, capacity, pattern, mark)
+    begin_pattern(alloc, question, depth, capacity, pattern, mark)
 }
 
 fn begin_pattern(
     alloc: Global,
     question: Question,
+    depth: u8,
     capacity: Option<usize>,
     pattern: Pattern,
     mark: Option<Mark>,
 ) -> Result<Box<Search>, Fail>
     requires { 1 ≤ question.terms }
 {
-    let table = table_of(alloc, question.behaviour)?;
-    Ok(begin_in(alloc, question, capacity, table, pattern, mark)?)
+    let Question {
+        behaviour,
+        terms,
+        ..
+    } = question;
+    let table = table_of(alloc, behaviour)?;
+    Ok(begin_in(alloc, table, pattern, depth, mark, terms, capacity)?)
 }
 
 fn begin_in(
     alloc: Global,
-    question: Question,
-    capacity: Option<usize>,
     table: Box<Table>,
     pattern: Pattern,
+    depth: u8,
     mark: Option<Mark>,
+    terms: usize,
+    capacity: Option<usize>,
 ) -> Result<Box<Search>, AllocError>
-    requires { 1 ≤ question.terms }
+    requires { 1 ≤ terms }
 {
     let table = Box::into_inner(table);
-    let search = begin_search(alloc, question, capacity, table, pattern, mark)?;
+    let search = begin_search(alloc, table, pattern, depth, mark, terms, capacity)?;
     Ok(Box::new(alloc, search)?)
 }
 
 fn begin_search(
     alloc: Global,
-    question: Question,
-    capacity: Option<usize>,
     table: Table,
     pattern: Pattern,
+    depth: u8,
     mark: Option<Mark>,
+    terms: usize,
+    capacity: Option<usize>,
 ) -> Result<Search, AllocError>
-    requires { 1 ≤ question.terms }
+    requires { 1 ≤ terms }
 {
-    let Question { depth, terms, .. } = question;
     match capacity {
         None => Search::begin(alloc, table, pattern, depth, mark, terms),
         Some(capacity) => {
@@ -144,24 +178,76 @@ fn begin_search(
     }
 }
 
-/// What the search returns, from its first item to its end.
-pub fn run(alloc: Global, question: Question) -> Result<Listing, Fail> {
-    let mut search = begin(alloc, question)?;
-    rest(alloc, &mut search)
+/// The search by length, not yet asked for an item. Each item has its run.
+fn begin_by_length(
+    alloc: Global,
+    question: Question,
+    length: u8,
+) -> Result<Box<LengthSearch>, Fail> {
+    let mark = mark_of(alloc, question)?;
+    let pattern = Pattern::read(alloc, question.words, question.strong)?;
+    begin_length_pattern(alloc, question, length, pattern, mark)
 }
 
-/// The same of a search with a failure memo of this capacity, as text.
+fn begin_length_pattern(
+    alloc: Global,
+    question: Question,
+    length: u8,
+    pattern: Pattern,
+    mark: Option<Mark>,
+) -> Result<Box<LengthSearch>, Fail> {
+    let Question {
+        behaviour,
+        terms,
+        ..
+    } = question;
+    let table = normal_table_of(alloc, behaviour)?;
+    Ok(begin_length_in(alloc, table, pattern, length, terms, mark)?)
+}
+
+fn begin_length_in(
+    alloc: Global,
+    table: Box<NormalTable>,
+    pattern: Pattern,
+    length: u8,
+    terms: usize,
+    mark: Option<Mark>,
+) -> Result<Box<LengthSearch>, AllocError> {
+    let table = Box::into_inner(table);
+    let search = LengthSearch::begin(alloc, table, pattern, length, terms, mark, true)?;
+    Ok(Box::new(alloc, search)?)
+}
+
+/// What the search returns, from its first item to its end.
+pub fn run(alloc: Global, question: Question) -> Result<Listing, Fail> {
+    match question.extent {
+        Extent::Depth(_) => run_by_depth(alloc, question),
+        Extent::Length(length) => run_by_length(alloc, question, length),
+    }
+}
+
+fn run_by_depth(alloc: Global, question: Question) -> Result<Listing, Fail> {
+    let mut search = begin(alloc, question)?;
+    rest(alloc, &mut *search)
+}
+
+fn run_by_length(alloc: Global, question: Question, length: u8) -> Result<Listing, Fail> {
+    let mut search = begin_by_length(alloc, question, length)?;
+    rest(alloc, &mut *search)
+}
+
+/// The same of a search by depth with a failure memo of this capacity, as text.
 pub fn listing_with_memo(
     alloc: Global,
     question: Question,
     capacity: usize,
 ) -> Result<String, Fail> {
     let mut search = begin_with(alloc, question, Some(capacity))?;
-    let listing = rest(alloc, &mut search)?;
+    let listing = rest(alloc, &mut *search)?;
     Ok(text_of(alloc, &listing)?)
 }
 
-/// The same as text.
+/// What the search returns, as text.
 pub fn listing_text(alloc: Global, question: Question) -> Result<String, Fail> {
     let listing = run(alloc, question)?;
     Ok(text_of(alloc, &listing)?)
@@ -184,18 +270,18 @@ pub fn assert_text(rt: &impl Abort, question: Question, found: &str, expected: &
     assert_eq!(rt;
         found,
         expected,
-        "{}: {:?}, internal steps observed: {}, depth {}, after {:?}, at most {} terms",
+        "{}: {:?}, internal steps observed: {}, {:?}, after {:?}, at most {} terms",
         question.behaviour,
         question.words,
         question.strong,
-        question.depth,
+        question.extent,
         question.mark,
         question.terms
     );
 }
 
 /// What the search still returns, to its end.
-fn rest(alloc: Global, search: &mut Search) -> Result<Listing, Fail> {
+fn rest<S: ItemSearch>(alloc: Global, search: &mut S) -> Result<Listing, Fail> {
     let mut items = Vec::new(alloc);
     for _ in 0..MOST_ITEMS {
         match advance(alloc, search)? {
@@ -212,8 +298,8 @@ enum Step {
     End(Ending),
 }
 
-fn advance(alloc: Global, search: &mut Search) -> Result<Step, Fail> {
-    match search.next() {
+fn advance<S: ItemSearch>(alloc: Global, search: &mut S) -> Result<Step, Fail> {
+    match search.next_item() {
         Ok(Some(found)) => Ok(Step::Item(Item {
             sequence: texts(alloc, search, found.sequence.as_slice())?,
             word: texts(alloc, search, found.word.as_slice())?,
@@ -229,8 +315,12 @@ fn advance(alloc: Global, search: &mut Search) -> Result<Step, Fail> {
 }
 
 /// The texts of labels of a search.
-fn texts(alloc: Global, search: &Search, labels: &[Label]) -> Result<Vec<&'static str>, Fail>
-    requires { HaveTexts search.now.question.names labels.now }
+fn texts<S: ItemSearch>(
+    alloc: Global,
+    search: &S,
+    labels: &[Label],
+) -> Result<Vec<&'static str>, Fail>
+    requires { HaveTexts (S.names search.now) labels.now }
 {
     let mut texts = Vec::new(alloc);
     for label in labels {

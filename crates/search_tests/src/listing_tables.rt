@@ -1,5 +1,5 @@
 //! Tables of listings that were worked out by hand.
-use super::listing_run::{Question, assert_listing};
+use super::listing_run::{Extent, Question, assert_listing};
 use std::alloc::Global;
 use std::process::Abort;
 use std::test::Fail;
@@ -186,7 +186,7 @@ fn expect(
                 behaviour,
                 words,
                 strong,
-                depth: *depth,
+                extent: Extent::Depth(*depth),
                 mark: None,
                 terms: ALL,
             };
@@ -237,7 +237,7 @@ fn goes_on_after_marks(rt: HostRuntime) -> Result<(), Fail> {
             behaviour: "exit behaviour a; exit [> b; stop",
             words: &["<until>", "<deadlock>"],
             strong: false,
-            depth: 2,
+            extent: Extent::Depth(2),
             mark: Some(*mark),
             terms: ALL,
         };
@@ -262,7 +262,7 @@ fn goes_on_after_words(rt: HostRuntime) -> Result<(), Fail> {
             behaviour: "noexit behaviour i; a; stop [] a; b; stop",
             words: &["<until>", "<deadlock>"],
             strong: *strong,
-            depth: 2,
+            extent: Extent::Depth(2),
             mark: Some(*mark),
             terms: ALL,
         };
@@ -300,7 +300,7 @@ fn stops_at_prefixes_that_are_over(rt: HostRuntime) -> Result<(), Fail> {
             behaviour,
             words,
             strong: false,
-            depth: *depth,
+            extent: Extent::Depth(*depth),
             mark: *mark,
             terms: *terms,
         };
@@ -316,7 +316,7 @@ fn counts_terms_with_internal_steps_shown(rt: HostRuntime) -> Result<(), Fail> {
         behaviour: HIDDEN,
         words: &["i", "A"],
         strong: true,
-        depth: 2,
+        extent: Extent::Depth(2),
         mark: None,
         terms: 1,
     };

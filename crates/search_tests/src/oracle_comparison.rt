@@ -1,10 +1,11 @@
-//! Searches of small specifications against the two oracles.
+//! Searches of small specifications, by depth against two oracles and by length against one of them.
 use super::derivation_oracle::{Derivation, derivations, listing_by_derivations};
 use super::graph::Graph;
-use super::length_oracle::{GraphQuestion, add_count, listing_by_length};
+use super::graph_question::GraphQuestion;
+use super::length_oracle::listing_by_length;
 use super::listing_run::{
-    Item, Listing, Question, add_ending, assert_listing, assert_text, listing_with_memo, run,
-    spell, text_from, text_of,
+    Extent, Item, Listing, Question, assert_listing, assert_text, listing_with_memo, run, spell,
+    text_from, text_of,
 };
 use super::samples::{
     CALLS, CHOICES, FIRST_PATTERNS, HIDING, INTERLEAVING, OPERATORS, PREFIXES, RECURSIONS,
@@ -25,15 +26,21 @@ const BOUNDS: [usize; 3] = [1, 3, ALL];
 /// after three keys at most.
 const CAPACITIES: [usize; 4] = [0, 1, 6, 40];
 
-/// A specification, and its terms and derivations up to a depth.
+/// The greatest length, and shorter ones.
+const LENGTH: u8 = 4;
+
+const SHORTER: [u8; 2] = [0, 2];
+
+/// A specification, its terms and derivations up to a depth, and its normal forms.
 #[derive(Drop)]
 struct Sample {
     behaviour: &'static str,
     depth: u8,
-    /// The quarter of the patterns that it is searched for.
+    /// The quarter of the patterns that it is searched for by depth, and the eighth by length.
     turn: usize,
     graph: Graph,
     derivations: Vec<Derivation>,
+    forms: Graph,
 }
 
 #[test]
@@ -108,12 +115,14 @@ fn sample_of(
 ) -> Result<Sample, Fail> {
     let graph = Graph::new(alloc, behaviour, depth)?;
     let derivations = derivations(alloc, &graph, depth)?;
+    let forms = Graph::of_forms(alloc, behaviour)?;
     Ok(Sample {
         behaviour,
         depth,
         turn,
         graph,
         derivations,
+        forms,
     })
 }
 
@@ -136,11 +145,27 @@ fn compare_patterns(
     flags: &[bool],
 ) -> Result<(), Fail> {
     for (number, words) in patterns.iter().enumerate() {
-        if number % 4 == sample.turn % 4 {
-            for strong in flags {
-                compare_depths(rt, alloc, sample, words, *strong)?;
-            }
+        for strong in flags {
+            compare_pattern(rt, alloc, sample, number, words, *strong)?;
         }
+    }
+    Ok(())
+}
+
+/// Compares the searches for one pattern, if it is the sample's turn.
+fn compare_pattern(
+    rt: &impl Abort,
+    alloc: Global,
+    sample: &Sample,
+    number: usize,
+    words: Words,
+    strong: bool,
+) -> Result<(), Fail> {
+    if number % 4 == sample.turn % 4 {
+        compare_depths(rt, alloc, sample, words, strong)?;
+    }
+    if number % 8 == sample.turn % 8 {
+        compare_lengths(rt, alloc, sample, words, strong)?;
     }
     Ok(())
 }
@@ -157,12 +182,13 @@ fn compare_depths(
         behaviour: sample.behaviour,
         words,
         strong,
-        depth: sample.depth,
+        extent: Extent::Depth(sample.depth),
         mark: None,
         terms: ALL,
     };
     for depth in 0..sample.depth {
-        compare_run(rt, alloc, sample, Question { depth, ..whole })?;
+        let extent = Extent::Depth(depth);
+        compare_depth(rt, alloc, sample, Question { extent, ..whole }, depth)?;
     }
     for terms in BOUNDS {
         compare_with_marks(rt, alloc, sample, Question { terms, ..whole })?;
@@ -170,18 +196,20 @@ fn compare_depths(
     Ok(())
 }
 
-/// Compares one search.
-fn compare_run(
+/// Compares one search by depth.
+fn compare_depth(
     rt: &impl Abort,
     alloc: Global,
     sample: &Sample,
     question: Question,
+    depth: u8,
 ) -> Result<(), Fail> {
     let listing = run(alloc, question)?;
-    compare_listing(rt, alloc, sample, question, &listing)
+    compare_listing(rt, alloc, sample, question, depth, &listing)
 }
 
-/// Compares one search, the same with small failure memos, and what comes after the item in the middle.
+/// Compares one search by the greatest depth, the same with small failure memos, and what comes after the item in the
+/// middle.
 fn compare_with_marks(
     rt: &impl Abort,
     alloc: Global,
@@ -189,9 +217,9 @@ fn compare_with_marks(
     question: Question,
 ) -> Result<(), Fail> {
     let listing = run(alloc, question)?;
-    compare_listing(rt, alloc, sample, question, &listing)?;
+    compare_listing(rt, alloc, sample, question, sample.depth, &listing)?;
     compare_memos(rt, alloc, sample, question, &listing)?;
-    compare_after_mark(rt, alloc, question, &listing)
+    compare_after_mark(rt, alloc, question, &CAPACITIES, &listing)
 }
 
 fn compare_listing(
@@ -199,33 +227,38 @@ fn compare_listing(
     alloc: Global,
     sample: &Sample,
     question: Question,
+    depth: u8,
     listing: &Listing,
 ) -> Result<(), Fail> {
     let pattern = Pattern::read(alloc, question.words, question.strong)?;
     let graph_question = GraphQuestion {
         graph: &sample.graph,
         pattern: &pattern,
-        depth: question.depth,
+        depth,
+        length: depth,
         terms: question.terms,
     };
-    compare_lengths(rt, alloc, question, graph_question, listing)?;
-    compare_derivations(rt, alloc, sample, question, graph_question, listing)
+    compare_by_length(rt, alloc, question, graph_question, listing)?;
+    compare_by_derivations(rt, alloc, sample, question, graph_question, listing)
 }
 
-fn compare_lengths(
+/// Compares a listing with the oracle by length.
+fn compare_by_length(
     rt: &impl Abort,
     alloc: Global,
     question: Question,
     graph_question: GraphQuestion,
     listing: &Listing,
 ) -> Result<(), Fail> {
-    let found = counted(alloc, listing)?;
-    let expected = listing_by_length(alloc, graph_question)?;
+    let found = text_of(alloc, listing)?;
+    let by_length = listing_by_length(alloc, graph_question)?;
+    let expected = text_of(alloc, &by_length)?;
     assert_text(rt, question, found.as_str(), expected.as_str());
     Ok(())
 }
 
-fn compare_derivations(
+/// Compares a listing with the oracle over derivations.
+fn compare_by_derivations(
     rt: &impl Abort,
     alloc: Global,
     sample: &Sample,
@@ -257,12 +290,14 @@ fn compare_memos(
     Ok(())
 }
 
+/// What the oracle over derivations lists up to the greatest depth.
 fn listing_by_oracle(alloc: Global, sample: &Sample, question: Question) -> Result<String, Fail> {
     let pattern = Pattern::read(alloc, question.words, question.strong)?;
     let graph_question = GraphQuestion {
         graph: &sample.graph,
         pattern: &pattern,
-        depth: question.depth,
+        depth: sample.depth,
+        length: sample.depth,
         terms: question.terms,
     };
     listing_by_derivations(alloc, graph_question, sample.derivations.as_slice())
@@ -278,16 +313,19 @@ fn assert_memo(rt: &impl Abort, question: Question, capacity: usize, found: &str
     );
 }
 
-/// Compares what comes after the item in the middle.
+/// Compares what comes after the item in the middle, also with failure memos of these capacities.
 fn compare_after_mark(
     rt: &impl Abort,
     alloc: Global,
     question: Question,
+    capacities: &[usize],
     listing: &Listing,
 ) -> Result<(), Fail> {
     let middle = listing.items.len() / 2;
     match listing.items.get(middle) {
-        Some(item) => compare_after_item(rt, alloc, question, listing, middle + 1, item),
+        Some(item) => {
+            compare_after_item(rt, alloc, question, capacities, listing, middle + 1, item)
+        }
         None => Ok(()),
     }
 }
@@ -297,6 +335,7 @@ fn compare_after_item(
     rt: &impl Abort,
     alloc: Global,
     question: Question,
+    capacities: &[usize],
     listing: &Listing,
     next: usize,
     item: &Item,
@@ -306,7 +345,7 @@ fn compare_after_item(
         mark: Some(line.as_str()),
         ..question
     };
-    compare_rest(rt, alloc, again, listing, next)
+    compare_rest(rt, alloc, again, capacities, listing, next)
 }
 
 fn line_of(alloc: Global, item: &Item) -> Result<String, AllocError> {
@@ -320,23 +359,63 @@ fn compare_rest(
     rt: &impl Abort,
     alloc: Global,
     again: Question,
+    capacities: &[usize],
     listing: &Listing,
     next: usize,
 ) -> Result<(), Fail> {
     let expected = text_from(alloc, listing, next)?;
-    for capacity in CAPACITIES {
-        let found = listing_with_memo(alloc, again, capacity)?;
-        assert_memo(rt, again, capacity, found.as_str(), expected.as_str());
+    for capacity in capacities {
+        let found = listing_with_memo(alloc, again, *capacity)?;
+        assert_memo(rt, again, *capacity, found.as_str(), expected.as_str());
     }
     assert_listing(rt, alloc, again, expected.as_str())
 }
 
-/// A listing as text, each item with the number of its steps.
-fn counted(alloc: Global, listing: &Listing) -> Result<String, AllocError> {
-    let mut out = String::new(alloc);
-    for item in &listing.items {
-        add_count(alloc, &mut out, item.sequence.as_slice(), item.word.len())?;
+/// Compares by length: at shorter lengths without a bound, and at the greatest one with bounds and after a mark.
+fn compare_lengths(
+    rt: &impl Abort,
+    alloc: Global,
+    sample: &Sample,
+    words: Words,
+    strong: bool,
+) -> Result<(), Fail> {
+    let whole = Question {
+        behaviour: sample.behaviour,
+        words,
+        strong,
+        extent: Extent::Length(LENGTH),
+        mark: None,
+        terms: ALL,
+    };
+    for length in SHORTER {
+        let extent = Extent::Length(length);
+        compare_length(rt, alloc, sample, Question { extent, ..whole }, length)?;
     }
-    add_ending(&mut out, &listing.ending)?;
-    Ok(out)
+    for terms in BOUNDS {
+        let question = Question { terms, ..whole };
+        let listing = compare_length(rt, alloc, sample, question, LENGTH)?;
+        compare_after_mark(rt, alloc, question, &[], &listing)?;
+    }
+    Ok(())
+}
+
+/// Compares one search by length, and returns the listing.
+fn compare_length(
+    rt: &impl Abort,
+    alloc: Global,
+    sample: &Sample,
+    question: Question,
+    length: u8,
+) -> Result<Listing, Fail> {
+    let listing = run(alloc, question)?;
+    let pattern = Pattern::read(alloc, question.words, question.strong)?;
+    let graph_question = GraphQuestion {
+        graph: &sample.forms,
+        pattern: &pattern,
+        depth: u8::MAX,
+        length,
+        terms: question.terms,
+    };
+    compare_by_length(rt, alloc, question, graph_question, &listing)?;
+    Ok(listing)
 }

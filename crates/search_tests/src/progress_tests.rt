@@ -1,5 +1,5 @@
 //! What searches tell their observers.
-use super::listing_run::{Question, begin, begin_with};
+use super::listing_run::{Extent, Question, begin, begin_with};
 use super::match_tests::boxed_table;
 use lotos_ever::find_shortest_match_with_progress;
 use lotos_listing::{Found, Halt, NoProgress, Progress};
@@ -43,7 +43,7 @@ const LISTINGS: &[(Question, Visits)] = &[
             behaviour: "noexit behaviour i; i; a; stop",
             words: &["A"],
             strong: false,
-            depth: 2,
+            extent: Extent::Depth(2),
             mark: None,
             terms: 10,
         },
@@ -55,7 +55,7 @@ const LISTINGS: &[(Question, Visits)] = &[
             behaviour: "noexit behaviour a; stop ||| b; stop",
             words: &["<until>", "<deadlock>"],
             strong: false,
-            depth: 2,
+            extent: Extent::Depth(2),
             mark: None,
             terms: 10,
         },
@@ -71,7 +71,7 @@ const LISTINGS: &[(Question, Visits)] = &[
             behaviour: "noexit behaviour a; b; b; stop",
             words: &["<until>", "B"],
             strong: false,
-            depth: 3,
+            extent: Extent::Depth(3),
             mark: None,
             terms: 10,
         },
@@ -87,7 +87,7 @@ const LISTINGS: &[(Question, Visits)] = &[
             behaviour: "noexit behaviour a; stop ||| b; stop",
             words: &["<until>", "<deadlock>"],
             strong: false,
-            depth: 2,
+            extent: Extent::Depth(2),
             mark: Some("A B"),
             terms: 10,
         },
@@ -103,7 +103,7 @@ const LISTINGS: &[(Question, Visits)] = &[
             behaviour: "noexit behaviour a; stop [] b; stop [] b; a; stop",
             words: &["<any>"],
             strong: false,
-            depth: 1,
+            extent: Extent::Depth(1),
             mark: None,
             terms: 1,
         },
@@ -130,7 +130,7 @@ const TWO_WAYS: Question = Question {
     behaviour: "noexit behaviour a; c; c; stop [] b; c; c; stop",
     words: &["<any>", "<any>", "<any>", "<any>"],
     strong: false,
-    depth: 4,
+    extent: Extent::Depth(4),
     mark: None,
     terms: 10,
 };
@@ -203,10 +203,10 @@ fn assert_visits(rt: &impl Abort, question: Question, found: Option<Visits>, exp
     assert_eq!(rt;
         found,
         Some(expected),
-        "{}: {:?}, depth {}, after {:?}",
+        "{}: {:?}, {:?}, after {:?}",
         question.behaviour,
         question.words,
-        question.depth,
+        question.extent,
         question.mark
     );
 }

@@ -24,6 +24,10 @@ const ROWS: &[(&[&str], &[u8])] = &[
         b"Finds a shortest match, of any length\n",
     ),
     (
+        &["lotosseq", "help", "after"],
+        b"Tells what can come after a sequence\n",
+    ),
+    (
         &["lotosseq", "--version"],
         b"lotosseq 0.1.0 (proved, logic dac8208d650f15bf)\n",
     ),

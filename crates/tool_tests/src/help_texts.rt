@@ -22,8 +22,8 @@ The specification is read from standard input, and what is asked of it is writte
 standard output. A file is given by `< FILE`, as in
   lotosseq check < ring.lotos
 `lotosseq check --help` tells of the static rules, `lotosseq search --help` of the
-listing, its options and the words of a pattern, and `lotosseq ever --help` of matches
-of any length.
+listing, its options and the words of a pattern, `lotosseq ever --help` of matches of
+any length, and `lotosseq after --help` of what can come after a sequence.
 
 Usage: lotosseq <COMMAND>
 
@@ -31,6 +31,7 @@ Commands:
   search  Lists the sequences that match a pattern
   check   Checks the static rules and lists the processes
   ever    Finds a shortest match, of any length
+  after   Tells what can come after a sequence
   help    Print this message or the help of the given subcommand(s)
 
 Options:
@@ -41,10 +42,11 @@ Options:
           Print version
 
 Statuses:
-  0  the specification is accepted, the listing is complete and has lines, or there is
-     a match
-  1  the listing is complete and has none, or there is no match
-  2  the command, the pattern, the mark or the specification is refused, or cannot
+  0  the specification is accepted, the listing is complete and has lines, there is a
+     match, or the sequence can happen
+  1  the listing is complete and has none, there is no match, or the sequence cannot
+     happen
+  2  the command, its words, the mark or the specification is refused, or cannot
      be read
   3  the limit of lines is reached
   4  a prefix reaches too many terms, or there are too many states
@@ -159,7 +161,7 @@ Options:
          \x20
           Sequences then show internal steps, `i` may be a word of the pattern, and elements
           match it like other labels. For example, `i; i; a; stop` with
-          `--depth 3 --strong i i A` lists
+          `--length 3 --strong i i A` lists
             i i A
 
       --known
@@ -169,7 +171,7 @@ Options:
           or with `--strong` `i`. Without this option any other label is no fault, and never
           matches. For example, with the specification
             specification S [a] : exit behaviour a; exit endspec
-          the command `lotosseq search --depth 2 --known B exit` is refused with
+          the command `lotosseq search --length 2 --known B exit` is refused with
             E49 word 1 is no gate of the specification
 
       --progress
@@ -289,6 +291,73 @@ Statuses:
   6  the output cannot be written
 ";
 
+/// `lotosseq after --help`
+const AFTER: &str = "Tells what can come after a sequence
+
+Reads a specification in basic LOTOS from standard input (a file is given by `< FILE`)
+and follows the sequence of the labels. If some derivation, of any number of steps,
+shows the sequence, each label that can come after it, after internal steps or none, is
+written on a line, in order; and then `<deadlock>`, if the system can be in a state
+without any step. If no derivation shows it, nothing is written, the status is 1, and
+standard error has the first label that cannot come and what can come in its place.
+
+A log of any number of labels is followed by `lotosseq after $(cat LOG) < FILE`.
+
+For example, with the specification
+  specification S [a,b,c] : noexit behaviour a; (b; stop [] i; c; stop) endspec
+the command `lotosseq after A` writes
+  B
+  C
+and `lotosseq after A A` tells that
+  label 2, A, cannot come here; what can: B C
+
+Usage: lotosseq after [OPTIONS] [LABEL]...
+
+Arguments:
+  [LABEL]...
+          The labels of the sequence
+         \x20
+          Each is a gate of the specification's own list, or `exit` for successful termination, in
+          upper or lower case; several may stand in one pair of quotes. With none, it is told what
+          can come at first. `i` is a label only with `--strong`, as the internal action cannot be
+          observed.
+
+Options:
+      --terms <N>
+          The most terms that a beginning of the sequence may reach, 1 to 1000000
+         \x20
+          The beginning reaches the terms in which derivations that show it end; their normal
+          forms count. If one reaches more, the search stops with status 4. For example, with
+          `--terms 1` and the specification's behaviour `i; a; stop` it stops at once: with no
+          label, two terms are reached.
+         \x20
+          [default: 100000]
+
+      --strong
+          Makes the internal action `i` a label like others
+         \x20
+          Sequences then show internal steps, and `i` may be a label of the sequence. For
+          example, after `--strong i` the behaviour `i; a; stop` has
+            A
+
+      --progress
+          Tells on standard error how far the search is
+         \x20
+          At a terminal this is one line, which is renewed; else a line is written now and then.
+          Output and status stay the same.
+
+  -h, --help
+          Print help (see a summary with '-h')
+
+Statuses:
+  0  the sequence can happen
+  1  the sequence cannot happen
+  2  the command, a label or the specification is refused, or cannot be read
+  4  a beginning of the sequence reaches too many terms
+  5  out of memory
+  6  the output cannot be written
+";
+
 /// `lotosseq check --help`
 const CHECK: &str = "Checks the static rules and lists the processes
 
@@ -349,6 +418,7 @@ Commands:
   search  Lists the sequences that match a pattern
   check   Checks the static rules and lists the processes
   ever    Finds a shortest match, of any length
+  after   Tells what can come after a sequence
   help    Print this message or the help of the given subcommand(s)
 
 Options:
@@ -356,10 +426,11 @@ Options:
   -V, --version  Print version
 
 Statuses:
-  0  the specification is accepted, the listing is complete and has lines, or there is
-     a match
-  1  the listing is complete and has none, or there is no match
-  2  the command, the pattern, the mark or the specification is refused, or cannot
+  0  the specification is accepted, the listing is complete and has lines, there is a
+     match, or the sequence can happen
+  1  the listing is complete and has none, there is no match, or the sequence cannot
+     happen
+  2  the command, its words, the mark or the specification is refused, or cannot
      be read
   3  the limit of lines is reached
   4  a prefix reaches too many terms, or there are too many states
@@ -422,6 +493,29 @@ Statuses:
   6  the output cannot be written
 ";
 
+/// `lotosseq after -h`
+const AFTER_SUMMARY: &str = "Tells what can come after a sequence
+
+Usage: lotosseq after [OPTIONS] [LABEL]...
+
+Arguments:
+  [LABEL]...  The labels of the sequence
+
+Options:
+      --terms <N>  The most terms that a beginning of the sequence may reach, 1 to 1000000 [default: 100000]
+      --strong     Makes the internal action `i` a label like others
+      --progress   Tells on standard error how far the search is
+  -h, --help       Print help (see more with '--help')
+
+Statuses:
+  0  the sequence can happen
+  1  the sequence cannot happen
+  2  the command, a label or the specification is refused, or cannot be read
+  4  a beginning of the sequence reaches too many terms
+  5  out of memory
+  6  the output cannot be written
+";
+
 /// `lotosseq check -h`
 const CHECK_SUMMARY: &str = "Checks the static rules and lists the processes
 
@@ -455,6 +549,7 @@ const SHORT: &[Row] = &[
     (&["lotosseq", "-h"], PROGRAM_SUMMARY),
     (&["lotosseq", "search", "-h"], SEARCH_SUMMARY),
     (&["lotosseq", "ever", "-h"], EVER_SUMMARY),
+    (&["lotosseq", "after", "-h"], AFTER_SUMMARY),
     (&["lotosseq", "check", "-h"], CHECK_SUMMARY),
     (&["lotosseq", "--version"], VERSION),
     (&["lotosseq", "-V"], VERSION),
@@ -484,4 +579,9 @@ fn search(rt: HostRuntime) {
 #[test]
 fn ever(rt: HostRuntime) {
     expect_text(&rt, rt.alloc(), &["lotosseq", "ever", "--help"], EVER);
+}
+
+#[test]
+fn after(rt: HostRuntime) {
+    expect_text(&rt, rt.alloc(), &["lotosseq", "after", "--help"], AFTER);
 }

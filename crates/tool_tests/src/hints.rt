@@ -60,6 +60,14 @@ const ROWS: &[(&[&str], &[u8])] = &[
         b"lotosseq: E41 word 3 is neither a label nor an element\nlotosseq: a specification is read from standard input: lotosseq ever .. <FILE\n",
     ),
     (
+        &["lotosseq", "after", "A", "ring.lotos"],
+        b"lotosseq: E41 word 2 is no label\nlotosseq: a specification is read from standard input: lotosseq after .. <FILE\n",
+    ),
+    (
+        &["lotosseq", "after", "A B.", "ring.lotos"],
+        b"lotosseq: E41 word 2 is no label\n",
+    ),
+    (
         &["lotosseq", "ever", "A", "B-C"],
         b"lotosseq: E41 word 2 is neither a label nor an element\n",
     ),
@@ -121,6 +129,10 @@ const ALMOST: &[(&[&str], &[u8])] = &[
         &["lotosseq", "ever", "<until>", "<until>"],
         b"lotosseq: E42 word 1 needs a label or <deadlock> after it\n",
     ),
+    (
+        &["lotosseq", "after", "A", "<untill>"],
+        b"lotosseq: E41 word 2 is no label\n",
+    ),
 ];
 
 #[test]
@@ -131,6 +143,18 @@ fn a_name_that_is_almost_an_element(rt: HostRuntime) {
         &["lotosseq", "ever", "until", "a"],
         b"specification S [a] : exit behaviour a; exit endspec",
         b"lotosseq: E49 word 1 is no gate of the specification\nlotosseq: word 1, until, may be meant as <until>\n",
+        2,
+    );
+}
+
+#[test]
+fn no_element_is_meant_by_a_label(rt: HostRuntime) {
+    expect_message(
+        &rt,
+        rt.alloc(),
+        &["lotosseq", "after", "a until"],
+        b"specification S [a] : exit behaviour a; exit endspec",
+        b"lotosseq: E49 word 2 is no gate of the specification\n",
         2,
     );
 }

@@ -4,6 +4,8 @@
 #![tactic(auto)]
 
 #[cfg(test)]
+mod after_runs;
+#[cfg(test)]
 mod argument_runs;
 #[cfg(test)]
 mod byte_output_tests;

@@ -62,6 +62,47 @@ fn the_word_with_the_number_301(rt: HostRuntime) -> Result<(), AllocError> {
     Ok(())
 }
 
+/// A gate over and over, and at any time nine internal steps in any order: these reach 512 terms.
+const LOOP: &[u8] =
+    b"specification S [a,b] : noexit behaviour P[a,b] where process P [x,y] : noexit := x; P[x,y] [] y; Q endproc
+process Q : noexit := i; stop ||| i; stop ||| i; stop ||| i; stop ||| i; stop ||| i; stop ||| i; stop ||| i; stop ||| i; stop endproc endspec";
+
+/// The last label of a sequence, after 300 times `A`, the message about it, and the status.
+const LABELS: &[(&str, &[u8], u8)] = &[
+    ("A-B", b"lotosseq: E41 word 301 is no label\n", 2),
+    (
+        "i",
+        b"lotosseq: E45 word 301 is i, which cannot be observed\n",
+        2,
+    ),
+    (
+        "C",
+        b"lotosseq: E49 word 301 is no gate of the specification\n",
+        2,
+    ),
+    (
+        "exit",
+        b"lotosseq: label 301, exit, cannot come here; what can: A B\n",
+        1,
+    ),
+    (
+        "B",
+        b"lotosseq: stopped: more than 300 terms after 301 labels\n",
+        4,
+    ),
+];
+
+#[test]
+fn the_label_with_the_number_301(rt: HostRuntime) -> Result<(), AllocError> {
+    for (last, message, status) in LABELS {
+        let front = ["lotosseq", "after", "--terms", "300"];
+        let mut words = repeated_words(rt.alloc(), front.as_slice(), &["A"], 300)?;
+        words.push(*last)?;
+        expect_message(&rt, rt.alloc(), words.as_slice(), LOOP, *message, *status);
+    }
+    Ok(())
+}
+
 #[test]
 fn the_300th_column_of_the_301st_line(rt: HostRuntime) -> Result<(), AllocError> {
     let lines = repeated(rt.alloc(), TEXT, b"\n", 300, b"")?;

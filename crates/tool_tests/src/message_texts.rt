@@ -7,8 +7,8 @@ use lotos_listing::MarkFault;
 use lotos_pattern::PatternFault;
 use lotos_text::TextFault;
 use lotos_tool::{
-    CommandFault, Ended, EverEnded, EverWhy, Refusal, Why, report_check, report_command_fault,
-    report_ever, report_search,
+    AfterEnded, AfterWhy, CommandFault, Ended, EverEnded, EverWhy, Refusal, Why, report_after,
+    report_check, report_command_fault, report_ever, report_search,
 };
 use std::alloc::{AllocError, Global};
 use std::fmt::Display;
@@ -179,6 +179,83 @@ fn searches_for_a_match(rt: HostRuntime) {
     for (why, message, status) in EVER_STOPS {
         expect_ever(&rt, EverEnded::Stopped(*why), *message, *status);
     }
+}
+
+/// Expects what a command reports that follows the sequence of these words and ended so, with 300 as the bound on the
+/// terms.
+fn expect_after(rt: &impl Abort, ended: AfterEnded, words: &[String], message: &[u8], status: u8) {
+    let mut err = ArrayWriter::new(4096);
+    let found = report_after(&ended, words, 300, &mut err);
+    expect_report(rt, &err, message, found, status);
+}
+
+/// Why a command that follows a sequence stops, its message and its status.
+const AFTER_STOPS: &[(AfterWhy, &[u8], u8)] = &[
+    (
+        AfterWhy::TooManyTerms(0),
+        b"lotosseq: stopped: more than 300 terms after 0 labels\n",
+        4,
+    ),
+    (
+        AfterWhy::TooManyTerms(65_536),
+        b"lotosseq: stopped: more than 300 terms after 65536 labels\n",
+        4,
+    ),
+    (AfterWhy::Memory, b"lotosseq: E99 out of memory\n", 5),
+    (AfterWhy::Write, b"lotosseq: output cannot be written\n", 6),
+];
+
+#[test]
+fn sequences_that_are_followed(rt: HostRuntime) {
+    expect_after(&rt, AfterEnded::Followed, &[], b"", 0);
+    let refused = AfterEnded::Refused(Refusal::E47);
+    let message = b"lotosseq: E47 input cannot be read\n";
+    expect_after(&rt, refused, &[], message, 2);
+    let refused = AfterEnded::Refused(Refusal::E41(300));
+    expect_after(
+        &rt,
+        refused,
+        &[],
+        b"lotosseq: E41 word 300 is no label\n",
+        2,
+    );
+    for (why, message, status) in AFTER_STOPS {
+        expect_after(&rt, AfterEnded::Stopped(*why), &[], *message, *status);
+    }
+}
+
+/// The two words of a sequence.
+fn two_words(alloc: Global) -> Result<Vec<String>, AllocError> {
+    let mut words = Vec::new(alloc);
+    words.push(String::from_str(alloc, "put")?)?;
+    words.push(String::from_str(alloc, "PUT")?)?;
+    Ok(words)
+}
+
+/// Expects this message, and status 1, of the label with this number of the two words.
+fn expect_label(
+    rt: &impl Abort,
+    alloc: Global,
+    number: usize,
+    instead: Option<&str>,
+    message: &[u8],
+) -> Result<(), AllocError> {
+    let words = two_words(alloc)?;
+    let instead = match instead {
+        Some(labels) => Some(String::from_str(alloc, labels)?),
+        None => None,
+    };
+    let ended = AfterEnded::CannotCome { number, instead };
+    expect_after(rt, ended, words.as_slice(), message, 1);
+    Ok(())
+}
+
+#[test]
+fn labels_that_cannot_come(rt: HostRuntime) -> Result<(), AllocError> {
+    let first = b"lotosseq: label 1, put, cannot come here, and no other can\n";
+    expect_label(&rt, rt.alloc(), 1, None, first)?;
+    let second = b"lotosseq: label 2, PUT, cannot come here; what can: GET exit\n";
+    expect_label(&rt, rt.alloc(), 2, Some("GET exit"), second)
 }
 
 /// Expects what is written for a fault of the words.

@@ -113,6 +113,14 @@ const FLUSHED: &[Row] = &[
         broken: b"lotosseq: output cannot be written\n",
     },
     Row {
+        name: "what can come after a sequence",
+        text: TEXT,
+        words: &["lotosseq", "after", "A"],
+        output: b"B\nexit\n",
+        status: 0,
+        broken: b"lotosseq: output cannot be written\n",
+    },
+    Row {
         name: "a check of no process",
         text: TEXT,
         words: &["lotosseq", "check"],

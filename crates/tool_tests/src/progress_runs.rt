@@ -6,7 +6,8 @@ use super::runs::{RUN, Ran, Run, Taken, WHOLE};
 use lotos_check::AcceptedText;
 use lotos_device::{FromRead, FromWrite};
 use lotos_tool::{
-    EverRequest, Messages, OutputProgress, Progress, Request, ever, list, request, run_args,
+    AfterRequest, EverRequest, Messages, OutputProgress, Progress, Request, after, ever, list,
+    request, run_args,
 };
 use std::alloc::{AllocError, Global};
 use std::io::{Error, ErrorKind};
@@ -179,6 +180,56 @@ fn a_terminal_is_cleared_before_a_match(rt: HostRuntime) -> Result<(), AllocErro
     Ok(())
 }
 
+/// Asserts the messages of a run that follows the label `A` so many times, and then these labels.
+fn assert_labels(
+    rt: &impl Abort,
+    alloc: Global,
+    count: usize,
+    last: &[&'static str],
+    expected: (&[u8], &[u8], u8),
+) -> Result<(), AllocError> {
+    let mut plain = repeated_words(alloc, &["lotosseq", "after"], &["A"], count)?;
+    plain.extend_from_slice(last)?;
+    let mut words = repeated_words(alloc, &["lotosseq", "after", "--progress"], &["A"], count)?;
+    words.extend_from_slice(last)?;
+    let words = (plain.as_slice(), words.as_slice());
+    assert_reports(rt, alloc, words, ONE_GATE, false, expected);
+    Ok(())
+}
+
+#[test]
+fn a_sequence_that_is_followed_reports_labels(rt: HostRuntime) -> Result<(), AllocError> {
+    assert_labels(
+        &rt,
+        rt.alloc(),
+        2_048,
+        &[],
+        (
+            b"lotosseq: 1024 labels\nlotosseq: 2048 labels\n",
+            b"\rlotosseq: 1024 labels\rlotosseq: 2048 labels\r\x1b[K",
+            0,
+        ),
+    )?;
+    assert_labels(&rt, rt.alloc(), 1_023, &[], (b"", b"", 0))
+}
+
+#[test]
+fn a_terminal_is_cleared_before_a_label_that_cannot_come(
+    rt: HostRuntime,
+) -> Result<(), AllocError> {
+    assert_labels(
+        &rt,
+        rt.alloc(),
+        1_024,
+        &["exit", "A"],
+        (
+            b"lotosseq: 1024 labels\nlotosseq: label 1025, exit, cannot come here; what can: A\n",
+            b"\rlotosseq: 1024 labels\r\x1b[Klotosseq: label 1025, exit, cannot come here; what can: A\n",
+            1,
+        ),
+    )
+}
+
 /// With 44 steps at most the lengths have 990 visits.
 #[test]
 fn a_short_search_reports_nothing(rt: HostRuntime) {
@@ -272,6 +323,13 @@ fn ever_observed_in(alloc: Global, question: &EverRequest, text: &[u8], counter:
     let _ = ever(alloc, question, &mut reader, &mut out, counter);
 }
 
+/// Follows a sequence of one gate.
+fn after_observed(alloc: Global, question: &AfterRequest, counter: &mut Counter) {
+    let mut reader = FromRead::new(SliceReader::new(ONE_GATE, 4096));
+    let mut out = FromWrite::new(ArrayWriter::new(4096));
+    let _ = after(alloc, question, &mut reader, &mut out, counter);
+}
+
 /// What an observer of the command is told.
 fn observe(alloc: Global, words: &[&str]) -> Result<Counter, AllocError> {
     let mut counter = Counter {
@@ -286,6 +344,7 @@ fn observe(alloc: Global, words: &[&str]) -> Result<Counter, AllocError> {
             let _ = list(alloc, &search, &mut reader, &mut out, &mut counter);
         }
         Ok(Request::Ever(question)) => ever_observed(alloc, &question, &mut counter)?,
+        Ok(Request::After(question)) => after_observed(alloc, &question, &mut counter),
         Ok(Request::Check) => {}
         Ok(Request::Diagnose(_asked)) => {}
         Err(_fault) => {}
@@ -315,6 +374,16 @@ fn an_observer_is_told_of_all_visits_and_lines(rt: HostRuntime) -> Result<(), Al
     assert_told(&rt, rt.alloc(), ALL, 2_485, 71)?;
     assert_told(&rt, rt.alloc(), unmatched.as_slice(), 2_601, 0)?;
     assert_told(&rt, rt.alloc(), matched.as_slice(), 2_601, 1)
+}
+
+#[test]
+fn an_observer_is_told_of_each_label(rt: HostRuntime) -> Result<(), AllocError> {
+    let first = ["lotosseq", "after"];
+    let followed = ["lotosseq", "after", "A A", "A"];
+    let impossible = ["lotosseq", "after", "A A", "exit A"];
+    assert_told(&rt, rt.alloc(), first.as_slice(), 0, 1)?;
+    assert_told(&rt, rt.alloc(), followed.as_slice(), 3, 1)?;
+    assert_told(&rt, rt.alloc(), impossible.as_slice(), 2, 0)
 }
 
 /// Runs arguments that cannot be read, with an error stream that is a terminal or is none.

@@ -59,6 +59,14 @@ const ANSWERS: &[Row] = &[
         status: 0,
     },
     Row {
+        name: "a sequence in one pair of quotes and a word alone",
+        text: TWO_STEPS,
+        words: &["lotosseq", "after", " a\t b\n", "exit"],
+        output: b"<deadlock>\n",
+        message: b"",
+        status: 0,
+    },
+    Row {
         name: "a search for words in one pair of quotes",
         text: TWO_STEPS,
         words: &["lotosseq", "search", "a b  exit", "--depth", "3"],
@@ -84,6 +92,14 @@ const UNKNOWN_GATES: &[Row] = &[
         words: &["lotosseq", "ever", "A", "b  <until> <not> A,exit,X"],
         output: b"",
         message: b"lotosseq: E49 word 5 is no gate of the specification\n",
+        status: 2,
+    },
+    Row {
+        name: "a word in quotes of a sequence",
+        text: TWO_STEPS,
+        words: &["lotosseq", "after", "A B", "exit C"],
+        output: b"",
+        message: b"lotosseq: E49 word 4 is no gate of the specification\n",
         status: 2,
     },
     Row {
@@ -137,6 +153,10 @@ const REFUSED: &[(&[&str], &[u8])] = &[
     (
         &["lotosseq", "ever", "A --strong"],
         b"lotosseq: E41 word 2 is neither a label nor an element\n",
+    ),
+    (
+        &["lotosseq", "after", "A B", "A --strong"],
+        b"lotosseq: E41 word 4 is no label\n",
     ),
     (
         &["lotosseq", "ever", "A <until> <any>"],

@@ -134,6 +134,20 @@ const REFUSALS: &[Row] = &[
         status: 2,
     },
     Row {
+        name: "a gate that is hidden, of after",
+        words: &["lotosseq", "after", "--progress", "put", "SEND", "ACK"],
+        output: b"",
+        message: b"lotosseq: E49 word 2 is no gate of the specification\nlotosseq: SEND is hidden at 3:8, so it is not observed\n",
+        status: 2,
+    },
+    Row {
+        name: "a formal gate of a process, of after",
+        words: &["lotosseq", "after", "medium"],
+        output: b"",
+        message: b"lotosseq: E49 word 1 is no gate of the specification\nlotosseq: MEDIUM is a formal gate of the process P, and stands for the gate that a call gives\n",
+        status: 2,
+    },
+    Row {
         name: "the second name of a set has a similar gate",
         words: &["lotosseq", "ever", "TOKEN,UPAA"],
         output: b"",

@@ -24,6 +24,14 @@ const ROWS: &[(&[&str], &[u8])] = &[
         &["lotosseq", "search", "--depth", "256", "A"],
         b"error: invalid value '256' for '--depth <N>': 256 is not in 0..=255\n\nFor more information, try '--help'.\n",
     ),
+    (
+        &["lotosseq", "after", "--terms", "0", "A"],
+        b"error: invalid value '0' for '--terms <N>': 0 is not in 1..=1000000\n\nFor more information, try '--help'.\n",
+    ),
+    (
+        &["lotosseq", "after", "--explain", "A"],
+        b"error: unexpected argument '--explain' found\n\n  tip: to pass '--explain' as a value, use '-- --explain'\n\nUsage: lotosseq after [OPTIONS] [LABEL]...\n\nFor more information, try '--help'.\n",
+    ),
 ];
 
 #[test]

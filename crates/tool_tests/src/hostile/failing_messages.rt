@@ -66,6 +66,24 @@ const ROWS: &[Row] = &[
         status: 4,
     },
     Row {
+        name: "a label that cannot come",
+        text: TEXT,
+        words: &["lotosseq", "after", "B", "A"],
+        most: 99,
+        output: b"",
+        message: b"lotosseq: label 2, A, cannot come here, and no other can\n",
+        status: 1,
+    },
+    Row {
+        name: "a beginning of a sequence that reaches too many terms",
+        text: b"specification S [a] : noexit behaviour i; a; stop endspec",
+        words: &["lotosseq", "after", "--terms", "1", "A"],
+        most: 99,
+        output: b"",
+        message: b"lotosseq: stopped: more than 1 terms after 0 labels\n",
+        status: 4,
+    },
+    Row {
         name: "an output that fails",
         text: TEXT,
         words: &[

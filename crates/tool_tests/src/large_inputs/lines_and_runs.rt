@@ -1,5 +1,5 @@
-//! Runs of more than 128 and of more than 255 steps, command lines of more than 300 words, and lines of more than 65,535
-//! bytes.
+//! Runs of more than 128 and of more than 255 steps, command lines of more than 300 words, sequences of more than 65,535
+//! labels, and lines of more than 65,535 bytes.
 
 use super::super::expected_output::{expect_output, repeated, repeated_words};
 use std::alloc::{AllocError, Global};
@@ -101,6 +101,38 @@ fn lines_of_140_004_bytes(rt: HostRuntime) -> Result<(), AllocError> {
     ] {
         expect_output(&rt, rt.alloc(), words, text.as_slice(), line.as_slice());
     }
+    Ok(())
+}
+
+#[test]
+fn a_label_of_70_000_bytes_that_can_come(rt: HostRuntime) -> Result<(), AllocError> {
+    let text = long_gate(rt.alloc())?;
+    let line = repeated(rt.alloc(), b"", b"A", LONG, b"\n")?;
+    let words = ["lotosseq", "after"];
+    expect_output(
+        &rt,
+        rt.alloc(),
+        words.as_slice(),
+        text.as_slice(),
+        line.as_slice(),
+    );
+    Ok(())
+}
+
+/// So many labels `A`, with a blank after each.
+fn long_log(alloc: Global, count: usize) -> Result<String, AllocError> {
+    let mut log = String::new(alloc);
+    for _label in 0..count {
+        log.push_str("A ")?;
+    }
+    Ok(log)
+}
+
+#[test]
+fn a_sequence_of_66_000_labels_in_one_word(rt: HostRuntime) -> Result<(), AllocError> {
+    let log = long_log(rt.alloc(), 66_000)?;
+    let words = ["lotosseq", "after", log.as_str()];
+    expect_output(&rt, rt.alloc(), words.as_slice(), SLOW_LOOP, b"A\n");
     Ok(())
 }
 

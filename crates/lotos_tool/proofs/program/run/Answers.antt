@@ -2,10 +2,11 @@ use Rattle.std.proofs.Common.{◌≡◌, ℕ, Bool, List, Option, inl, inr, rule
 use Rattle.lotos_tool.specs.CheckOutcome.{CheckOutcome}
 use Rattle.lotos_tool.specs.OutcomeFlags.{is_input_fault}
 use Rattle.lotos_command.specs.Request.{RequestOf, request_view}
-use Rattle.lotos_tool.specs.ProgramRuns.{CheckRan, CheckReported, EverRan, EverReported, SearchRan, SearchReported, check_status_of}
+use Rattle.lotos_tool.specs.ProgramRuns.{AfterRan, AfterReported, CheckRan, CheckReported, EverRan, EverReported, SearchRan, SearchReported, check_status_of}
 use Rattle.lotos_report.specs.declared.outcome.Ended.{Ended}
 use Rattle.lotos_command.specs.declared.command.Request.{Request}
 use Rattle.lotos_command.specs.declared.command.Request.TheVariants as one
+use Rattle.lotos_command.specs.declared.command.AfterRequest.{AfterRequest}
 use Rattle.lotos_command.specs.declared.command.DiagnoseRequest.{DiagnoseRequest}
 use Rattle.lotos_command.specs.declared.command.EverRequest.{EverRequest}
 use Rattle.lotos_command.specs.declared.command.SearchRequest.{SearchRequest}
@@ -37,6 +38,16 @@ module _ (words : List (List ℕ)) (left left' got got' : Option (List ℕ)) (br
       let Asks : Request → Type 0 = λ r. RequestOf words (request_view r) in
       record { request = request; asked = subst Asks is asks; reported = reported }
 
+  followed : (asked : Request) (request : AfterRequest) → AfterReported request left left' got got' broken status → asked ≡ one.After request
+      → RequestOf words (request_view asked) → AfterRan words left left' got got' broken status
+  followed asked request reported is asks =
+      let Asks : Request → Type 0 = λ r. RequestOf words (request_view r) in
+      record { request = request; asked = subst Asks is asks; reported = reported }
+
+pub returns-in-Ok-After-clause-ran : goal.returns-in-Ok-After-clause-ran
+returns-in-Ok-After-clause-ran g c =
+    inr (inr (inr (inl (followed _ _ _ _ _ _ _ c.in-Ok-After.field-0 c.in-Ok-After.asked c.run_after.ensures.reported (search rules) c.in-Ok-After.ensures.is))))
+
 pub returns-in-Ok-Ever-clause-ran : goal.returns-in-Ok-Ever-clause-ran
 returns-in-Ok-Ever-clause-ran g c =
     inr (inr (inl (questioned _ _ _ _ _ _ _ c.in-Ok-Ever.field-0 c.in-Ok-Ever.asked c.run_ever.ensures.reported (search rules) c.in-Ok-Ever.ensures.is)))
@@ -55,4 +66,4 @@ returns-in-Ok-Search-clause-ran g c =
 
 pub returns-in-Err-clause-ran : goal.returns-in-Err-clause-ran
 returns-in-Err-clause-ran g c =
-    inr (inr (inr (answered _ c.in-Err.fault _ _ _ _ _ (search rules) c.in-Err.ensures.fault c.in-Err.ensures.taken c.end_without_command.ensures.answer)))
+    inr (inr (inr (inr (answered _ c.in-Err.fault _ _ _ _ _ (search rules) c.in-Err.ensures.fault c.in-Err.ensures.taken c.end_without_command.ensures.answer))))

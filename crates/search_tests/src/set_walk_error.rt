@@ -15,7 +15,7 @@ pub enum WalkError {
 
 impl From<AllocError> for WalkError {
     ghost use Rattle.std.specs.Prelude.{◌≡◌};
-    ghost use Rattle.sets_tests.specs.declared.walk_error.WalkError.TheVariants.{Memory};
+    ghost use Rattle.search_tests.specs.declared.set_walk_error.WalkError.TheVariants.{Memory};
 
     ghost from_gives = { λ _ error. error ≡ Memory };
 
@@ -26,7 +26,7 @@ impl From<AllocError> for WalkError {
 
 impl<T: Drop> From<AllocFailed<T>> for WalkError {
     ghost use Rattle.std.specs.Prelude.{◌≡◌};
-    ghost use Rattle.sets_tests.specs.declared.walk_error.WalkError.TheVariants.{Memory};
+    ghost use Rattle.search_tests.specs.declared.set_walk_error.WalkError.TheVariants.{Memory};
 
     ghost from_gives = { λ _ error. error ≡ Memory };
 

@@ -1,6 +1,6 @@
-//! The specifications of the tests, and what follows their sequences as text.
+//! The specifications of the tests of sets, and what follows their sequences as text.
 use super::set_walk::SetWalk;
-use super::walk_error::WalkError;
+use super::set_walk_error::WalkError;
 use lotos_sets::SetNumber;
 use std::alloc::Global;
 

@@ -1,6 +1,6 @@
 //! Which labels follow a sequence, and where it can end in a deadlock.
+use super::set_texts::{HIDDEN_LOOP, HIDDEN_STOP, MEETING, SAME_PREFIX, SERVER, describe};
 use super::set_walk::SetWalk;
-use super::texts::{HIDDEN_LOOP, HIDDEN_STOP, MEETING, SAME_PREFIX, SERVER, describe};
 use std::alloc::Global;
 use std::test::Fail;
 

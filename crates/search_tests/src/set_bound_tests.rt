@@ -1,6 +1,6 @@
 //! The bound on the terms of a set.
+use super::set_texts::{HIDDEN_LOOP, MEETING, SAME_PREFIX, SERVER, describe};
 use super::set_walk::SetWalk;
-use super::texts::{HIDDEN_LOOP, MEETING, SAME_PREFIX, SERVER, describe};
 use std::alloc::Global;
 use std::test::Fail;
 

@@ -1,0 +1,4 @@
+pub mod TakenLabels
+pub mod Positions
+pub mod FollowedSequences
+pub mod LabelWords

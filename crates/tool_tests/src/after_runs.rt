@@ -1,0 +1,729 @@
+//! Complete runs of `after`: the output, the message, and the status.
+
+use super::expected_output::{expect_output, repeated_words};
+use super::runs::{
+    Outcome, RUN, Run, SINGLE, Taken, WHOLE, expect, expect_broken, expect_refused_words,
+    expect_unflushed, expect_unreadable,
+};
+use std::alloc::{AllocError, Global};
+use std::process::Abort;
+
+/// A run of `after` over a text.
+struct Row {
+    name: &'static str,
+    text: &'static [u8],
+    words: &'static [&'static str],
+    output: &'static [u8],
+    message: &'static [u8],
+    status: u8,
+}
+
+/// A link that repeats a message until it is acknowledged, over media that may lose what they carry.
+const LINK: &[u8] = b"specification Link [put, get] : noexit behaviour
+hide send, frame, reply, ack in (Sender [put, send, ack] ||| Receiver [get, frame, reply])
+|[send, frame, reply, ack]| (Medium [send, frame] ||| Medium [reply, ack])
+where process Sender [put, send, ack] : noexit := put; Sending [put, send, ack]
+where process Sending [put, send, ack] : noexit
+:= send; (ack; Sender [put, send, ack] [] i; Sending [put, send, ack]) endproc endproc
+process Receiver [get, frame, reply] : noexit := frame; get; reply; Receiver [get, frame, reply] endproc
+process Medium [take, give] : noexit := take; (give; Medium [take, give] [] i; Medium [take, give]) endproc endspec";
+
+const SERVER: &[u8] = b"specification D [req, rsp, nak] : noexit behaviour S [req, rsp, nak]
+where process S [req, rsp, nak] : noexit
+:= req; (rsp; S [req, rsp, nak] [] i; nak; S [req, rsp, nak]) endproc endspec";
+
+/// Sequences that can happen, and how their labels are given.
+const LABELS: &[Row] = &[
+    Row {
+        name: "what can come first",
+        text: LINK,
+        words: &["lotosseq", "after"],
+        output: b"PUT\n",
+        message: b"",
+        status: 0,
+    },
+    Row {
+        name: "the delivery, after any number of losses",
+        text: LINK,
+        words: &["lotosseq", "after", "PUT"],
+        output: b"GET\n",
+        message: b"",
+        status: 0,
+    },
+    Row {
+        name: "the next message, or the same once more",
+        text: LINK,
+        words: &["lotosseq", "after", "PUT", "GET"],
+        output: b"GET\nPUT\n",
+        message: b"",
+        status: 0,
+    },
+    Row {
+        name: "labels in lower case",
+        text: LINK,
+        words: &["lotosseq", "after", "put", "Get"],
+        output: b"GET\nPUT\n",
+        message: b"",
+        status: 0,
+    },
+    Row {
+        name: "labels in one pair of quotes",
+        text: LINK,
+        words: &["lotosseq", "after", "PUT GET", "PUT"],
+        output: b"GET\n",
+        message: b"",
+        status: 0,
+    },
+    Row {
+        name: "labels of a log, one a line",
+        text: LINK,
+        words: &["lotosseq", "after", "PUT\nGET\n"],
+        output: b"GET\nPUT\n",
+        message: b"",
+        status: 0,
+    },
+    Row {
+        name: "a label after an internal step and one without",
+        text: SERVER,
+        words: &["lotosseq", "after", "REQ"],
+        output: b"NAK\nRSP\n",
+        message: b"",
+        status: 0,
+    },
+    Row {
+        name: "round and round",
+        text: SERVER,
+        words: &["lotosseq", "after", "REQ", "NAK", "REQ", "RSP"],
+        output: b"REQ\n",
+        message: b"",
+        status: 0,
+    },
+];
+
+const MEETING: &[u8] = b"specification G [a, b, c] : exit
+behaviour hide s in ((a; s; exit) |[s]| (s; b; exit)) >> c; exit endspec";
+
+/// After A it may do B, end, or stop.
+const THREE_ENDS: &[u8] =
+    b"specification S [a,b] : exit behaviour a; (b; stop [] exit [] i; stop) endspec";
+
+/// Sequences after which nothing may come.
+const ENDS: &[Row] = &[
+    Row {
+        name: "termination can come",
+        text: MEETING,
+        words: &["lotosseq", "after", "A", "B", "C"],
+        output: b"exit\n",
+        message: b"",
+        status: 0,
+    },
+    Row {
+        name: "nothing comes after termination",
+        text: MEETING,
+        words: &["lotosseq", "after", "A", "B", "C", "EXIT"],
+        output: b"<deadlock>\n",
+        message: b"",
+        status: 0,
+    },
+    Row {
+        name: "termination in lower case",
+        text: MEETING,
+        words: &["lotosseq", "after", "a b c exit"],
+        output: b"<deadlock>\n",
+        message: b"",
+        status: 0,
+    },
+    Row {
+        name: "a termination that enables is no label",
+        text: MEETING,
+        words: &["lotosseq", "after", "A", "B"],
+        output: b"C\n",
+        message: b"",
+        status: 0,
+    },
+    Row {
+        name: "gates, termination and a deadlock",
+        text: THREE_ENDS,
+        words: &["lotosseq", "after", "A"],
+        output: b"B\nexit\n<deadlock>\n",
+        message: b"",
+        status: 0,
+    },
+    Row {
+        name: "a deadlock at once",
+        text: b"specification S : noexit behaviour stop endspec",
+        words: &["lotosseq", "after"],
+        output: b"<deadlock>\n",
+        message: b"",
+        status: 0,
+    },
+    Row {
+        name: "sides that wait for each other",
+        text: b"specification S [a,b] : noexit behaviour a; stop |[a,b]| b; stop endspec",
+        words: &["lotosseq", "after"],
+        output: b"<deadlock>\n",
+        message: b"",
+        status: 0,
+    },
+    Row {
+        name: "a deadlock after internal steps",
+        text: b"specification S [a,b] : noexit behaviour i; i; a; (i; stop [] b; stop) endspec",
+        words: &["lotosseq", "after", "A"],
+        output: b"B\n<deadlock>\n",
+        message: b"",
+        status: 0,
+    },
+];
+
+/// After A it may be silent for ever, and it may take B and then be so.
+const VANISHING: &[u8] = b"specification V [a, b] : noexit behaviour hide h in P [a, b, h]
+where process P [a, b, h] : noexit := a; (h; P [a, b, h] [] b; Q [h]) endproc
+process Q [h] : noexit := h; Q [h] endproc endspec";
+
+/// Internal steps without end.
+const LOOPS: &[Row] = &[
+    Row {
+        name: "labels before and after a hidden step",
+        text: VANISHING,
+        words: &["lotosseq", "after", "A"],
+        output: b"A\nB\n",
+        message: b"",
+        status: 0,
+    },
+    Row {
+        name: "hidden steps that come back",
+        text: VANISHING,
+        words: &["lotosseq", "after", "A", "A", "A"],
+        output: b"A\nB\n",
+        message: b"",
+        status: 0,
+    },
+    Row {
+        name: "internal steps for ever are no deadlock",
+        text: VANISHING,
+        words: &["lotosseq", "after", "A", "B"],
+        output: b"",
+        message: b"",
+        status: 0,
+    },
+    Row {
+        name: "silent from the start",
+        text: b"specification S [a] : noexit behaviour hide h in P [h] where process P [h] : noexit := h; P [h] endproc endspec",
+        words: &["lotosseq", "after"],
+        output: b"",
+        message: b"",
+        status: 0,
+    },
+];
+
+/// Internal steps as labels.
+const STRONG: &[Row] = &[
+    Row {
+        name: "an internal step can come first",
+        text: b"specification S [a,b] : noexit behaviour i; a; stop [] b; stop endspec",
+        words: &["lotosseq", "after", "--strong"],
+        output: b"B\ni\n",
+        message: b"",
+        status: 0,
+    },
+    Row {
+        name: "after an internal step",
+        text: b"specification S [a,b] : noexit behaviour i; a; stop [] b; stop endspec",
+        words: &["lotosseq", "after", "--strong", "i"],
+        output: b"A\n",
+        message: b"",
+        status: 0,
+    },
+    Row {
+        name: "an internal step in upper case",
+        text: b"specification S [a,b] : noexit behaviour i; a; stop [] b; stop endspec",
+        words: &["lotosseq", "after", "I a", "--strong"],
+        output: b"<deadlock>\n",
+        message: b"",
+        status: 0,
+    },
+    Row {
+        name: "an internal step comes after termination, and no deadlock before it",
+        text: THREE_ENDS,
+        words: &["lotosseq", "after", "--strong", "A"],
+        output: b"B\nexit\ni\n",
+        message: b"",
+        status: 0,
+    },
+    Row {
+        name: "a hidden step",
+        text: b"specification S [b] : noexit behaviour hide a in a; b; stop endspec",
+        words: &["lotosseq", "after", "--strong", "i"],
+        output: b"B\n",
+        message: b"",
+        status: 0,
+    },
+    Row {
+        name: "a label before its internal step",
+        text: b"specification S [a] : noexit behaviour i; a; stop endspec",
+        words: &["lotosseq", "after", "--strong", "A"],
+        output: b"",
+        message: b"lotosseq: label 1, A, cannot come here; what can: i\n",
+        status: 1,
+    },
+    Row {
+        name: "a label that cannot come, and each kind of label that can",
+        text: THREE_ENDS,
+        words: &["lotosseq", "after", "--strong", "A", "A"],
+        output: b"",
+        message: b"lotosseq: label 2, A, cannot come here; what can: B exit i\n",
+        status: 1,
+    },
+];
+
+/// Sequences that cannot happen.
+const IMPOSSIBLE: &[Row] = &[
+    Row {
+        name: "the second message before the first is delivered",
+        text: LINK,
+        words: &["lotosseq", "after", "PUT", "PUT"],
+        output: b"",
+        message: b"lotosseq: label 2, PUT, cannot come here; what can: GET\n",
+        status: 1,
+    },
+    Row {
+        name: "the first label",
+        text: LINK,
+        words: &["lotosseq", "after", "GET"],
+        output: b"",
+        message: b"lotosseq: label 1, GET, cannot come here; what can: PUT\n",
+        status: 1,
+    },
+    Row {
+        name: "the first of several labels, as its word has it",
+        text: LINK,
+        words: &["lotosseq", "after", "put get", "put Put put"],
+        output: b"",
+        message: b"lotosseq: label 4, Put, cannot come here; what can: GET\n",
+        status: 1,
+    },
+    Row {
+        name: "two labels can come",
+        text: SERVER,
+        words: &["lotosseq", "after", "REQ", "REQ"],
+        output: b"",
+        message: b"lotosseq: label 2, REQ, cannot come here; what can: NAK RSP\n",
+        status: 1,
+    },
+    Row {
+        name: "a label after a deadlock",
+        text: b"specification S [a] : noexit behaviour a; stop endspec",
+        words: &["lotosseq", "after", "A", "A"],
+        output: b"",
+        message: b"lotosseq: label 2, A, cannot come here, and no other can\n",
+        status: 1,
+    },
+    Row {
+        name: "a label after internal steps for ever",
+        text: VANISHING,
+        words: &["lotosseq", "after", "A", "B", "A"],
+        output: b"",
+        message: b"lotosseq: label 3, A, cannot come here, and no other can\n",
+        status: 1,
+    },
+    Row {
+        name: "termination that never comes",
+        text: b"specification S [a] : noexit behaviour a; stop endspec",
+        words: &["lotosseq", "after", "exit"],
+        output: b"",
+        message: b"lotosseq: label 1, exit, cannot come here; what can: A\n",
+        status: 1,
+    },
+    Row {
+        name: "a gate that is declared and not used",
+        text: b"specification S [a,b] : noexit behaviour a; stop endspec",
+        words: &["lotosseq", "after", "A", "B"],
+        output: b"",
+        message: b"lotosseq: label 2, B, cannot come here, and no other can\n",
+        status: 1,
+    },
+];
+
+/// It grows for ever by internal steps.
+const GROWING: &[u8] = b"specification S [a] : noexit behaviour hide b in P [b]
+where process P [b] : noexit := b; (P [b] ||| P [b]) endproc endspec";
+
+/// Bounds on the normal forms of a beginning of the sequence.
+const BOUNDS: &[Row] = &[
+    Row {
+        name: "two terms at the start, and one is allowed",
+        text: b"specification S [a] : noexit behaviour i; a; stop endspec",
+        words: &["lotosseq", "after", "--terms", "1"],
+        output: b"",
+        message: b"lotosseq: stopped: more than 1 terms after 0 labels\n",
+        status: 4,
+    },
+    Row {
+        name: "two terms at the start, and two are allowed",
+        text: b"specification S [a] : noexit behaviour i; a; stop endspec",
+        words: &["lotosseq", "after", "--terms", "2"],
+        output: b"A\n",
+        message: b"",
+        status: 0,
+    },
+    Row {
+        name: "two terms after a label, and one is allowed",
+        text: b"specification S [a,b] : noexit behaviour a; stop [] a; b; stop endspec",
+        words: &["lotosseq", "after", "--terms", "1", "A"],
+        output: b"",
+        message: b"lotosseq: stopped: more than 1 terms after 1 labels\n",
+        status: 4,
+    },
+    Row {
+        name: "two terms after a label, and two are allowed",
+        text: b"specification S [a,b] : noexit behaviour a; stop [] a; b; stop endspec",
+        words: &["lotosseq", "after", "--terms", "2", "A"],
+        output: b"B\n<deadlock>\n",
+        message: b"",
+        status: 0,
+    },
+    Row {
+        name: "three terms after two labels, and two are allowed",
+        text: b"specification S [a,b] : noexit behaviour a; b; i; i; a; stop endspec",
+        words: &["lotosseq", "after", "--terms", "2", "A", "B", "A"],
+        output: b"",
+        message: b"lotosseq: stopped: more than 2 terms after 2 labels\n",
+        status: 4,
+    },
+    Row {
+        name: "what comes after the last label does not count",
+        text: b"specification S [a,b] : noexit behaviour a; b; i; i; a; stop endspec",
+        words: &["lotosseq", "after", "--terms", "1", "A"],
+        output: b"B\n",
+        message: b"",
+        status: 0,
+    },
+    Row {
+        name: "nor does what comes after a label that cannot come",
+        text: b"specification S [a,b] : noexit behaviour a; i; b; stop endspec",
+        words: &["lotosseq", "after", "--terms", "1", "B", "A"],
+        output: b"",
+        message: b"lotosseq: label 1, B, cannot come here; what can: A\n",
+        status: 1,
+    },
+    Row {
+        name: "internal steps that are labels lead to one term each",
+        text: b"specification S [a] : noexit behaviour i; i; a; stop endspec",
+        words: &["lotosseq", "after", "--strong", "--terms", "1", "i", "i"],
+        output: b"A\n",
+        message: b"",
+        status: 0,
+    },
+    Row {
+        name: "a system that grows for ever by internal steps",
+        text: GROWING,
+        words: &["lotosseq", "after", "--terms=20"],
+        output: b"",
+        message: b"lotosseq: stopped: more than 20 terms after 0 labels\n",
+        status: 4,
+    },
+];
+
+/// Words that name no gate, and texts that are refused.
+const REFUSALS: &[Row] = &[
+    Row {
+        name: "a word that is no gate",
+        text: b"specification S [a] : noexit behaviour a; stop endspec",
+        words: &["lotosseq", "after", "a", "Ab"],
+        output: b"",
+        message: b"lotosseq: E49 word 2 is no gate of the specification\nlotosseq: a gate of the specification has a similar name: A\n",
+        status: 2,
+    },
+    Row {
+        name: "the first of two words that are no gate, after one that cannot come",
+        text: b"specification S [a] : noexit behaviour a; stop endspec",
+        words: &["lotosseq", "after", "exit a", "Y", "X"],
+        output: b"",
+        message: b"lotosseq: E49 word 3 is no gate of the specification\n",
+        status: 2,
+    },
+    Row {
+        name: "a gate that is hidden",
+        text: b"specification S [a] : noexit behaviour hide b in b; a; stop endspec",
+        words: &["lotosseq", "after", "b", "a"],
+        output: b"",
+        message: b"lotosseq: E49 word 1 is no gate of the specification\nlotosseq: B is hidden at 1:45, so it is not observed\n",
+        status: 2,
+    },
+    Row {
+        name: "a similar gate",
+        text: SERVER,
+        words: &["lotosseq", "after", "--terms", "1", "REQ", "RESP"],
+        output: b"",
+        message: b"lotosseq: E49 word 2 is no gate of the specification\nlotosseq: a gate of the specification has a similar name: RSP\n",
+        status: 2,
+    },
+    Row {
+        name: "a reserved word is no gate",
+        text: b"specification S [a] : noexit behaviour a; stop endspec",
+        words: &["lotosseq", "after", "a", "stop"],
+        output: b"",
+        message: b"lotosseq: E49 word 2 is no gate of the specification\n",
+        status: 2,
+    },
+    Row {
+        name: "a gate that is not declared, and a word that is no gate",
+        text: b"specification S [a] : noexit behaviour b; stop endspec",
+        words: &["lotosseq", "after", "C"],
+        output: b"",
+        message: b"lotosseq: 1:40: E21 gate B is not declared\n",
+        status: 2,
+    },
+    Row {
+        name: "a gate that is not declared",
+        text: b"specification S [a] : noexit behaviour b; stop endspec",
+        words: &["lotosseq", "after", "A"],
+        output: b"",
+        message: b"lotosseq: 1:40: E21 gate B is not declared\n",
+        status: 2,
+    },
+    Row {
+        name: "the empty text",
+        text: b"",
+        words: &["lotosseq", "after", "A"],
+        output: b"",
+        message: b"lotosseq: 1:1: E06 text ends too early\n",
+        status: 2,
+    },
+];
+
+/// Expects what the row says. One flush ends an answer, with or without a line; none follows a sequence that cannot
+/// happen, a refusal or a stop.
+fn expect_row(rt: &impl Abort, alloc: Global, row: &Row) {
+    let run = Run {
+        name: row.name,
+        words: row.words,
+        text: row.text,
+        piece: 7,
+        output: SINGLE,
+        message: Taken { piece: 5, ..WHOLE },
+        ..RUN
+    };
+    let outcome = Outcome {
+        output: row.output,
+        message: row.message,
+        status: row.status,
+        flushes: usize::from(row.status == 0),
+    };
+    expect(rt, alloc, &run, &outcome);
+}
+
+fn expect_rows(rt: &impl Abort, alloc: Global, rows: &[Row]) {
+    for row in rows {
+        expect_row(rt, alloc, row);
+    }
+}
+
+#[test]
+fn labels_that_can_come(rt: HostRuntime) {
+    expect_rows(&rt, rt.alloc(), LABELS);
+}
+
+#[test]
+fn termination_and_deadlocks(rt: HostRuntime) {
+    expect_rows(&rt, rt.alloc(), ENDS);
+}
+
+#[test]
+fn internal_steps_without_end(rt: HostRuntime) {
+    expect_rows(&rt, rt.alloc(), LOOPS);
+}
+
+#[test]
+fn internal_steps_as_labels(rt: HostRuntime) {
+    expect_rows(&rt, rt.alloc(), STRONG);
+}
+
+#[test]
+fn sequences_that_cannot_happen(rt: HostRuntime) {
+    expect_rows(&rt, rt.alloc(), IMPOSSIBLE);
+}
+
+#[test]
+fn bounds_on_the_terms(rt: HostRuntime) {
+    expect_rows(&rt, rt.alloc(), BOUNDS);
+}
+
+#[test]
+fn refusals(rt: HostRuntime) {
+    expect_rows(&rt, rt.alloc(), REFUSALS);
+}
+
+/// Command lines with words that are refused before anything is read, and the message of each.
+const WORDS: &[(&[&str], &[u8])] = &[
+    (
+        &["lotosseq", "after", "<any>"],
+        b"lotosseq: E41 word 1 is no label\n",
+    ),
+    (
+        &["lotosseq", "after", "A", "<deadlock>"],
+        b"lotosseq: E41 word 2 is no label\n",
+    ),
+    (
+        &["lotosseq", "after", "A,B"],
+        b"lotosseq: E41 word 1 is no label\n",
+    ),
+    (
+        &["lotosseq", "after", "A", ""],
+        b"lotosseq: E41 word 2 is no label\n",
+    ),
+    (
+        &["lotosseq", "after", " \t", "A"],
+        b"lotosseq: E41 word 1 is no label\n",
+    ),
+    (
+        &["lotosseq", "after", "A B", "A-B"],
+        b"lotosseq: E41 word 3 is no label\n",
+    ),
+    (
+        &["lotosseq", "after", "A", "1A"],
+        b"lotosseq: E41 word 2 is no label\n",
+    ),
+    (
+        &["lotosseq", "after", "<untill>"],
+        b"lotosseq: E41 word 1 is no label\n",
+    ),
+];
+
+/// The same of the internal action, and of what is first.
+const INTERNAL: &[(&[&str], &[u8])] = &[
+    (
+        &["lotosseq", "after", "i"],
+        b"lotosseq: E45 word 1 is i, which cannot be observed\n",
+    ),
+    (
+        &["lotosseq", "after", "A B", "I"],
+        b"lotosseq: E45 word 3 is i, which cannot be observed\n",
+    ),
+    (
+        &["lotosseq", "after", "no_gate", "i", "A-B"],
+        b"lotosseq: E45 word 2 is i, which cannot be observed\n",
+    ),
+    (
+        &["lotosseq", "after", "A,i", "i"],
+        b"lotosseq: E41 word 1 is no label\n",
+    ),
+    (
+        &["lotosseq", "after", "--strong", "i", "i,A"],
+        b"lotosseq: E41 word 2 is no label\n",
+    ),
+];
+
+#[test]
+fn words_are_refused_first(rt: HostRuntime) {
+    for (words, message) in WORDS {
+        expect_refused_words(&rt, rt.alloc(), "no label", *words, *message);
+    }
+}
+
+#[test]
+fn what_cannot_be_observed_is_refused_first(rt: HostRuntime) {
+    for (words, message) in INTERNAL {
+        expect_refused_words(&rt, rt.alloc(), "no label", *words, *message);
+    }
+}
+
+const LINES: &[u8] = b"B\nexit\n<deadlock>\n";
+
+/// A run that writes the lines.
+const FOLLOWED: Run<'static, 'static> = Run {
+    name: "three lines",
+    words: &["lotosseq", "after", "A"],
+    text: THREE_ENDS,
+    output: Taken { piece: 4, ..WHOLE },
+    ..RUN
+};
+
+const UNWRITTEN: &[u8] = b"lotosseq: output cannot be written\n";
+
+#[test]
+fn the_output_fails_after_each_byte(rt: HostRuntime) {
+    for most in 0..LINES.len() {
+        expect_broken(&rt, rt.alloc(), &FOLLOWED, most, LINES, UNWRITTEN);
+    }
+}
+
+#[test]
+fn a_flush_that_fails_is_a_failed_write(rt: HostRuntime) {
+    expect_unflushed(&rt, rt.alloc(), &FOLLOWED, LINES, UNWRITTEN);
+}
+
+#[test]
+fn a_flush_that_fails_without_a_line(rt: HostRuntime) {
+    let run = Run {
+        name: "no line",
+        words: &["lotosseq", "after", "A", "B"],
+        text: VANISHING,
+        ..FOLLOWED
+    };
+    expect_unflushed(&rt, rt.alloc(), &run, b"", UNWRITTEN);
+}
+
+/// An output that cannot be written is not noticed where nothing is written.
+#[test]
+fn a_sequence_that_cannot_happen_is_not_flushed(rt: HostRuntime) {
+    let run = Run {
+        name: "no sequence",
+        words: &["lotosseq", "after", "B"],
+        output: Taken {
+            most: 0,
+            flush_fails: true,
+            ..WHOLE
+        },
+        ..FOLLOWED
+    };
+    let outcome = Outcome {
+        output: b"",
+        message: b"lotosseq: label 1, B, cannot come here; what can: A\n",
+        status: 1,
+        flushes: 0,
+    };
+    expect(&rt, rt.alloc(), &run, &outcome);
+}
+
+#[test]
+fn each_read_fails_in_turn(rt: HostRuntime) {
+    let run = Run {
+        piece: 4,
+        output: SINGLE,
+        ..FOLLOWED
+    };
+    for number in 1usize..20 {
+        expect_unreadable(&rt, rt.alloc(), &run, number);
+    }
+}
+
+#[test]
+fn a_read_that_fails_is_named_before_a_word_that_is_no_gate(rt: HostRuntime) {
+    let run = Run {
+        words: &["lotosseq", "after", "no_gate"],
+        ..FOLLOWED
+    };
+    expect_unreadable(&rt, rt.alloc(), &run, 1);
+}
+
+/// Expects that these labels, so many times, can happen, and that these lines can come then.
+fn expect_repeated(
+    rt: &impl Abort,
+    alloc: Global,
+    labels: &[&'static str],
+    count: usize,
+    text: &[u8],
+    lines: &[u8],
+) -> Result<(), AllocError> {
+    let words = repeated_words(alloc, &["lotosseq", "after"], labels, count)?;
+    expect_output(rt, alloc, words.as_slice(), text, lines);
+    Ok(())
+}
+
+/// A pattern has at most 256 elements; a sequence may have more labels.
+#[test]
+fn sequences_of_300_labels(rt: HostRuntime) -> Result<(), AllocError> {
+    expect_repeated(&rt, rt.alloc(), &["PUT", "GET"], 150, LINK, b"GET\nPUT\n")?;
+    expect_repeated(&rt, rt.alloc(), &["req rsp"], 150, SERVER, b"REQ\n")
+}
