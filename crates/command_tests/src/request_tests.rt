@@ -87,6 +87,39 @@ const REQUESTS: &[(&str, &[&str], &str)] = &[
         ],
         "After(AfterRequest { terms: 1000000, strong: false, progress: true, words: [\"A\"] })",
     ),
+    (
+        "a cover without options",
+        &["lotosseq", "cover"],
+        "Cover(CoverRequest { limit: None, after: None, terms: 100000, states: 1000000, strong: false, progress: false })",
+    ),
+    (
+        "a cover with all that it may have",
+        &[
+            "lotosseq",
+            "cover",
+            "--states=+7",
+            "--progress",
+            "--after",
+            "A B",
+            "--limit",
+            "1",
+            "--strong",
+            "--terms",
+            "2",
+        ],
+        "Cover(CoverRequest { limit: Some(1), after: Some(\"A B\"), terms: 2, states: 7, strong: true, progress: true })",
+    ),
+    (
+        "a cover with the greatest numbers",
+        &[
+            "lotosseq",
+            "cover",
+            "--limit=1000000000",
+            "--terms=1000000",
+            "--states=100000000",
+        ],
+        "Cover(CoverRequest { limit: Some(1000000000), after: None, terms: 1000000, states: 100000000, strong: false, progress: false })",
+    ),
 ];
 
 /// The request of the words as `Debug` writes it, or `help` or `wrong`.
@@ -210,6 +243,34 @@ const SEQUENCES: &[(&[&str], &str)] = &[
     (&["lotosseq", "after", "--after", "A"], "wrong"),
 ];
 
+/// Words of `cover`, and whether they ask for help, or fit no command.
+const COVERS: &[(&[&str], &str)] = &[
+    (&["lotosseq", "cover", "--help"], "help"),
+    (&["lotosseq", "help", "cover"], "help"),
+    (&["lotosseq", "cover", "--strong", "-h"], "help"),
+    (&["lotosseq", "cover", "-V"], "wrong"),
+    (&["lotosseq", "cover", "A"], "wrong"),
+    (&["lotosseq", "cover", ""], "wrong"),
+    (&["lotosseq", "cover", "--", "--strong"], "wrong"),
+    (&["lotosseq", "cover", "--limit", "0"], "wrong"),
+    (&["lotosseq", "cover", "--limit", "1000000001"], "wrong"),
+    (&["lotosseq", "cover", "--terms", "0"], "wrong"),
+    (&["lotosseq", "cover", "--terms", "1000001"], "wrong"),
+    (&["lotosseq", "cover", "--states", "0"], "wrong"),
+    (&["lotosseq", "cover", "--states", "100000001"], "wrong"),
+    (&["lotosseq", "cover", "--limit=1", "--limit=1"], "wrong"),
+    (&["lotosseq", "cover", "--terms=1", "--terms=1"], "wrong"),
+    (&["lotosseq", "cover", "--states=1", "--states=1"], "wrong"),
+    (&["lotosseq", "cover", "--after=A", "--after=A"], "wrong"),
+    (&["lotosseq", "cover", "--strong", "--strong"], "wrong"),
+    (&["lotosseq", "cover", "--progress", "--progress"], "wrong"),
+    (&["lotosseq", "cover", "--after"], "wrong"),
+    (&["lotosseq", "cover", "--explain"], "wrong"),
+    (&["lotosseq", "cover", "--known"], "wrong"),
+    (&["lotosseq", "cover", "--depth", "3"], "wrong"),
+    (&["lotosseq", "cover", "--length", "3"], "wrong"),
+];
+
 /// Words, and whether they ask for help or for the version, or fit no command.
 const OTHERS: &[(&[&str], &str)] = &[
     (&["lotosseq", "--help"], "help"),
@@ -274,6 +335,15 @@ fn distinguishes_help_from_faults_of_after(rt: HostRuntime) -> Result<(), Fail> 
     Ok(())
 }
 
+#[test]
+fn distinguishes_help_from_faults_of_cover(rt: HostRuntime) -> Result<(), Fail> {
+    for (words, expected) in COVERS {
+        let found = answer(rt.alloc(), words)?;
+        assert_eq!(rt; found.as_str(), *expected, "{:?}", words);
+    }
+    Ok(())
+}
+
 /// The text for words that ask for help or for the version; for others no text.
 fn help_text(alloc: Global, words: &[&str]) -> String {
     match request(alloc, words) {
@@ -330,4 +400,18 @@ fn says_that_one_extent_is_needed(rt: HostRuntime) {
         let text = wrong_text(rt.alloc(), words);
         assert_eq!(rt; text.as_str(), *expected);
     }
+}
+
+#[test]
+fn says_that_a_cover_has_no_words(rt: HostRuntime) {
+    let text = wrong_text(rt.alloc(), &["lotosseq", "cover", "A"]);
+    assert_eq!(rt;
+        text.as_str(),
+        "error: unexpected argument 'A' found
+
+Usage: lotosseq cover [OPTIONS]
+
+For more information, try '--help'.
+"
+    );
 }

@@ -5,7 +5,7 @@ use Rattle.clap.specs.declared.error.kind.ErrorKind.TheVariants.{DisplayVersion,
 use Rattle.clap.proofs.OnLiterals.{clap_on_literals}
 use Rattle.lotos_command.specs.CommandFaults.{MakeNoRequest}
 use Rattle.lotos_command.specs.CommandRules.{lotosseq}
-use Rattle.lotos_command.specs.Request.{RequestOf, after, check, diagnose, ever, search}
+use Rattle.lotos_command.specs.Request.{RequestOf, after, check, cover, diagnose, ever, search}
 use Rattle.lotos_command.specs.declared.command.Extent.TheVariants.{Depth, Length}
 
 pub simple_and_free : is_simple_and_free lotosseq ≡ true
@@ -195,3 +195,32 @@ after_has_no_explain = refl
 after_needs_a_term : fault_of lotosseq (codes "lotosseq" ∷ codes "after" ∷ codes "--terms=0" ∷ []) ≡ ValueValidation ∷ []
 unfolding clap_on_literals
 after_needs_a_term = refl
+
+bare_cover_asks : RequestOf (codes "lotosseq" ∷ codes "cover" ∷ [])
+    (cover (record { limit = None; after = None; terms = 100000; states = 1000000; strong = false; progress = false }))
+unfolding clap_on_literals
+bare_cover_asks = record { faultless = refl; reads = refl }
+
+abbrev cover_row : List Text
+cover_row =
+    codes "lotosseq" ∷ codes "cover" ∷ codes "--after" ∷ codes "A B" ∷ codes "--limit=4" ∷ codes "--strong" ∷ codes "--terms" ∷ codes "7"
+    ∷ codes "--progress" ∷ codes "--states=100000000" ∷ []
+
+cover_asks : RequestOf cover_row (cover (record {
+  limit = Some 4;
+  after = Some (codes "A B");
+  terms = 7;
+  states = 100000000;
+  strong = true;
+  progress = true;
+}))
+unfolding clap_on_literals
+cover_asks = record { faultless = refl; reads = refl }
+
+cover_takes_no_word : fault_of lotosseq (codes "lotosseq" ∷ codes "cover" ∷ codes "A" ∷ []) ≡ UnknownArgument ∷ []
+unfolding clap_on_literals
+cover_takes_no_word = refl
+
+cover_needs_a_set : fault_of lotosseq (codes "lotosseq" ∷ codes "cover" ∷ codes "--states=0" ∷ []) ≡ ValueValidation ∷ []
+unfolding clap_on_literals
+cover_needs_a_set = refl

@@ -1,4 +1,4 @@
--- Words without a fault name `search`, `check`, `ever` or `after`, with entries that can be read.
+-- Words without a fault name `search`, `check`, `ever`, `after` or `cover`, with entries that can be read.
 use Rattle.std.proofs.Common.{◌≡◌, ◌∙◌, ◌≤◌, ◌||◌, ◌==◌, ℕ, Bool, cond, true, false, not, refl, sym, ap, subst, arith, List, [], ◌∷◌, length, Option, Some, None, codes, drop, find, is_some, inl, inr}
 use Rattle.std.specs.Prelude.{IfSome, IsSomeAnd, slice_get, pos, unwrap_or}
 use Rattle.std.specs.Option.{option_map, option_map_or, option_and_then}
@@ -20,7 +20,7 @@ use Rattle.clap.specs.Kinds.{value_kinds}
 use Rattle.clap.specs.Faults.{check_fault, entered_fault, fault_of, level_fault, values_fault}
 use Rattle.clap.specs.declared.error.kind.ErrorKind.TheVariants as kind
 use Rattle.lotos_command.specs.CommandRules.{lotosseq}
-use Rattle.lotos_command.specs.EntryRules.{FitsAfter, FitsCheck, FitsEver, FitsRequest, FitsSearch, IsNumberIn, IsTruthText}
+use Rattle.lotos_command.specs.EntryRules.{FitsAfter, FitsCheck, FitsCover, FitsEver, FitsRequest, FitsSearch, IsNumberIn, IsTruthText}
 use Rattle.lotos_command.specs.Request.{number}
 use Rattle.lotos_command.proofs.KindsAbsent.{both_empty, not_empty}
 use Rattle.lotos_command.proofs.ReadyArguments.{Each, IsOrdinary, IsReady, counts, each_found}
@@ -145,8 +145,11 @@ ever_shape = first (others (others whole.subs))
 abbrev after_shape : Shape
 after_shape = first (others (others (others whole.subs)))
 
+abbrev cover_shape : Shape
+cover_shape = first (others (others (others (others whole.subs))))
+
 abbrev help_shape : Shape
-help_shape = first (others (others (others (others whole.subs))))
+help_shape = first (others (others (others (others (others whole.subs)))))
 
 top_is_ordinary : Each (IsOrdinary whole.top.rules) whole.top.rules
 top_is_ordinary = (record { own = refl; no_count = refl }, (record { own = refl; no_count = refl }, tt))
@@ -205,6 +208,24 @@ after_is_ordinary = (
   (
     after_is_ordinary_here _ refl refl,
     (after_is_ordinary_here _ refl refl, (after_is_ordinary_here _ refl refl, (after_is_ordinary_here _ refl refl, tt))),
+  ),
+)
+
+cover_is_ordinary_here : (rule : Rule) → arg_by_id cover_shape.rules rule.id ≡ Some rule → counts (action_of rule) ≡ false → IsOrdinary cover_shape.rules rule
+cover_is_ordinary_here rule own once = record { own = own; no_count = once }
+
+cover_is_ordinary : Each (IsOrdinary cover_shape.rules) cover_shape.rules
+cover_is_ordinary = (
+  cover_is_ordinary_here _ refl refl,
+  (
+    cover_is_ordinary_here _ refl refl,
+    (
+      cover_is_ordinary_here _ refl refl,
+      (
+        cover_is_ordinary_here _ refl refl,
+        (cover_is_ordinary_here _ refl refl, (cover_is_ordinary_here _ refl refl, (cover_is_ordinary_here _ refl refl, tt))),
+      ),
+    ),
   ),
 )
 
@@ -278,42 +299,67 @@ after_fits rows all = record {
       (entry_fits after_shape.rules rows all (codes "progress") _ refl);
 }
 
--- the subcommand that a word names, given whether it is `search`, `check`, `ever`, `after` or `help`
-abbrev named : Bool → Bool → Bool → Bool → Bool → Option Shape
-named is_search is_check is_ever is_after is_help =
+cover_fits : (rows : List Row) → Each (IsReady cover_shape.rules) rows → FitsCover rows
+cover_fits rows all = record {
+  limit = if_some_more _ (IsNumberIn 1 1000000000) (one_of (codes "limit") rows)
+      (λ t read. subst (IsNumberIn 1 1000000000) (sym read.is) (signed_is_within 1 1000000000 read.value read.accepted))
+      (entry_fits cover_shape.rules rows all (codes "limit") _ refl);
+  terms = if_some_more _ (IsNumberIn 1 1000000) (one_of (codes "terms") rows)
+      (λ t read. subst (IsNumberIn 1 1000000) (sym read.is)
+      (record { numeral = read.accepted.0; least = read.accepted.2; most = read.accepted.3 }))
+      (entry_fits cover_shape.rules rows all (codes "terms") _ refl);
+  states = if_some_more _ (IsNumberIn 1 100000000) (one_of (codes "states") rows)
+      (λ t read. subst (IsNumberIn 1 100000000) (sym read.is)
+      (record { numeral = read.accepted.0; least = read.accepted.2; most = read.accepted.3 }))
+      (entry_fits cover_shape.rules rows all (codes "states") _ refl);
+  strong = if_some_more _ IsTruthText (one_of (codes "strong") rows)
+      (λ t read. subst IsTruthText (sym read.is) read.accepted)
+      (entry_fits cover_shape.rules rows all (codes "strong") _ refl);
+  progress = if_some_more _ IsTruthText (one_of (codes "progress") rows)
+      (λ t read. subst IsTruthText (sym read.is) read.accepted)
+      (entry_fits cover_shape.rules rows all (codes "progress") _ refl);
+}
+
+-- the subcommand that a word names, given whether it is `search`, `check`, `ever`, `after`, `cover` or `help`
+abbrev named : Bool → Bool → Bool → Bool → Bool → Bool → Option Shape
+named is_search is_check is_ever is_after is_cover is_help =
     cond (is_search || false) (Some search_shape)
     (cond (is_check || false) (Some check_shape)
     (cond (is_ever || false) (Some ever_shape)
-    (cond (is_after || false) (Some after_shape) (cond (is_help || false) (Some help_shape) None))))
+    (cond (is_after || false) (Some after_shape)
+    (cond (is_cover || false) (Some cover_shape) (cond (is_help || false) (Some help_shape) None)))))
 
 stop_fits : (rows : List Row) (stop : Option (Text × List Text)) → StopsWell whole.top (names_of whole) top_is_ordinary stop
     → entered_fault whole stop ≡ [] → check_fault whole.top rows (is_some (entered whole stop)) ≡ [] → FitsRequest (entered whole stop)
 stop_fits rows None well below check = absurd (not_empty _ _ check)
 stop_fits rows (Some p) well below check =
     go (bytes_eq (codes "search") p.0) (bytes_eq (codes "check") p.0) (bytes_eq (codes "ever") p.0) (bytes_eq (codes "after") p.0)
-    (bytes_eq (codes "help") p.0) refl below check
+    (bytes_eq (codes "cover") p.0) (bytes_eq (codes "help") p.0) refl below check
   where
-    go : (is_search is_check is_ever is_after is_help : Bool) → bytes_eq (codes "help") p.0 ≡ is_help
-        → option_map_or (λ s. level_fault s [] nothing_held p.1 false []) (named is_search is_check is_ever is_after is_help) [] ≡ []
-        → check_fault whole.top rows (is_some (option_map (λ s. rows_at s p.1) (named is_search is_check is_ever is_after is_help))) ≡ []
-        → FitsRequest (option_map (λ s. rows_at s p.1) (named is_search is_check is_ever is_after is_help))
-    go true is_check is_ever is_after is_help e under check =
+    go : (is_search is_check is_ever is_after is_cover is_help : Bool) → bytes_eq (codes "help") p.0 ≡ is_help
+        → option_map_or (λ s. level_fault s [] nothing_held p.1 false []) (named is_search is_check is_ever is_after is_cover is_help) [] ≡ []
+        → check_fault whole.top rows (is_some (option_map (λ s. rows_at s p.1) (named is_search is_check is_ever is_after is_cover is_help))) ≡ []
+        → FitsRequest (option_map (λ s. rows_at s p.1) (named is_search is_check is_ever is_after is_cover is_help))
+    go true is_check is_ever is_after is_cover is_help e under check =
         let left = level_leaves search_shape [] search_is_ordinary p.1 false [] under in
         inl (refl, search_fits _ left.ready)
-    go false true is_ever is_after is_help e under check =
+    go false true is_ever is_after is_cover is_help e under check =
         let left = level_leaves check_shape [] check_is_ordinary p.1 false [] under in
         inr (inl (refl, check_fits _ left.ready))
-    go false false true is_after is_help e under check =
+    go false false true is_after is_cover is_help e under check =
         let left = level_leaves ever_shape [] ever_is_ordinary p.1 false [] under in
         inr (inr (inl (refl, ever_fits _ left.ready)))
-    go false false false true is_help e under check =
+    go false false false true is_cover is_help e under check =
         let left = level_leaves after_shape [] after_is_ordinary p.1 false [] under in
-        inr (inr (inr (refl, after_fits _ left.ready)))
-    go false false false false true e under check =
+        inr (inr (inr (inl (refl, after_fits _ left.ready))))
+    go false false false false true is_help e under check =
+        let left = level_leaves cover_shape [] cover_is_ordinary p.1 false [] under in
+        inr (inr (inr (inr (refl, cover_fits _ left.ready))))
+    go false false false false false true e under check =
         let name : codes "help" ≡ p.0 = (bytes_eq-Decides (codes "help") p.0).0 e in
         let bad : true ≡ false = subst (AsksNoHelp whole.top (names_of whole) top_is_ordinary) (sym name) well in
         cc
-    go false false false false false e under check = absurd (not_empty _ _ check)
+    go false false false false false false e under check = absurd (not_empty _ _ check)
 
 pub request_fits : (words : List Text) → fault_of lotosseq words ≡ [] → FitsRequest (subcommand_of lotosseq words)
 request_fits words e =

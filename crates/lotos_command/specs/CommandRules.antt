@@ -118,6 +118,14 @@ after_rules = terms_rule ∷ strong_rule ∷ progress_rule ∷ words_rule ∷ []
 abbrev pub after_app : App
 after_app = with_rules (new_app (codes "after")) after_rules
 
+-- the arguments of `cover`, in the order of its help
+abbrev pub cover_rules : List Rule
+cover_rules = limit_rule ∷ terms_rule ∷ states_rule ∷ after_rule ∷ strong_rule ∷ progress_rule ∷ []
+
+-- `cover [--limit N] [--terms N] [--states N] [--after LINE] [--strong] [--progress]`
+abbrev pub cover_app : App
+cover_app = with_rules (new_app (codes "cover")) cover_rules
+
 -- the arguments of `check`, in the order of its help
 abbrev pub check_rules : List Rule
 check_rules = explain_rule ∷ warn_rule ∷ []
@@ -133,7 +141,7 @@ with_subcommands app (subcommand ∷ subcommands) = with_subcommands (with_subco
 
 -- the subcommands, in the order of the help
 abbrev pub subcommand_apps : List App
-subcommand_apps = search_app ∷ check_app ∷ ever_app ∷ after_app ∷ []
+subcommand_apps = search_app ∷ check_app ∷ ever_app ∷ after_app ∷ cover_app ∷ []
 
 -- `lotosseq`, which has a version and needs one of its subcommands
 abbrev pub lotosseq : App

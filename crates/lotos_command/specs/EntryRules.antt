@@ -39,14 +39,23 @@ pub record FitsAfter (rows : List Row) : Type 0 where
   pub strong : IfSome (one_of (codes "strong") rows) IsTruthText
   pub progress : IfSome (one_of (codes "progress") rows) IsTruthText
 
+-- the numbers among the entries of `cover` are within their bounds, and the flags can be read
+pub record FitsCover (rows : List Row) : Type 0 where
+  pub limit : IfSome (one_of (codes "limit") rows) (IsNumberIn 1 1000000000)
+  pub terms : IfSome (one_of (codes "terms") rows) (IsNumberIn 1 1000000)
+  pub states : IfSome (one_of (codes "states") rows) (IsNumberIn 1 100000000)
+  pub strong : IfSome (one_of (codes "strong") rows) IsTruthText
+  pub progress : IfSome (one_of (codes "progress") rows) IsTruthText
+
 -- the flags among the entries of `check` can be read
 pub record FitsCheck (rows : List Row) : Type 0 where
   pub explain : IfSome (one_of (codes "explain") rows) IsTruthText
   pub warn : IfSome (one_of (codes "warn") rows) IsTruthText
 
--- `search`, `check`, `ever` or `after` was given, and its entries can be read
+-- `search`, `check`, `ever`, `after` or `cover` was given, and its entries can be read
 abbrev pub FitsRequest : Option (Text × List Row) → Type 0
 FitsRequest None = ⊥
 FitsRequest (Some p) =
     ((p.0 ≡ codes "search") × FitsSearch p.1) ⊎ (((p.0 ≡ codes "check") × FitsCheck p.1)
-    ⊎ (((p.0 ≡ codes "ever") × FitsEver p.1) ⊎ ((p.0 ≡ codes "after") × FitsAfter p.1)))
+    ⊎ (((p.0 ≡ codes "ever") × FitsEver p.1) ⊎ (((p.0 ≡ codes "after") × FitsAfter p.1)
+    ⊎ ((p.0 ≡ codes "cover") × FitsCover p.1))))

@@ -14,6 +14,7 @@ use Rattle.lotos_command.specs.declared.command.Extent.TheVariants.{Depth, Lengt
 use Rattle.lotos_command.specs.declared.command.SearchRequest.{SearchRequest}
 use Rattle.lotos_command.specs.declared.command.EverRequest.{EverRequest}
 use Rattle.lotos_command.specs.declared.command.AfterRequest.{AfterRequest}
+use Rattle.lotos_command.specs.declared.command.CoverRequest.{CoverRequest}
 
 -- the view of a search: texts for strings
 pub record SearchView : Type 0 where
@@ -42,6 +43,15 @@ pub record AfterView : Type 0 where
   pub progress : Bool
   pub words : List Text
 
+-- the view of a request for sequences that together show all that can be observed: texts for strings
+pub record CoverView : Type 0 where
+  pub limit : Option ℕ
+  pub after : Option Text
+  pub terms : ℕ
+  pub states : ℕ
+  pub strong : Bool
+  pub progress : Bool
+
 -- the view of a request: texts for strings
 pub data RequestView : Type 0 where
   check : RequestView
@@ -49,6 +59,7 @@ pub data RequestView : Type 0 where
   search : SearchView → RequestView
   ever : EverView → RequestView
   after : AfterView → RequestView
+  cover : CoverView → RequestView
 
 -- the view of this search
 abbrev pub search_view : SearchRequest → SearchView
@@ -83,6 +94,17 @@ after_view request = record {
   words = map string_bytes request.words.items;
 }
 
+-- the view of this request for sequences that together show all that can be observed
+abbrev pub cover_view : CoverRequest → CoverView
+cover_view request = record {
+  limit = request.limit;
+  after = option_map string_bytes request.after;
+  terms = request.terms;
+  states = request.states;
+  strong = request.strong;
+  progress = request.progress;
+}
+
 -- the view of this request
 abbrev pub request_view : Request → RequestView
 request_view request.Check = check
@@ -90,6 +112,7 @@ request_view (request.Diagnose request) = diagnose request
 request_view (request.Search request) = search (search_view request)
 request_view (request.Ever request) = ever (ever_view request)
 request_view (request.After request) = after (after_view request)
+request_view (request.Cover request) = cover (cover_view request)
 
 -- the number of a decimal numeral, perhaps after a plus sign
 abbrev pub number : Text → ℕ
@@ -143,6 +166,17 @@ after_from rows = record {
   words = pattern_words (unwrap_or (all_of (codes "words") rows) []);
 }
 
+-- the request for sequences that show all that can be observed, which the entries of the subcommand `cover` make
+abbrev pub cover_from : List Row → CoverView
+cover_from rows = record {
+  limit = option_map number (one_of (codes "limit") rows);
+  after = first_of (codes "after") rows;
+  terms = option_map_or number (one_of (codes "terms") rows) 100000;
+  states = option_map_or number (one_of (codes "states") rows) 1000000;
+  strong = flag (codes "strong") rows;
+  progress = flag (codes "progress") rows;
+}
+
 -- the check with these diagnostics, or the plain one if it has none
 abbrev pub check_with : DiagnoseRequest → RequestView
 check_with request = if request.explain || request.warn then diagnose request else check
@@ -157,7 +191,8 @@ request_named name rows =
     if bytes_eq name (codes "search") then option_map search (search_from rows)
     else (if bytes_eq name (codes "check") then Some (check_from rows)
     else (if bytes_eq name (codes "ever") then Some (ever (ever_from rows))
-    else (if bytes_eq name (codes "after") then Some (after (after_from rows)) else None)))
+    else (if bytes_eq name (codes "after") then Some (after (after_from rows))
+    else (if bytes_eq name (codes "cover") then Some (cover (cover_from rows)) else None))))
 
 -- the request that the given subcommand with its entries makes, if one was given
 abbrev pub request_from : Option (Text × List Row) → Option RequestView
@@ -178,11 +213,20 @@ pub record HasSearchBounds (request : SearchRequest) : Type 0 where
   pub terms : 1 ≤ request.terms
   pub limit : IfSome request.limit (λ n. 1 ≤ n)
 
--- the bounds of a search, if the request is one; at least one state, if it is a search for a match of any length, and at
--- least one normal form, if it is for what can come after a sequence
+-- the bounds on the normal forms that a prefix reaches and on the sets of these are at least 1, and so is the limit, if
+-- one is given
+pub record HasCoverBounds (request : CoverRequest) : Type 0 where
+  pub terms : 1 ≤ request.terms
+  pub states : 1 ≤ request.states
+  pub limit : IfSome request.limit (λ n. 1 ≤ n)
+
+-- the bounds of a search, if the request is one; at least one state, if it is a search for a match of any length; at
+-- least one normal form, if it is for what can come after a sequence; and the bounds of a cover, if it is for sequences
+-- that show all that can be observed
 abbrev pub HasBounds : Request → Type 0
 HasBounds request.Check = ⊤
 HasBounds (request.Diagnose request) = ⊤
 HasBounds (request.Search request) = HasSearchBounds request
 HasBounds (request.Ever request) = 1 ≤ request.states
 HasBounds (request.After request) = 1 ≤ request.terms
+HasBounds (request.Cover request) = HasCoverBounds request

@@ -15,6 +15,8 @@ pub enum Request {
     Ever(EverRequest),
     /// Tell what can come after a sequence.
     After(AfterRequest),
+    /// List sequences that together show all that can be observed.
+    Cover(CoverRequest),
 }
 
 /// A request for a check with diagnostics, at least one of them. They change neither output nor status.
@@ -89,6 +91,24 @@ pub struct AfterRequest {
     /// The words of the sequence, each a label. The command line may have several of them in one word, with blanks
     /// between.
     pub words: Vec<String>,
+}
+
+/// A request for sequences that together show all that can be observed. The line is as the command line has it, not yet
+/// read as a mark.
+#[derive(Debug, Drop)]
+pub struct CoverRequest {
+    /// The most lines that are written, at least 1; `None` for no limit.
+    pub limit: Option<u32>,
+    /// A line of a listing: only what comes after its sequence is listed. `None` for the whole listing.
+    pub after: Option<String>,
+    /// The most normal forms of terms that a prefix of a sequence may reach, at least 1.
+    pub terms: usize,
+    /// The most sets of normal forms that may be reached, at least 1.
+    pub states: usize,
+    /// Whether internal steps are observed: `i` is then a label like others.
+    pub strong: bool,
+    /// Whether standard error tells how far the search is.
+    pub progress: bool,
 }
 
 /// Why the words make no request.

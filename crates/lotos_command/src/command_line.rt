@@ -2,19 +2,20 @@
 ghost use Rattle.std.specs.Prelude.{◌≡◌, IfOk, false, map};
 ghost use Rattle.clap.specs.Words.{app_of, rule_of};
 ghost use Rattle.clap.specs.declared.builder.command.Command.TheViews.{out-Command as fields_of};
-ghost use Rattle.lotos_command.specs.CommandRules.{AreCommandsOf, after_app, after_rules, check_app, check_rules, ever_app, extent_rule, ever_rules, flag_rule, limit_rule, lotosseq, option_rule, search_app, search_rules, states_rule, subcommand_apps, terms_rule, words_rule};
+ghost use Rattle.lotos_command.specs.CommandRules.{AreCommandsOf, after_app, after_rules, check_app, check_rules, cover_app, cover_rules, ever_app, extent_rule, ever_rules, flag_rule, limit_rule, lotosseq, option_rule, search_app, search_rules, states_rule, subcommand_apps, terms_rule, words_rule};
 
 use crate::help::{
     ABOUT, AFTER_HELP, AFTER_LONG_HELP, CHECK_ABOUT, CHECK_EXPLAIN_HELP, CHECK_EXPLAIN_LONG_HELP,
-    CHECK_LONG_ABOUT, CHECK_STATUSES, DEPTH_HELP, DEPTH_LONG_HELP, EVER_ABOUT, EVER_EXPLAIN_HELP,
-    EVER_EXPLAIN_LONG_HELP, EVER_LONG_ABOUT, EVER_STATUSES, EVER_STRONG_LONG_HELP,
-    EVER_WORDS_LONG_HELP, EXPLAIN_HELP, EXPLAIN_LONG_HELP, KNOWN_HELP, KNOWN_LONG_HELP,
-    LABELS_HELP, LABELS_LONG_HELP, LENGTH_HELP, LENGTH_LONG_HELP, LIMIT_HELP, LIMIT_LONG_HELP,
-    LONG_ABOUT, NEXT_ABOUT, NEXT_LONG_ABOUT, NEXT_STATUSES, NEXT_STRONG_LONG_HELP, NEXT_TERMS_HELP,
+    CHECK_LONG_ABOUT, CHECK_STATUSES, COVER_ABOUT, COVER_LONG_ABOUT, COVER_STATUSES,
+    COVER_STRONG_LONG_HELP, COVER_TERMS_LONG_HELP, DEPTH_HELP, DEPTH_LONG_HELP, EVER_ABOUT,
+    EVER_EXPLAIN_HELP, EVER_EXPLAIN_LONG_HELP, EVER_LONG_ABOUT, EVER_STATUSES,
+    EVER_STRONG_LONG_HELP, EVER_WORDS_LONG_HELP, EXPLAIN_HELP, EXPLAIN_LONG_HELP, KNOWN_HELP,
+    KNOWN_LONG_HELP, LABELS_HELP, LABELS_LONG_HELP, LENGTH_HELP, LENGTH_LONG_HELP, LIMIT_HELP,
+    LIMIT_LONG_HELP, LONG_ABOUT, NEXT_ABOUT, NEXT_LONG_ABOUT, NEXT_STATUSES, NEXT_STRONG_LONG_HELP,
     NEXT_TERMS_LONG_HELP, PROGRESS_HELP, PROGRESS_LONG_HELP, SEARCH_ABOUT, SEARCH_LONG_ABOUT,
-    SEARCH_STATUSES, SEARCH_USAGE, STATES_HELP, STATES_LONG_HELP, STATUSES, STRONG_HELP,
-    STRONG_LONG_HELP, TERMS_HELP, TERMS_LONG_HELP, VERSION, WARN_HELP, WARN_LONG_HELP, WORDS_HELP,
-    WORDS_LONG_HELP,
+    SEARCH_STATUSES, SEARCH_USAGE, SETS_HELP, SETS_LONG_HELP, STATES_HELP, STATES_LONG_HELP,
+    STATUSES, STRONG_HELP, STRONG_LONG_HELP, TERMS_HELP, TERMS_LONG_HELP, VERSION, WARN_HELP,
+    WARN_LONG_HELP, WORDS_HELP, WORDS_LONG_HELP,
 };
 use clap::{Arg, ArgAction, Command, value_parser};
 use std::alloc::{AllocError, Global};
@@ -41,6 +42,7 @@ fn subcommands<'a>(alloc: Global) -> Result<Vec<Command<'a>>, AllocError>
     all.push(check_command(alloc)?)?;
     all.push(ever_command(alloc)?)?;
     all.push(after_command(alloc)?)?;
+    all.push(cover_command(alloc)?)?;
     Ok(all)
 }
 
@@ -65,7 +67,7 @@ fn search_args<'a>(alloc: Global) -> Result<Vec<Arg<'a>>, AllocError>
         extent_arg(alloc, "depth", DEPTH_HELP, DEPTH_LONG_HELP),
         extent_arg(alloc, "length", LENGTH_HELP, LENGTH_LONG_HELP),
         limit_arg(alloc),
-        terms_arg(alloc, TERMS_HELP, TERMS_LONG_HELP),
+        terms_arg(alloc, TERMS_LONG_HELP),
         option(alloc, "after", "LINE", AFTER_HELP, AFTER_LONG_HELP),
         flag(alloc, "explain", EXPLAIN_HELP, EXPLAIN_LONG_HELP),
         flag(alloc, "strong", STRONG_HELP, STRONG_LONG_HELP),
@@ -119,7 +121,7 @@ fn ever_args<'a>(alloc: Global) -> Result<Vec<Arg<'a>>, AllocError>
     ensures { IfOk result (λ args. map rule_of args.items ≡ ever_rules) }
 {
     Ok(vec![in alloc;
-        states_arg(alloc),
+        states_arg(alloc, STATES_HELP, STATES_LONG_HELP),
         flag(alloc, "explain", EVER_EXPLAIN_HELP, EVER_EXPLAIN_LONG_HELP),
         flag(alloc, "strong", STRONG_HELP, EVER_STRONG_LONG_HELP),
         flag(alloc, "progress", PROGRESS_HELP, PROGRESS_LONG_HELP),
@@ -144,10 +146,36 @@ fn after_args<'a>(alloc: Global) -> Result<Vec<Arg<'a>>, AllocError>
     ensures { IfOk result (λ args. map rule_of args.items ≡ after_rules) }
 {
     Ok(vec![in alloc;
-        terms_arg(alloc, NEXT_TERMS_HELP, NEXT_TERMS_LONG_HELP),
+        terms_arg(alloc, NEXT_TERMS_LONG_HELP),
         flag(alloc, "strong", STRONG_HELP, NEXT_STRONG_LONG_HELP),
         flag(alloc, "progress", PROGRESS_HELP, PROGRESS_LONG_HELP),
         words_arg(alloc, "LABEL", LABELS_HELP, LABELS_LONG_HELP),
+    ]?)
+}
+
+fn cover_command<'a>(alloc: Global) -> Result<Command<'a>, AllocError>
+    ensures app { IfOk result (λ c. app_of c ≡ cover_app) }
+    ensures local { IfOk result (λ c. (fields_of c).has_globals ≡ false) }
+{
+    let args = cover_args(alloc)?;
+    Command::new(alloc, "cover")
+        .about(COVER_ABOUT)
+        .long_about(COVER_LONG_ABOUT)
+        .after_help(COVER_STATUSES)
+        .args(args)
+}
+
+/// The arguments of `cover`, in the order of its help.
+fn cover_args<'a>(alloc: Global) -> Result<Vec<Arg<'a>>, AllocError>
+    ensures { IfOk result (λ args. map rule_of args.items ≡ cover_rules) }
+{
+    Ok(vec![in alloc;
+        limit_arg(alloc),
+        terms_arg(alloc, COVER_TERMS_LONG_HELP),
+        states_arg(alloc, SETS_HELP, SETS_LONG_HELP),
+        option(alloc, "after", "LINE", AFTER_HELP, AFTER_LONG_HELP),
+        flag(alloc, "strong", STRONG_HELP, COVER_STRONG_LONG_HELP),
+        flag(alloc, "progress", PROGRESS_HELP, PROGRESS_LONG_HELP),
     ]?)
 }
 
@@ -165,18 +193,18 @@ fn limit_arg<'a>(alloc: Global) -> Arg<'a>
     option(alloc, "limit", "N", LIMIT_HELP, LIMIT_LONG_HELP).value_parser(limits)
 }
 
-fn terms_arg<'a>(alloc: Global, help: &'a str, long_help: &'a str) -> Arg<'a>
+fn terms_arg<'a>(alloc: Global, long_help: &'a str) -> Arg<'a>
     ensures { rule_of result ≡ terms_rule }
 {
-    option(alloc, "terms", "N", help, long_help)
+    option(alloc, "terms", "N", TERMS_HELP, long_help)
         .value_parser(value_parser!(usize).range(1..=1000000))
         .default_value("100000")
 }
 
-fn states_arg<'a>(alloc: Global) -> Arg<'a>
+fn states_arg<'a>(alloc: Global, help: &'a str, long_help: &'a str) -> Arg<'a>
     ensures { rule_of result ≡ states_rule }
 {
-    option(alloc, "states", "N", STATES_HELP, STATES_LONG_HELP)
+    option(alloc, "states", "N", help, long_help)
         .value_parser(value_parser!(usize).range(1..=100000000))
         .default_value("1000000")
 }

@@ -14,7 +14,8 @@ standard output. A file is given by `< FILE`, as in
   lotosseq check < ring.lotos
 `lotosseq check --help` tells of the static rules, `lotosseq search --help` of the
 listing, its options and the words of a pattern, `lotosseq ever --help` of matches of
-any length, and `lotosseq after --help` of what can come after a sequence.";
+any length, `lotosseq after --help` of what can come after a sequence, and
+`lotosseq cover --help` of sequences that show all that can be observed.";
 
 pub(crate) const STATUSES: &str = "Statuses:
   0  the specification is accepted, the listing is complete and has lines, there is a
@@ -24,7 +25,7 @@ pub(crate) const STATUSES: &str = "Statuses:
   2  the command, its words, the mark or the specification is refused, or cannot
      be read
   3  the limit of lines is reached
-  4  a prefix reaches too many terms, or there are too many states
+  4  a prefix reaches too many terms, or there are too many states or sets
   5  out of memory
   6  the output cannot be written";
 
@@ -338,16 +339,12 @@ pub(crate) const NEXT_STATUSES: &str = "Statuses:
   5  out of memory
   6  the output cannot be written";
 
-pub(crate) const NEXT_TERMS_HELP: &str =
-    "The most terms that a beginning of the sequence may reach, 1 to 1000000";
+pub(crate) const NEXT_TERMS_LONG_HELP: &str = "The most terms that a prefix may reach, 1 to 1000000
 
-pub(crate) const NEXT_TERMS_LONG_HELP: &str =
-    "The most terms that a beginning of the sequence may reach, 1 to 1000000
-
-The beginning reaches the terms in which derivations that show it end; their normal
-forms count. If one reaches more, the search stops with status 4. For example, with
-`--terms 1` and the specification's behaviour `i; a; stop` it stops at once: with no
-label, two terms are reached.";
+A prefix is a beginning of the sequence. It reaches the terms in which derivations
+that show it end; their normal forms count. If one reaches more, the search stops with
+status 4. For example, with `--terms 1` and the specification's behaviour `i; a; stop`
+it stops at once: with no label, two terms are reached.";
 
 pub(crate) const NEXT_STRONG_LONG_HELP: &str = "Makes the internal action `i` a label like others
 
@@ -363,3 +360,56 @@ Each is a gate of the specification's own list, or `exit` for successful termina
 upper or lower case; several may stand in one pair of quotes. With none, it is told what
 can come at first. `i` is a label only with `--strong`, as the internal action cannot be
 observed.";
+
+pub(crate) const COVER_ABOUT: &str = "Lists sequences that show all that can be observed";
+
+pub(crate) const COVER_LONG_ABOUT: &str = "Lists sequences that show all that can be observed
+
+Reads a specification in basic LOTOS from standard input (a file is given by `< FILE`)
+and writes a listing to standard output: a finite test suite.
+
+A sequence reaches the terms in which derivations that show it end, of any number of
+steps. For each set of terms, taken by their normal forms, the listing has the first
+sequence that reaches just this set with each label that can come after it, after
+internal steps or none. A sequence with which another one begins is left out.
+
+Each sequence occurs once, on a line of its own: its labels, separated by one
+blank. Shorter sequences come first, and sequences of one length in the order of
+their labels: gates by their names, then `exit`.
+
+For example, with the specification
+  specification S [a,b] : noexit behaviour P[a,b]
+  where process P [x,y] : noexit := x; (x; stop [] y; P[x,y]) endproc endspec
+the command `lotosseq cover` lists
+  A A
+  A B
+as after `A B` the system is where it began.";
+
+pub(crate) const COVER_STATUSES: &str = "Statuses:
+  0  the listing is complete and has lines
+  1  the listing is complete and has none
+  2  the command, the mark or the specification is refused, or cannot be read
+  3  the limit of lines is reached
+  4  a prefix reaches too many terms, or there are too many sets
+  5  out of memory
+  6  the output cannot be written";
+
+pub(crate) const COVER_TERMS_LONG_HELP: &str = "The most terms that a prefix may reach, 1 to 1000000
+
+A prefix is a beginning of a line. It reaches the terms in which derivations that show
+it end; their normal forms count. The search stops with status 4 at the first prefix
+that reaches more. For example, with `--terms 1` the specification's behaviour
+`i; a; stop` stops the search at `<empty>`, which reaches two terms.";
+
+pub(crate) const SETS_HELP: &str = "The most sets that may be reached, 1 to 100000000";
+
+pub(crate) const SETS_LONG_HELP: &str = "The most sets that may be reached, 1 to 100000000
+
+A set has the normal forms of all terms that a sequence reaches. If more sets than
+these are reached, the search stops with status 4. For example, for `a; b; stop` it
+stops with `--states 2`, as `<empty>`, `A` and `A B` reach three sets.";
+
+pub(crate) const COVER_STRONG_LONG_HELP: &str = "Makes the internal action `i` a label like others
+
+Sequences then show internal steps. For example, `i; a; stop` with `--strong` has
+  i A";

@@ -11,6 +11,7 @@ mod help;
 mod request_reading;
 
 pub use command::{
-    AfterRequest, CommandFault, DiagnoseRequest, EverRequest, Extent, Request, SearchRequest,
+    AfterRequest, CommandFault, CoverRequest, DiagnoseRequest, EverRequest, Extent, Request,
+    SearchRequest,
 };
 pub use request_reading::request;

@@ -5,12 +5,13 @@ ghost use Rattle.clap.specs.Walk.{texts as texts_of};
 ghost use Rattle.clap.specs.declared.error.kind.ErrorKind.TheVariants as ErrorKind;
 ghost use Rattle.clap.specs.Words.{all_of, first_of, found_of, kind_of, one_of, rows_of, subcommand_rows_of};
 ghost use Rattle.lotos_command.specs.CommandFaults.{AreAccepted, IsExtentFault, IsFaultOf, IsFaultOfEntries, IsFaultOfKind};
-ghost use Rattle.lotos_command.specs.EntryRules.{FitsAfter, FitsCheck, FitsEver, FitsRequest, FitsSearch, IsNumberIn, IsTruthText};
+ghost use Rattle.lotos_command.specs.EntryRules.{FitsAfter, FitsCheck, FitsCover, FitsEver, FitsRequest, FitsSearch, IsNumberIn, IsTruthText};
 ghost use Rattle.lotos_command.specs.PatternWords.{parts_between_blanks, pattern_words, pattern_words_in};
-ghost use Rattle.lotos_command.specs.Request.{HasBounds, HasSearchBounds, RequestOf, after_from, after_view, check_from, ever_from, ever_view, extent_from, flag, number, request_from, request_view, search_from, search_view};
+ghost use Rattle.lotos_command.specs.Request.{HasBounds, HasCoverBounds, HasSearchBounds, RequestOf, after_from, after_view, check_from, cover_from, cover_view, ever_from, ever_view, extent_from, flag, number, request_from, request_view, search_from, search_view};
 
 use crate::command::{
-    AfterRequest, CommandFault, DiagnoseRequest, EverRequest, Extent, Request, SearchRequest,
+    AfterRequest, CommandFault, CoverRequest, DiagnoseRequest, EverRequest, Extent, Request,
+    SearchRequest,
 };
 use crate::command_line::{lotosseq_command, search_command};
 use crate::help::{NO_EXTENT, TWO_EXTENTS};
@@ -21,7 +22,7 @@ use std::alloc::{AllocError, Global};
 /// The most terms that a prefix may reach unless `--terms` is given.
 const DEFAULT_TERMS: usize = 100_000;
 
-/// The most product states that may be stored unless `--states` is given.
+/// The most product states that may be stored, or sets that may be reached, unless `--states` is given.
 const DEFAULT_STATES: usize = 1_000_000;
 
 /// The request that the words of a command line make. The first word is the program's own name.
@@ -62,6 +63,8 @@ fn read_request(alloc: Global, found: &ArgMatches<'_>) -> Result<Request, Comman
         Ok(Request::Ever(read_ever_request(alloc, given)?))
     } else if name == "after" {
         Ok(Request::After(read_after_request(alloc, given)?))
+    } else if name == "cover" {
+        Ok(Request::Cover(read_cover_request(alloc, given)?))
     } else {
         Ok(read_check_request(given))
     }
@@ -130,6 +133,25 @@ fn read_after_request(alloc: Global, found: &ArgMatches<'_>) -> Result<AfterRequ
         strong,
         progress,
         words: read_words(alloc, found)?,
+    })
+}
+
+fn read_cover_request(alloc: Global, found: &ArgMatches<'_>) -> Result<CoverRequest, AllocError>
+    requires { FitsCover (rows_of (found_of found.now)) }
+    ensures is { IfOk result (λ r. cover_from (rows_of (found_of found.now)) ≡ cover_view r) }
+    ensures bounds { IfOk result HasCoverBounds }
+{
+    let limit = read_limit(found);
+    let states = read_states(found);
+    let strong = read_strong(found);
+    let progress = read_progress(found);
+    Ok(CoverRequest {
+        limit,
+        after: read_after(alloc, found)?,
+        terms: read_terms(found),
+        states,
+        strong,
+        progress,
     })
 }
 

@@ -62,11 +62,11 @@ pub fn hint_after_refusal<E: Write>(
     }
 }
 
-/// Gives the hint if the words fit no command and are those of a check and a file. The first of them is the program's
-/// own name.
+/// Gives the hint if the words fit no command and are those of a command without words and a file. The first of them is
+/// the program's own name.
 pub fn hint_after_fault<E: Write>(fault: &CommandFault, words: &[&str], err: &mut E) {
-    if matches!(fault, CommandFault::Wrong(_)) && is_check_of_file(words) {
-        write_hint("check", err);
+    if let (CommandFault::Wrong(_), Some(command)) = (fault, command_of_file(words)) {
+        write_hint(command, err);
     }
 }
 
@@ -150,13 +150,20 @@ fn is_sign(letter: char) -> bool {
     letter == '<' || letter == '>'
 }
 
-/// Whether the words name the command `check`, and one of the others is no option.
-fn is_check_of_file(words: &[&str]) -> bool {
+/// The command without words that these words name, if one of the others is that of a file: one that is no option of
+/// `check`, or that ends as the name of a file, as options of `cover` have values.
+fn command_of_file(words: &[&str]) -> Option<&'static str> {
     match words {
         [_program, command, others @ ..] => {
-            *command == "check" && others.iter().any(|word| !word.starts_with("-"))
+            if *command == "check" && others.iter().any(|word| !word.starts_with("-")) {
+                Some("check")
+            } else if *command == "cover" && others.iter().any(|word| word.ends_with(EXTENSION)) {
+                Some("cover")
+            } else {
+                None
+            }
         }
-        _ => false,
+        _ => None,
     }
 }
 

@@ -16,8 +16,8 @@ mod warning_lines;
 
 pub use hints::{WordCommand, hint_after_fault, hint_after_refusal};
 pub use messages::{
-    Messages, report_after_stop, report_ever_stop, report_failure, report_label, report_no_match,
-    report_refusal, report_stop, report_text,
+    Bounds, Messages, report_after_stop, report_ever_stop, report_failure, report_label,
+    report_no_match, report_refusal, report_stop, report_text,
 };
 pub use name_hints::{NameHint, NamePlaces, UnknownName, first_name_hint, warn_of_names};
 pub use outcome::{AfterEnded, AfterWhy, Ended, EverEnded, EverWhy, Why};

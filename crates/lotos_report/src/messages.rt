@@ -19,10 +19,18 @@ pub fn report_refusal<E: Write>(err: &mut E, refusal: &Refusal) {
     let _ = writeln!(err, "lotosseq: {refusal}");
 }
 
-/// Reports after which sequence a listing stopped, if a line was written, and why. `terms` is the bound on the terms of
-/// a prefix.
-pub fn report_stop<E: Write>(err: &mut E, last: &Option<String>, why: &Why, terms: usize) {
-    let cause = CauseText { why, terms };
+/// The bounds of a listing that a message may name.
+#[derive(Clone, Copy, Debug)]
+pub struct Bounds {
+    /// The most terms that a prefix may reach.
+    pub terms: usize,
+    /// The most sets of normal forms that may be reached; 0 for a search, which has no such bound.
+    pub states: usize,
+}
+
+/// Reports after which sequence a listing stopped, if a line was written, and why.
+pub fn report_stop<E: Write>(err: &mut E, last: &Option<String>, why: &Why, bounds: Bounds) {
+    let cause = CauseText { why, bounds };
     let _ = match last {
         Some(sequence) => writeln!(err, "lotosseq: stopped after {sequence}: {cause}"),
         None => writeln!(err, "lotosseq: stopped before the first line: {cause}"),
@@ -31,7 +39,11 @@ pub fn report_stop<E: Write>(err: &mut E, last: &Option<String>, why: &Why, term
 
 /// Reports why a run without a listing failed.
 pub fn report_failure<E: Write>(err: &mut E, why: &Why) {
-    let _ = writeln!(err, "lotosseq: {}", CauseText { why, terms: 0 });
+    let bounds = Bounds {
+        terms: 0,
+        states: 0,
+    };
+    let _ = writeln!(err, "lotosseq: {}", CauseText { why, bounds });
 }
 
 /// Reports that there is no match of any length.
@@ -99,11 +111,11 @@ pub fn report_text<E: Write>(err: &mut E, text: &str) {
     let _ = write!(err, "{text}");
 }
 
-/// The text of a cause; `terms` is the bound on the terms of a prefix.
+/// The text of a cause.
 #[derive(Drop)]
 struct CauseText<'a> {
     why: &'a Why,
-    terms: usize,
+    bounds: Bounds,
 }
 
 impl fmt::Display for CauseText<'_> {
@@ -111,7 +123,12 @@ impl fmt::Display for CauseText<'_> {
         match self.why {
             Why::Limit => f.write_str("limit reached"),
             Why::OverTerms(prefix) => {
-                write!(f, "more than {} terms at {prefix}", NumberText(self.terms))
+                let terms = NumberText(self.bounds.terms);
+                write!(f, "more than {terms} terms at {prefix}")
+            }
+            Why::OverStates => {
+                let states = NumberText(self.bounds.states);
+                write!(f, "more than {states} sets; --states N allows more")
             }
             Why::Memory => f.write_str("E99 out of memory"),
             Why::Write => f.write_str("output cannot be written"),

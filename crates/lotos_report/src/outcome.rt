@@ -2,7 +2,7 @@
 
 use crate::refusal::Refusal;
 
-/// How a search or a check ended.
+/// How a listing or a check ended.
 #[derive(Debug, Drop)]
 pub enum Ended {
     /// Everything was written and flushed: `lines` lines, or more if this is the greatest `u64`.
@@ -24,13 +24,16 @@ impl Ended {
     }
 }
 
-/// Why a search or a check stopped. A check stops only for [`Why::Memory`] and [`Why::Write`].
+/// Why a listing or a check stopped. A check stops only for [`Why::Memory`] and [`Why::Write`], and a search not for
+/// [`Why::OverStates`].
 #[derive(Debug, Drop)]
 pub enum Why {
     /// As many lines as the limit were written.
     Limit,
     /// The text of the first oversized prefix: a prefix that can still match and reaches more terms than the bound.
     OverTerms(String),
+    /// More sets of normal forms were reached than the request for a cover allows.
+    OverStates,
     /// Out of memory.
     Memory,
     /// The output could not be written or flushed.

@@ -11,6 +11,8 @@ pub enum Visited {
     States,
     /// The beginnings of a sequence.
     Labels,
+    /// Sets of normal forms.
+    Sets,
 }
 
 /// The number of visits at the first report.
@@ -52,7 +54,7 @@ impl<'a, E: Write> ProgressReport<'a, E> {
         &mut self.messages.stream
     }
 
-    /// Notes a visit of a prefix or a state of this length, and reports when it is time to.
+    /// Notes a visit of a prefix, a state or a set of this length, and reports when it is time to.
     pub fn visit(&mut self, length: usize) {
         self.counts.visits = self.counts.visits.saturating_add(1);
         self.counts.length = self.counts.length.max(length);
@@ -98,7 +100,8 @@ struct Counts {
     visited: Visited,
     /// The number of visits.
     visits: usize,
-    /// The greatest length of what was visited: of prefixes in labels, of states in steps.
+    /// The greatest length of what was visited: of prefixes in labels, of states in steps, of sets in the labels of the
+    /// first sequence that reaches each.
     length: usize,
     /// The number of lines.
     lines: usize,
@@ -115,6 +118,10 @@ impl fmt::Display for Counts {
             }
             Visited::States => write!(f, "{length} steps, {visits} states"),
             Visited::Labels => write!(f, "{length} labels"),
+            Visited::Sets => {
+                let lines = NumberText(self.lines);
+                write!(f, "length {length}, {visits} sets, {lines} lines")
+            }
         }
     }
 }

@@ -1,15 +1,14 @@
 -- The outcome of `after` for the request and the text, from that for a system and a sequence.
-use Rattle.std.proofs.Common.{◌≡◌, ◌∙◌, ℕ, ◌<◌, Bool, List, Err, Ok, Option, Result, false, length, take, ap, refl, sym, subst, arith}
+use Rattle.std.proofs.Common.{◌≡◌, ℕ, List, Err, Ok, Option, Result, false, length, take, refl, sym, subst, arith}
 use Rattle.std.specs.Prelude.{IfErr, MatchBool}
 use Rattle.std.specs.Io.KnownBytes.{Appends}
 use Rattle.std.proofs.KnownBytes.{Keeps-refl}
 use Rattle.std.proofs.lemmas.List.{take_all}
-use Rattle.std.proofs.lemmas.List.Splits.{slice_split_none}
 use Rattle.std.specs.declared.string.String.{String}
 use Rattle.std.specs.declared.vec.Vec.{Vec}
 use Rattle.std.specs.declared.alloc.Global.{Global}
 use Rattle.lotos_check.specs.Flat.{System}
-use Rattle.lotos_check.specs.NameLists.{In, Name}
+use Rattle.lotos_check.specs.NameLists.{Name}
 use Rattle.lotos_pattern.specs.Patterns.{Pattern}
 use Rattle.lotos_pattern.specs.Spelling.{NamesEach}
 use Rattle.lotos_listing.specs.Lookups.{term_at}

@@ -9,13 +9,13 @@ use Rattle.lotos_check.specs.CheckedView.{process_of}
 use Rattle.lotos_check.specs.declared.resolved.Process.{Process}
 use Rattle.lotos_device.specs.TextInput.{ReadsAll}
 use Rattle.lotos_tool.specs.CheckOutcome.{CheckOutcome, ProcessesOutcome}
-use Rattle.lotos_tool.specs.OutcomeFlags.{is_input_fault, is_output_fault}
-use Rattle.lotos_tool.specs.OutputLines.{check_lines}
+use Rattle.lotos_output.specs.WriteFaults.{is_output_fault}
+use Rattle.lotos_output.specs.OutputLines.{check_lines}
 use Rattle.lotos_tool.specs.ProgramRuns.{CheckReported, TextReported, check_status_of}
 use Rattle.lotos_tool.specs.ProgramRuns.TextReported.{accepted, rejected}
 use Rattle.lotos_tool.specs.RefusalCauses.{IsInputRefusal}
-use Rattle.lotos_tool.specs.Rejections.{IsRejectionBy, end_of, is_input_failure}
-use Rattle.lotos_tool.specs.SearchParts.{IsFinished}
+use Rattle.lotos_tool.specs.Rejections.{IsRejectionBy, end_of, is_input_failure, is_input_fault}
+use Rattle.lotos_output.specs.FlushOutcome.{IsFinished}
 use Rattle.lotos_tool.specs.QuestionParts.{ReadsAccepted}
 use Rattle.lotos_report.specs.declared.outcome.Ended.{Ended}
 use Rattle.lotos_report.specs.declared.outcome.Ended.TheVariants.{Complete, Refused, Stopped}
@@ -34,6 +34,7 @@ processes_ended got mid got' system lines (Complete counted) front count h = (Ap
 processes_ended got mid got' system lines (Refused cause) front count h = absurd h
 processes_ended got mid got' system lines (Stopped kept why.Limit) front count h = absurd h
 processes_ended got mid got' system lines (Stopped kept (why.OverTerms prefix)) front count h = absurd h
+processes_ended got mid got' system lines (Stopped kept why.OverStates) front count h = absurd h
 processes_ended got mid got' system lines (Stopped kept why.Memory) front count h = absurd h
 processes_ended got mid got' system lines (Stopped kept why.Write) front count h = (
   record {
@@ -52,6 +53,7 @@ check_ended left left' got got' system (Complete counted) read h = record { syst
 check_ended left left' got got' system (Refused cause) read h = absurd h
 check_ended left left' got got' system (Stopped last why.Limit) read h = absurd h
 check_ended left left' got got' system (Stopped last (why.OverTerms prefix)) read h = absurd h
+check_ended left left' got got' system (Stopped last why.OverStates) read h = absurd h
 check_ended left left' got got' system (Stopped last why.Memory) read h = record {
   unwritten = record { taken = taken_all left left' system read; kept = h.0 };
   no_line = h.1;

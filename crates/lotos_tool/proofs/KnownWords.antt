@@ -1,20 +1,20 @@
 -- Words that each name a label, of which none names an unknown gate.
-use Rattle.std.proofs.Common.{◌≡◌, ◌||◌, ◌&&◌, ℕ, Bool, true, false, List, [], ◌∷◌, Some, sym, subst, inl, inr, refl, arith}
-use Rattle.std.specs.Prelude.{◌==◌, All, IsTrue, slice_get}
+use Rattle.std.proofs.Common.{◌≡◌, ℕ, Bool, false, List, [], ◌∷◌, sym, subst, inl, refl, arith}
+use Rattle.std.specs.Prelude.{◌==◌, All, IsTrue}
 use Rattle.std.specs.List.{AllByRecursion}
-use Rattle.std.specs.Char.{is_ascii_alphabetic, is_ascii_alphanumeric}
+use Rattle.std.specs.Char.{is_ascii_alphabetic}
 use Rattle.std.proofs.lemmas.Bool.Decides.{nat_tests}
 use Rattle.std.proofs.lemmas.List.Elements.{All-cons, All-nil}
 use Rattle.std.proofs.lemmas.List.Splits.{slice_split_none}
 use Rattle.lotos_check.specs.Flat.{System}
-use Rattle.lotos_check.specs.NameLists.{In, Name}
+use Rattle.lotos_check.specs.NameLists.{In}
 use Rattle.lotos_check.proofs.JoinedLists.{in_front}
 use Rattle.lotos_check.proofs.ListIndices.{in_get}
 use Rattle.lotos_pattern.specs.PatternLabels.{Label}
 use Rattle.lotos_pattern.specs.Spelling.{IsWord, NamesEach, Text, is_word_byte, parts_of}
 use Rattle.lotos_pattern.proofs.LabelNames.{each_is_word}
 use Rattle.lotos_terms.specs.TableView.{IsTableOf, TableView}
-use Rattle.lotos_after.specs.LabelWords.{HasGate, HaveGates}
+use Rattle.lotos_after.specs.LabelWords.{HaveGates}
 use Rattle.lotos_tool.specs.UnknownGates.{HasNoUnknownGate}
 
 letter_no_comma : (b : ℕ) → IsTrue (is_ascii_alphabetic b) → (b == 44) ≡ false

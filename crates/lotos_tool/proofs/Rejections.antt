@@ -1,5 +1,5 @@
 -- What rejections of the parts of a question mean.
-use Rattle.std.proofs.Common.{◌≡◌, ℕ, ◌+◌, Bool, List, [], Option, Some, Result, Ok, Err, IfErr, false, arith, refl, string_bytes, subst, sym}
+use Rattle.std.proofs.Common.{◌≡◌, ℕ, ◌+◌, Bool, List, [], Option, Some, Result, Ok, Err, false, arith, refl, string_bytes, subst, sym}
 use Rattle.std.specs.Prelude.{IsErrAnd}
 use Rattle.std.proofs.KnownBytes.{Consumes-nil, Keeps-refl}
 use Rattle.std.specs.declared.string.String.{String}
@@ -125,6 +125,13 @@ pub mark_was_read : (T : Type 0) (strong : Bool) (line : Option (String Global))
     is_input_failure {T = T} (Err u) ≡ false
 mark_was_read T strong _ _ (no_mark line h) = refl
 mark_was_read T strong _ _ (mark_memory line) = refl
+
+-- a line that is rejected is rejected as a part of any question
+pub mark_means : (Means : Option (List ℕ) → Option (List ℕ) → Refusal → Type 0) (strong : Bool) (after : Option (String Global)) (left : Option (List ℕ))
+    (u : Rejection) → ((line : String Global) → after ≡ Some line → IsMarkFault strong (string_bytes line) mark_fault.E46 → Means left left (refusal.Mark mark_fault.E46)) →
+    IsMarkRejection strong after u → IsRejectionBy Means left left u
+mark_means Means strong _ left _ means (no_mark line h) = means line refl h
+mark_means Means strong _ left _ means (mark_memory line) = nothing_taken left
 
 -- ---- the gates that words name
 

@@ -1,8 +1,6 @@
 -- The question and the outcome of a search, from the request and the text.
 use Rattle.std.proofs.Common.{◌≡◌, ◌∙◌, ℕ, List, Option, ap, false, true, inl, inr, refl, sym, subst}
 use Rattle.std.proofs.KnownBytes.{Keeps-refl}
-use Rattle.std.specs.declared.string.String.{String}
-use Rattle.std.specs.declared.alloc.Global.{Global}
 use Rattle.lotos_check.specs.Flat.{System}
 use Rattle.lotos_terms.specs.TableView.{TableView}
 use Rattle.lotos_pattern.specs.Patterns.{Pattern}
@@ -13,14 +11,14 @@ use Rattle.lotos_listing.specs.Question.{IsQuestionOf}
 use Rattle.lotos_length.specs.LengthListings.{IsLengthQuestionOf, LengthQuestion}
 use Rattle.lotos_length.specs.LengthSteps as length
 use Rattle.lotos_length.specs.LengthSteps.{LengthState}
-use Rattle.lotos_tool.specs.ListingQuestions.{ListingQuestion, ListingState, depth_state, length_state, pattern_of}
-use Rattle.lotos_tool.specs.OutcomeFlags.{is_input_fault}
+use Rattle.lotos_tool.specs.ListingOutcome.{ListingOutcome}
+use Rattle.lotos_tool.specs.declared.listing_output.ListingOptions.{ListingOptions}
+use Rattle.lotos_tool.specs.ListingQuestions.{HasBoundsOf, IsOneSetTooMany, ListingQuestion, ListingState, by_cover, by_depth, by_length, depth_state, length_state}
 use Rattle.lotos_tool.specs.QuestionParts.{IsMarkOf, ReadsAccepted, words_of}
 use Rattle.lotos_tool.specs.RefusalCauses.{IsInputRefusal, IsSearchRefusal}
-use Rattle.lotos_tool.specs.Rejections.{IsGateRejection, IsMarkRejection, IsPatternRejection, IsRejectionBy, end_of}
-use Rattle.lotos_tool.specs.Rejections.IsMarkRejection.{mark_memory, no_mark}
-use Rattle.lotos_tool.specs.SearchOutcome.{AreSearchParts, IsQuestionOfText, SearchOutcome}
-use Rattle.lotos_tool.specs.SearchParts.{IsOutcomeFor, IsSearchFor, ListingOutcome}
+use Rattle.lotos_tool.specs.Rejections.{IsGateRejection, IsMarkRejection, IsPatternRejection, IsRejectionBy, end_of, is_input_fault}
+use Rattle.lotos_tool.specs.SearchOutcome.{AreSearchParts, IsQuestionOfText, SearchOutcome, options_of}
+use Rattle.lotos_tool.specs.SearchParts.{IsOutcomeFor, IsSearchFor}
 use Rattle.lotos_report.specs.declared.refusal.Refusal.{Refusal}
 use Rattle.lotos_report.specs.declared.refusal.Refusal.TheVariants as refusal
 use Rattle.lotos_tool.specs.declared.rejection.Rejection.{Rejection}
@@ -30,7 +28,7 @@ use Rattle.lotos_report.specs.declared.outcome.Ended.TheVariants.{Complete, Refu
 use Rattle.lotos_report.specs.declared.outcome.Why.TheVariants as why
 use Rattle.lotos_command.specs.declared.command.Extent.TheVariants.{Depth, Length}
 use Rattle.lotos_command.specs.declared.command.SearchRequest.{SearchRequest}
-use Rattle.lotos_tool.proofs.Rejections.{gate_means, input_means, nothing_taken, pattern_means, taken_all}
+use Rattle.lotos_tool.proofs.Rejections.{gate_means, input_means, mark_means, pattern_means, taken_all}
 
 -- a search of the system that began with the request's depth and terms is one for the request
 pub asked_of : (request : SearchRequest) (system : System) (held : TableView) (p : Pattern) (mark : Option (List Label)) (depth : ℕ) (search : SearchState) →
@@ -66,26 +64,34 @@ pub asks : (request : SearchRequest) (left left' : Option (List ℕ)) (system : 
     IsQuestionOfText request left left' (search.question, search.cursor)
 asks request left left' system p mark search parts begun = record {
   system = system;
-  parts = subst (λ c. AreSearchParts request left left' system (pattern_of search.question) c) (sym begun.cursor)
-      (subst (λ pattern. AreSearchParts request left left' system pattern mark) (sym begun.pattern) parts);
+  pattern = p;
+  parts = subst (AreSearchParts request left left' system p) (sym begun.cursor) parts;
+  asks = begun.pattern;
   question = begun.question;
   bounds = begun.bounds;
 }
 
 -- no outcome of a listing is an input fault
-pub no_input_fault : (request : SearchRequest) (got got' : Option (List ℕ)) (q : ListingQuestion) (mark : Option (List Label)) (ended : Ended) →
-    ListingOutcome request q mark got got' ended → is_input_fault ended ≡ false
-no_input_fault request got got' q mark (Complete lines) h = refl
-no_input_fault request got got' q mark (Refused cause) h = absurd h
-no_input_fault request got got' q mark (Stopped last why) h = refl
+pub no_input_fault : (options : ListingOptions) (got got' : Option (List ℕ)) (q : ListingQuestion) (mark : Option (List Label)) (ended : Ended) →
+    ListingOutcome options q mark got got' ended → is_input_fault ended ≡ false
+no_input_fault options got got' q mark (Complete lines) h = refl
+no_input_fault options got got' q mark (Refused cause) h = absurd h
+no_input_fault options got got' q mark (Stopped last why) h = refl
+
+-- no sequence leads to one set too many
+never_too_many : (request : SearchRequest) (q : ListingQuestion) (r : List Label) → HasBoundsOf request q → IsOneSetTooMany q r → ⊥
+never_too_many request (by_depth q) r bounds h = h
+never_too_many request (by_length q) r bounds h = h
+never_too_many request (by_cover q) r bounds h = absurd bounds
 
 -- the outcome of the listing is that of the search
 pub answered : (request : SearchRequest) (left left' got got' : Option (List ℕ)) (q : ListingQuestion) (mark : Option (List Label)) (ended : Ended) →
-    IsQuestionOfText request left left' (q, mark) → ListingOutcome request q mark got got' ended → SearchOutcome request left left' got got' ended
+    IsQuestionOfText request left left' (q, mark) → ListingOutcome (options_of request) q mark got got' ended → SearchOutcome request left left' got got' ended
 answered request left left' got got' q mark (Complete lines) asks h = ((q, mark), asks, h)
 answered request left left' got got' q mark (Refused cause) asks h = absurd h
 answered request left left' got got' q mark (Stopped last why.Limit) asks h = ((q, mark), asks, h)
 answered request left left' got got' q mark (Stopped last (why.OverTerms prefix)) asks h = ((q, mark), asks, h)
+answered request left left' got got' q mark (Stopped last why.OverStates) asks h = absurd (never_too_many request q h.r asks.bounds h.too_many)
 answered request left left' got got' q mark (Stopped last why.Memory) asks h = inr ((q, mark), asks, h)
 answered request left left' got got' q mark (Stopped last why.Write) asks h = ((q, mark), asks, h)
 
@@ -103,7 +109,7 @@ told request left left' got got' system p mark ended parts h = elim h [
 pub told_was_read : (request : SearchRequest) (got got' : Option (List ℕ)) (system : System) (p : Pattern) (mark : Option (List Label)) (ended : Ended) →
     IsOutcomeFor request system p mark got got' ended → is_input_fault ended ≡ false
 told_was_read request got got' system p mark ended h = elim h [
-  | inl begun ↦ no_input_fault request got got' begun.0.question begun.0.cursor ended begun.2
+  | inl begun ↦ no_input_fault (options_of request) got got' begun.0.question begun.0.cursor ended begun.2
   | inr stopped ↦ subst (λ (e : Ended). is_input_fault e ≡ false) (sym stopped.0) refl
 ]
 
@@ -123,19 +129,8 @@ module _ (request : SearchRequest) (left : Option (List ℕ)) where
   -- a line that is not one of a listing
   pub mark_rejects : (p : Pattern) (u : Rejection) → PatternOf request.strong (words_of request.words) p → IsMarkRejection request.strong request.after u →
       IsRejectionBy (IsSearchRefusal request) left left u
-  mark_rejects p u spelled h = go request.after refl u h
-    where
-      go : (after : Option (String Global)) → request.after ≡ after → (u : Rejection) → IsMarkRejection request.strong after u →
-          IsRejectionBy (IsSearchRefusal request) left left u
-      go _ given _ (no_mark line none) = record {
-        kept = Keeps-refl left;
-        pattern = p;
-        spelled = spelled;
-        line = line;
-        given = given;
-        never = none;
-      }
-      go _ given _ (mark_memory line) = nothing_taken left
+  mark_rejects p u spelled h = mark_means (IsSearchRefusal request) request.strong request.after left u
+      (λ line given none. record { kept = Keeps-refl left; pattern = p; spelled = spelled; line = line; given = given; never = none }) h
 
 module _ (request : SearchRequest) (left left' : Option (List ℕ)) where
   -- a text that is refused

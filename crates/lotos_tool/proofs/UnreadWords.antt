@@ -33,9 +33,9 @@ answered words Memory left got got' failed status unfailed any taken answer = re
 -- memory may run out whatever the words are
 pub unread : (words : List (List ℕ)) (left got : Option (List ℕ)) (failed : Bool) → failed ≡ false → Ran words left left got got failed 5
 unread words left got failed unfailed =
-    inr (inr (inr (inr (record {
+    inr (inr (inr (inr (inr (record {
       kept = Keeps-refl left;
       unfailed = unfailed;
       reported = out_of_memory refl (Keeps-refl got);
       taken = λ t. refl;
-    }))))
+    })))))

@@ -1,6 +1,5 @@
 -- What each outcome of the command `after` means.
-use Rattle.std.specs.Prelude.{◌≡◌, ℕ, ◌+◌, ◌<◌, Bool, true, false, List, MatchBool, Option, Some, None, length, take}
-use Rattle.std.specs.Prelude.{string_bytes}
+use Rattle.std.specs.Prelude.{◌≡◌, ℕ, ◌+◌, ◌<◌, Bool, true, false, List, MatchBool, Option, length, take}
 use Rattle.std.specs.Io.KnownBytes.{Appends, Keeps}
 use Rattle.std.specs.declared.string.String.{String}
 use Rattle.std.specs.declared.alloc.Global.{Global}
@@ -10,7 +9,7 @@ use Rattle.lotos_listing.specs.Order.{Label}
 use Rattle.lotos_after.specs.Behaviours.{Behaviour, CanBeObserved, CanComeAfter, CanEndInDeadlock, IsBehaviourOf}
 use Rattle.lotos_after.specs.Behaviours.{IsFirstOversized, IsFollowedTo}
 use Rattle.lotos_device.specs.ByteOutput.{AppendsBeginning}
-use Rattle.lotos_tool.specs.OutputLines.{next_lines, sequence_text}
+use Rattle.lotos_output.specs.OutputLines.{IsTextOf, next_lines}
 use Rattle.lotos_tool.specs.QuestionParts.{ForQuestion, ReadsAccepted, words_of}
 use Rattle.lotos_tool.specs.RefusalCauses.{IsAfterRefusal}
 use Rattle.lotos_tool.specs.Rejections.{IsOutOfMemory, is_unreadable}
@@ -40,11 +39,6 @@ pub record IsAfterQuestionOfText (request : AfterRequest) (left left' : Option (
   -- the behaviour is that of the system, with internal steps observed if the request says so
   pub behaviour : IsBehaviourOf system asked.0
   pub strong : asked.0.strong ≡ request.strong
-
--- the text of labels, if there are any
-abbrev pub IsTextOf : List Label → Option (String Global) → Type 0
-IsTextOf next None = length next ≡ 0
-IsTextOf next (Some text) = (0 < length next) × (string_bytes text ≡ sequence_text next)
 
 module _ (b : Behaviour) (s : List Label) where
   -- these labels can come after the sequence, and it is known whether it can end in a deadlock

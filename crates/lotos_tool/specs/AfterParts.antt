@@ -2,7 +2,6 @@
 use Rattle.std.specs.Prelude.{◌≡◌, ◌≢◌, ℕ, ◌+◌, ◌<◌, Bool, List, Option, length, take}
 use Rattle.std.specs.Io.KnownBytes.{Appends, Keeps}
 use Rattle.std.specs.declared.string.String.{String}
-use Rattle.std.specs.declared.vec.Vec.{Vec}
 use Rattle.std.specs.declared.alloc.Global.{Global}
 use Rattle.lotos_check.specs.Flat.{System}
 use Rattle.lotos_check.specs.NameLists.{Name}
@@ -14,8 +13,8 @@ use Rattle.lotos_after.specs.declared.sequence.Followed.{Followed as Reached}
 use Rattle.lotos_after.specs.declared.follow_fault.FollowFault.{FollowFault}
 use Rattle.lotos_after.specs.declared.follow_fault.FollowFault.TheVariants as fault
 use Rattle.lotos_device.specs.ByteOutput.{AppendsBeginning}
-use Rattle.lotos_tool.specs.AfterOutcome.{AreNext, IsLabelRefused, IsNextCutOff, IsNextWritten, IsTextOf, IsTooManyForms}
-use Rattle.lotos_tool.specs.OutputLines.{next_lines}
+use Rattle.lotos_tool.specs.AfterOutcome.{AreNext, IsLabelRefused, IsNextCutOff, IsNextWritten, IsTooManyForms}
+use Rattle.lotos_output.specs.OutputLines.{IsTextOf, next_lines}
 use Rattle.lotos_tool.specs.QuestionParts.{ForQuestion}
 use Rattle.lotos_report.specs.declared.outcome.AfterEnded.{AfterEnded}
 use Rattle.lotos_report.specs.declared.outcome.AfterEnded.TheVariants.{CannotCome, Followed, Refused, Stopped}

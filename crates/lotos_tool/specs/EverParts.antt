@@ -11,7 +11,7 @@ use Rattle.lotos_ever.specs.declared.found.Halt.{Halt}
 use Rattle.lotos_ever.specs.declared.found.Halt.TheVariants as halt
 use Rattle.lotos_device.specs.ByteOutput.{AppendsBeginning}
 use Rattle.lotos_tool.specs.EverOutcome.{IsMatchWritten, IsMatchLineCut, IsNoMatch, IsTooManyStates, item_of}
-use Rattle.lotos_tool.specs.OutputLines.{line_of}
+use Rattle.lotos_output.specs.OutputLines.{line_of}
 use Rattle.lotos_tool.specs.QuestionParts.{ForQuestion}
 use Rattle.lotos_report.specs.declared.outcome.EverEnded.{EverEnded}
 use Rattle.lotos_report.specs.declared.outcome.EverEnded.TheVariants.{Matched, NoMatch, Refused, Stopped}

@@ -5,9 +5,8 @@ use Rattle.lotos_tool.specs.SearchOutcome.{SearchOutcome}
 use Rattle.lotos_check.specs.AcceptedText.{Accepted}
 use Rattle.lotos_check.specs.Flat.{System}
 use Rattle.lotos_tool.specs.CheckOutcome.{CheckOutcome, ProcessesOutcome}
-use Rattle.lotos_tool.specs.Rejections.{IsRejection, end_of}
+use Rattle.lotos_tool.specs.Rejections.{IsRejection, end_of, is_input_fault}
 use Rattle.lotos_tool.specs.declared.rejection.Rejection.{Rejection}
-use Rattle.lotos_tool.specs.OutcomeFlags.{is_input_fault}
 use Rattle.lotos_command.specs.CommandFaults.{AreAccepted, AreRejected, AskForHelp}
 use Rattle.lotos_command.specs.Request.{RequestOf, request_view}
 use Rattle.lotos_device.specs.ByteOutput.{AppendsBeginning}
@@ -25,7 +24,9 @@ use Rattle.lotos_report.specs.declared.outcome.AfterEnded.{AfterEnded}
 use Rattle.lotos_report.specs.declared.outcome.AfterEnded.TheVariants as after
 use Rattle.lotos_report.specs.declared.outcome.AfterWhy.{AfterWhy}
 use Rattle.lotos_report.specs.declared.outcome.AfterWhy.TheVariants as after_why
+use Rattle.lotos_tool.specs.CoverOutcome.{CoverOutcome}
 use Rattle.lotos_command.specs.declared.command.AfterRequest.{AfterRequest}
+use Rattle.lotos_command.specs.declared.command.CoverRequest.{CoverRequest}
 use Rattle.lotos_command.specs.declared.command.SearchRequest.{SearchRequest}
 use Rattle.lotos_command.specs.declared.command.DiagnoseRequest.{DiagnoseRequest}
 use Rattle.lotos_command.specs.declared.command.EverRequest.{EverRequest}
@@ -33,10 +34,12 @@ use Rattle.lotos_command.specs.declared.command.Request.TheVariants as command
 use Rattle.lotos_command.specs.declared.command.CommandFault.{CommandFault}
 use Rattle.lotos_command.specs.declared.command.CommandFault.TheVariants as fault
 
--- the status of a stop: 3 at the limit, 4 at an oversized prefix, 5 out of memory, 6 if the output could not be written
+-- the status of a stop: 3 at the limit, 4 at an oversized prefix or a set too many, 5 out of memory, 6 if the output
+-- could not be written
 abbrev pub stop_status_of : Why → ℕ
 stop_status_of why.Limit = 3
 stop_status_of (why.OverTerms prefix) = 4
+stop_status_of why.OverStates = 4
 stop_status_of why.Memory = 5
 stop_status_of why.Write = 6
 
@@ -161,6 +164,18 @@ pub record AfterRan (words : List (List ℕ)) (left left' got got' : Option (Lis
   pub asked : RequestOf words (request_view (command.After request))
   pub reported : AfterReported request left left' got got' failed status
 
+-- a cover had an outcome, and the status is that of the outcome, as for a search
+abbrev pub CoverReported : CoverRequest → (left left' got got' : Option (List ℕ)) → Bool → ℕ → Type 0
+CoverReported request left left' got got' failed status =
+    Reported Ended (CoverOutcome request left left' got got') is_input_fault status_of failed status
+
+-- the words ask for a cover, which had an outcome, and the status is that of the outcome
+pub record CoverRan (words : List (List ℕ)) (left left' got got' : Option (List ℕ)) (failed : Bool) (status : ℕ)
+    : Type 0 where
+  pub request : CoverRequest
+  pub asked : RequestOf words (request_view (command.Cover request))
+  pub reported : CoverReported request left left' got got' failed status
+
 -- the text was written and the status is 0, or the output failed after a prefix of it, perhaps all of it, and the
 -- status is 6
 pub data TextWritten (got got' : Option (List ℕ)) (text : List ℕ) (status : ℕ) : Type 0 where
@@ -195,7 +210,7 @@ abbrev pub Ran : List (List ℕ) → (left left' got got' : Option (List ℕ)) �
 Ran words left left' got got' failed status =
     SearchRan words left left' got got' failed status ⊎ CheckRan words left left' got got' failed status
     ⊎ EverRan words left left' got got' failed status ⊎ AfterRan words left left' got got' failed status
-    ⊎ NoCommandRan words left left' got got' failed status
+    ⊎ CoverRan words left left' got got' failed status ⊎ NoCommandRan words left left' got got' failed status
 
 -- no argument could be read: nothing was read or written, and the status is that of out of memory
 pub record NoArgumentRead (left left' got got' : Option (List ℕ)) (failed : Bool) (status : ℕ) : Type 0 where

@@ -104,6 +104,11 @@ abbrev pub is_unreadable : Refusal → Bool
 is_unreadable refusal.E47 = true
 is_unreadable _ = false
 
+-- the outcome of a search or a check is that the reader failed
+abbrev pub is_input_fault : Ended → Bool
+is_input_fault (ended.Refused cause) = is_unreadable cause
+is_input_fault _ = false
+
 -- the result is that the reader failed
 abbrev pub is_input_failure : {T : Type 0} → Result T Rejection → Bool
 is_input_failure (Err (Refused cause)) = is_unreadable cause

@@ -13,9 +13,6 @@ ghost use Rattle.lotos_tool.specs.AfterParts.{AreWritten, HasAnswer, HasNoAnswer
 ghost use Rattle.lotos_tool.specs.RefusalCauses.{IsAfterRefusal};
 ghost use Rattle.lotos_tool.specs.Rejections.{IsRejectionBy, is_input_failure};
 
-use crate::output_flush::write_and_flush;
-use crate::output_lines::{format_labels, format_next};
-use crate::output_progress::OutputProgress;
 use crate::question_parts::refuse_unknown_gates;
 use crate::rejection::{Rejection, after_end_of};
 use crate::specification_input::read_specification;
@@ -26,6 +23,7 @@ use lotos_device::{DeviceFailed, Sink, Source};
 use lotos_ever::laws::table_has_match_question;
 use lotos_listing::Progress;
 use lotos_normal::NormalTable;
+use lotos_output::{OutputProgress, format_labels, format_next, write_and_flush};
 use lotos_report::{AfterEnded, AfterWhy};
 use lotos_sets::FormSets;
 use lotos_text::Name;

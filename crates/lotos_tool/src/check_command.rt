@@ -3,15 +3,15 @@ ghost use Rattle.std.specs.Prelude.{◌≡◌, ◌+◌, ◌≤◌, false};
 ghost use Rattle.lotos_text.specs.Limits.{max_text_length};
 ghost use Rattle.lotos_check.specs.CheckedView.{system_of};
 ghost use Rattle.lotos_tool.specs.CheckOutcome.{CheckOutcome, ProcessesOutcome};
-ghost use Rattle.lotos_tool.specs.OutcomeFlags.{is_input_fault, is_output_fault};
+ghost use Rattle.lotos_tool.specs.Rejections.{is_input_fault};
+ghost use Rattle.lotos_output.specs.WriteFaults.{is_output_fault};
 
-use crate::output_flush::flush_complete;
-use crate::output_lines::format_processes;
 use crate::rejection::end_of;
 use crate::specification_input::read_specification;
 use lotos_check::Checked;
 use lotos_device::{DeviceFailed, Sink, Source, write_bytes};
 use lotos_listing::NoProgress;
+use lotos_output::{flush_complete, format_processes};
 use lotos_report::{Ended, Why};
 use std::alloc::Global;
 

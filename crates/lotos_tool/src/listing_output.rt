@@ -4,40 +4,48 @@ ghost use Rattle.std.specs.Io.KnownBytes.{Appends, Keeps};
 ghost use Rattle.lotos_listing.specs.Order.{Label as Text};
 ghost use Rattle.lotos_listing.specs.Question.{ArePrinted};
 ghost use Rattle.lotos_listing.specs.ListingSteps.{running};
-ghost use Rattle.lotos_tool.specs.ListingQuestions.{names_of};
-ghost use Rattle.lotos_tool.specs.OutcomeFlags.{is_output_fault};
-ghost use Rattle.lotos_tool.specs.OutputLines.{Item, IsItemOf, line_of, sequence_text};
-ghost use Rattle.lotos_tool.specs.SearchParts.{ListingOutcome, IsHalt, IsHaltCause, IsOversizedCause, IsSmall, is_at_limit};
+ghost use Rattle.lotos_tool.specs.ListingQuestions.{IsHalt, names_of};
+ghost use Rattle.lotos_output.specs.OutputLines.{Item, IsItemOf, line_of, sequence_text};
+ghost use Rattle.lotos_tool.specs.ListingOutcome.{ListingOutcome};
+ghost use Rattle.lotos_tool.specs.ListingParts.{IsHaltCause, IsOversizedCause, IsSmall, is_at_limit};
 ghost use Rattle.lotos_device.specs.ByteOutput.{AppendsPart};
-ghost use Rattle.lotos_tool.specs.WriteFaults.{is_write_fault};
+ghost use Rattle.lotos_output.specs.WriteFaults.{is_output_fault, is_write_fault};
 
+use crate::listing_halt::ListingHalt;
 use crate::listing_search::{ListingSearch, items_decrease_remaining};
-use crate::output_flush::{flush_complete, flush_stopped};
-use crate::output_lines::{format_line, format_sequence};
-use crate::output_progress::OutputProgress;
-use lotos_command::SearchRequest;
 use lotos_device::{DeviceFailed, Sink, write_bytes};
+use lotos_listing::Found;
 use lotos_listing::laws::strict_order;
-use lotos_listing::{Found, Halt};
+use lotos_output::{OutputProgress, flush_complete, flush_stopped, format_line, format_sequence};
 use lotos_report::{Ended, Why};
 use lotos_terms::Label;
 use lotos_text::Name;
 use std::alloc::{AllocError, Global};
 
+/// What the output of a listing has, and how long it may be.
+#[derive(Clone, Copy, Debug)]
+pub(crate) struct ListingOptions {
+    /// Whether a line has the run of its sequence.
+    pub explain: bool,
+    /// The greatest number of lines, at least 1.
+    pub limit: Option<u32>,
+}
+
 /// Writes the line of each item as the search returns it, until the listing ends or stops. The search must not have
-/// ended or halted. One flush follows a listing that ends, or stops at the limit or at an oversized prefix. The observer
-/// is told of each prefix that the search visits, and of each line before it is written.
+/// ended or halted. One flush follows a listing that ends, or stops at the limit, at an oversized prefix or at a set of
+/// normal forms too many. The observer is told of each prefix that the search visits, and of each line before it is
+/// written.
 pub fn write_listing<S: ListingSearch, W: Sink, P: OutputProgress>(
     alloc: Global,
-    request: &SearchRequest,
+    options: ListingOptions,
     search: &mut S,
     writer: &mut W,
     progress: &mut P,
 ) -> Ended
     requires begun { (S.state search.old).stage ≡ running }
-    requires limit { IfSome request.now.limit (λ n. 1 ≤ n) }
+    requires limit { IfSome options.limit (λ n. 1 ≤ n) }
     requires unfailed { W.has_failed writer.old ≡ false }
-    ensures ends { ListingOutcome request.now (S.state search.old).question
+    ensures ends { ListingOutcome options (S.state search.old).question
         (S.state search.old).cursor (W.written writer.old) (W.written writer.new) result }
     ensures failed { W.has_failed writer.new ≡ is_output_fault result }
 {
@@ -55,12 +63,12 @@ pub fn write_listing<S: ListingSearch, W: Sink, P: OutputProgress>(
             }
         };
         progress.before_line();
-        match write_item(alloc, search, &found, request.explain, writer) {
+        match write_item(alloc, search, &found, options.explain, writer) {
             Ok(text) => last = Some(text),
             Err(why) => return Ended::Stopped { last, why },
         }
         lines = lines.saturating_add(1);
-        if is_at_limit(lines, request.limit) {
+        if is_at_limit(lines, options.limit) {
             let why = flush_stopped(writer, Why::Limit);
             return Ended::Stopped { last, why };
         }
@@ -117,11 +125,11 @@ fn is_at_limit(lines: u64, limit: Option<u32>) -> bool
     }
 }
 
-/// Why a listing stops, given the halt of a search that was running. Flushes the output at an oversized prefix.
+/// Why a listing stops, given the halt of a search that was running. Flushes the output unless memory ran out.
 fn cause_of_halt<S: ListingSearch, W: Sink>(
     alloc: Global,
     search: &S,
-    halt: &Halt,
+    halt: &ListingHalt,
     writer: &mut W,
 ) -> Why
     requires halt { (cursor : Option (List Text)) × IsHalt (S.state search.now).question cursor halt.now }
@@ -131,11 +139,12 @@ fn cause_of_halt<S: ListingSearch, W: Sink>(
         IsHaltCause (S.state search.now).question cursor (W.has_failed writer.new) result }
 {
     match halt {
-        Halt::OverTerms(prefix) => {
+        ListingHalt::OverTerms(prefix) => {
             oversized_cause(alloc, search.gates(), prefix.as_slice(), writer)
         }
-        Halt::Memory => Why::Memory,
-        Halt::Failed => unreachable!(),
+        ListingHalt::OverStates => flush_stopped(writer, Why::OverStates),
+        ListingHalt::Memory => Why::Memory,
+        ListingHalt::Failed => unreachable!(),
     }
 }
 

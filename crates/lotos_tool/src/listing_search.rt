@@ -1,12 +1,15 @@
-//! The searches for the items of a listing, by depth and by length, as one.
+//! The searches for the items of a listing, by depth, by length and of a cover, as one.
 ghost use Rattle.std.specs.Prelude.{◌<◌, List, Option, Some};
-ghost use Rattle.lotos_listing.specs.Order.{After, Label as Text};
+ghost use Rattle.lotos_listing.specs.Order.{Label as Text};
 ghost use Rattle.lotos_listing.specs.Remaining.{remaining};
-ghost use Rattle.lotos_tool.specs.ListingQuestions.{IsMember, ListingQuestion, most_of, names_of};
+ghost use Rattle.lotos_tool.specs.ListingQuestions.{IsNextItem, ListingQuestion, most_of, names_of};
 
+use crate::listing_halt::ListingHalt;
+use lotos_cover::CoverSearch;
+use lotos_cover::laws::lines_decrease_remaining;
 use lotos_length::LengthSearch;
 use lotos_length::laws::items_by_length_decrease_remaining;
-use lotos_listing::{Found, Halt, Progress, laws};
+use lotos_listing::{Found, Progress, laws};
 use lotos_search::Search;
 use lotos_text::Name;
 
@@ -18,9 +21,10 @@ pub(crate) trait ListingSearch {
     /// Its question; the last item that it returned, or else the mark; and its stage.
     ghost state: { Self → ListingState };
 
-    /// The next item, or `None` at the end of the listing. The observer is told of each prefix but the empty one before
-    /// the search explores it.
-    fn next_item<P: Progress>(&mut self, progress: &mut P) -> Result<Option<Found>, Halt>
+    /// The next item, or `None` at the end of the listing. Halts at the first sequence at which the listing stops, if no
+    /// further item comes before it, and when memory runs out. The observer is told of each prefix but the empty one
+    /// before the search explores it.
+    fn next_item<P: Progress>(&mut self, progress: &mut P) -> Result<Option<Found>, ListingHalt>
         ensures same { (state self.new).question ≡ (state self.old).question }
         ensures next_returns { NextReturns (state self.old) result (state self.new) };
 
@@ -34,8 +38,8 @@ impl ListingSearch for Search {
 
     ghost state = { depth_state };
 
-    fn next_item<P: Progress>(&mut self, progress: &mut P) -> Result<Option<Found>, Halt> {
-        self.next_with_progress(progress)
+    fn next_item<P: Progress>(&mut self, progress: &mut P) -> Result<Option<Found>, ListingHalt> {
+        Ok(self.next_with_progress(progress)?)
     }
 
     fn gates(&self) -> &[Name] {
@@ -48,8 +52,8 @@ impl ListingSearch for LengthSearch {
 
     ghost state = { length_state };
 
-    fn next_item<P: Progress>(&mut self, progress: &mut P) -> Result<Option<Found>, Halt> {
-        self.next_with_progress(progress)
+    fn next_item<P: Progress>(&mut self, progress: &mut P) -> Result<Option<Found>, ListingHalt> {
+        Ok(self.next_with_progress(progress)?)
     }
 
     fn gates(&self) -> &[Name] {
@@ -57,11 +61,27 @@ impl ListingSearch for LengthSearch {
     }
 }
 
-/// After a member that comes after the cursor, fewer sequences remain than after the cursor.
+impl ListingSearch for CoverSearch {
+    ghost use Rattle.lotos_tool.specs.ListingQuestions.{cover_state};
+
+    ghost state = { cover_state };
+
+    fn next_item<P: Progress>(&mut self, progress: &mut P) -> Result<Option<Found>, ListingHalt> {
+        Ok(self.next_with_progress(progress)?)
+    }
+
+    fn gates(&self) -> &[Name] {
+        self.gates()
+    }
+}
+
+/// After the next item fewer sequences remain than after the cursor.
 pub(crate) fn items_decrease_remaining()
-    ensures { (q : ListingQuestion) (cursor : Option (List Text)) (s : List Text) → IsMember q s →
-        After cursor s → remaining (names_of q) (most_of q) (Some s) < remaining (names_of q) (most_of q) cursor }
+    ensures { (q : ListingQuestion) (cursor : Option (List Text)) (s run : List Text) →
+        IsNextItem q cursor s run →
+        remaining (names_of q) (most_of q) (Some s) < remaining (names_of q) (most_of q) cursor }
 {
     laws::items_decrease_remaining();
     items_by_length_decrease_remaining();
+    lines_decrease_remaining();
 }

@@ -1,24 +1,27 @@
 //! The program: from the words of its command line to its exit status.
 ghost use Rattle.std.specs.Prelude.{◌≡◌, ◌+◌, ◌≤◌, ◌==◌, false};
 ghost use Rattle.lotos_text.specs.Limits.{max_text_length};
-ghost use Rattle.lotos_tool.specs.OutcomeFlags.{is_output_cause, is_output_fault};
+ghost use Rattle.lotos_output.specs.WriteFaults.{is_output_cause, is_output_fault};
 ghost use Rattle.lotos_tool.specs.EverOutcome.{is_ever_output_cause, is_ever_output_fault};
 ghost use Rattle.lotos_tool.specs.AfterOutcome.{is_after_output_cause, is_after_output_fault};
-ghost use Rattle.lotos_command.specs.Request.{HasSearchBounds};
+ghost use Rattle.lotos_command.specs.Request.{HasCoverBounds, HasSearchBounds};
 ghost use Rattle.lotos_pattern.specs.Spelling.{texts_of};
-ghost use Rattle.lotos_tool.specs.ProgramRuns.{AfterReported, EverReported, IsAnswerTo, Ran, SearchReported, TextWritten, after_status_of, after_stop_status_of, check_status_of, ever_status_of, ever_stop_status_of, status_of, stop_status_of};
+ghost use Rattle.lotos_tool.specs.ProgramRuns.{AfterReported, CoverReported, EverReported, IsAnswerTo, Ran, SearchReported, TextWritten, after_status_of, after_stop_status_of, check_status_of, ever_status_of, ever_stop_status_of, status_of, stop_status_of};
 
 use crate::after_command::after;
 use crate::check_command::check_text;
+use crate::cover_command::cover;
 use crate::diagnosis::diagnose;
 use crate::ever_command::ever;
-use crate::output_flush::write_and_flush;
 use crate::search_command::list;
 use crate::search_observer::{Observed, SearchObserver};
-use lotos_command::{AfterRequest, CommandFault, EverRequest, Request, SearchRequest, request};
+use lotos_command::{
+    AfterRequest, CommandFault, CoverRequest, EverRequest, Request, SearchRequest, request,
+};
 use lotos_device::{DeviceFailed, Sink, Source};
+use lotos_output::write_and_flush;
 use lotos_report::{
-    AfterEnded, AfterWhy, Ended, EverEnded, EverWhy, Messages, Visited, Why, WordCommand,
+    AfterEnded, AfterWhy, Bounds, Ended, EverEnded, EverWhy, Messages, Visited, Why, WordCommand,
     hint_after_fault, hint_after_refusal, report_after_stop, report_ever_stop, report_failure,
     report_label, report_no_match, report_refusal, report_stop, report_text,
 };
@@ -54,6 +57,7 @@ pub fn run<R: Source, W: Sink, E: Write>(
         Ok(Request::Search(asked)) => run_search(alloc, &asked, reader, out, messages),
         Ok(Request::Ever(asked)) => run_ever(alloc, &asked, reader, out, messages),
         Ok(Request::After(asked)) => run_after(alloc, &asked, reader, out, messages),
+        Ok(Request::Cover(asked)) => run_cover(alloc, &asked, reader, out, messages),
         Err(fault) => end_without_command(&fault, words, out, &mut messages.stream),
     }
 }
@@ -84,7 +88,11 @@ fn run_search<R: Source, W: Sink, E: Write>(
     let mut observer = SearchObserver::new(alloc, observed, messages);
     let ended = list(alloc, request, reader, out, &mut observer);
     let hint = observer.finish();
-    let status = report_search(&ended, request.terms, &mut messages.stream);
+    let bounds = Bounds {
+        terms: request.terms,
+        states: 0,
+    };
+    let status = report_search(&ended, bounds, &mut messages.stream);
     hint_after_refusal(
         alloc,
         WordCommand::Search,
@@ -171,6 +179,38 @@ fn run_after<R: Source, W: Sink, E: Write>(
     status
 }
 
+/// Writes a cover and reports it. Returns the status.
+fn run_cover<R: Source, W: Sink, E: Write>(
+    alloc: Global,
+    request: &CoverRequest,
+    reader: &mut R,
+    out: &mut W,
+    messages: &mut Messages<E>,
+) -> u8
+    requires bounds { HasCoverBounds request.now }
+    requires reader { R.has_failed reader.old ≡ false }
+    requires out { W.has_failed out.old ≡ false }
+    ensures reported { CoverReported request.now (R.remaining reader.old) (R.remaining reader.new)
+        (W.written out.old) (W.written out.new) (R.has_failed reader.new) result }
+    ensures given { R.given reader.new ≤ R.given reader.old + (max_text_length + 1) }
+    ensures output { W.has_failed out.new ≡ (result == 6) }
+{
+    let observed = Observed {
+        words: &[],
+        refuses_unknown: false,
+        reports_progress: request.progress,
+        visited: Visited::Sets,
+    };
+    let mut observer = SearchObserver::new(alloc, observed, messages);
+    let ended = cover(alloc, request, reader, out, &mut observer);
+    let _ = observer.finish();
+    let bounds = Bounds {
+        terms: request.terms,
+        states: request.states,
+    };
+    report_search(&ended, bounds, &mut messages.stream)
+}
+
 /// Answers words that make no request, with a hint if one of them names a file, and returns the status.
 fn end_without_command<W: Sink, E: Write>(
     fault: &CommandFault,
@@ -208,8 +248,8 @@ pub fn report_command_fault<W: Sink, E: Write>(fault: &CommandFault, out: &mut W
     }
 }
 
-/// Reports a search unless it is complete, and returns its status. `terms` is the bound on the terms of a prefix.
-pub fn report_search<E: Write>(ended: &Ended, terms: usize, err: &mut E) -> u8
+/// Reports a search unless it is complete, and returns its status.
+pub fn report_search<E: Write>(ended: &Ended, bounds: Bounds, err: &mut E) -> u8
     ensures status { result ≡ status_of ended.now }
     ensures output { is_output_fault ended.now ≡ (result == 6) }
 {
@@ -221,7 +261,7 @@ pub fn report_search<E: Write>(ended: &Ended, terms: usize, err: &mut E) -> u8
             2
         }
         Ended::Stopped { last, why } => {
-            report_stop(err, last, why, terms);
+            report_stop(err, last, why, bounds);
             stop_status(why)
         }
     }
@@ -322,7 +362,7 @@ fn stop_status(why: &Why) -> u8
 {
     match why {
         Why::Limit => 3,
-        Why::OverTerms(_) => 4,
+        Why::OverTerms(_) | Why::OverStates => 4,
         Why::Memory => 5,
         Why::Write => 6,
     }

@@ -3,9 +3,9 @@ ghost use Rattle.std.specs.Prelude.{◌≡◌, ◌+◌, ◌≤◌, IfErr, IfOk, 
 ghost use Rattle.lotos_text.specs.Limits.{max_text_length};
 ghost use Rattle.lotos_check.specs.CheckedView.{system_of};
 ghost use Rattle.lotos_command.specs.Request.{HasSearchBounds};
-ghost use Rattle.lotos_tool.specs.OutcomeFlags.{is_input_fault, is_output_fault};
+ghost use Rattle.lotos_output.specs.WriteFaults.{is_output_fault};
 ghost use Rattle.lotos_tool.specs.RefusalCauses.{IsSearchRefusal};
-ghost use Rattle.lotos_tool.specs.Rejections.{IsRejectionBy, is_input_failure};
+ghost use Rattle.lotos_tool.specs.Rejections.{IsRejectionBy, is_input_failure, is_input_fault};
 ghost use Rattle.lotos_tool.specs.SearchOutcome.{AreSearchParts, SearchOutcome};
 ghost use Rattle.lotos_tool.specs.ListingQuestions.{depth_state, length_state};
 ghost use Rattle.lotos_tool.specs.SearchParts.{IsOutcomeFor, IsSearchFor};
@@ -13,8 +13,7 @@ ghost use Rattle.lotos_command.specs.declared.command.Extent.TheVariants.{Depth,
 ghost use Rattle.lotos_report.specs.declared.outcome.Ended.TheVariants.{Stopped};
 ghost use Rattle.lotos_report.specs.declared.outcome.Why.TheVariants.{Memory};
 
-use crate::listing_output::write_listing;
-use crate::output_progress::OutputProgress;
+use crate::listing_output::{ListingOptions, write_listing};
 use crate::question_parts::{read_mark, read_pattern, refuse_unknown_gates};
 use crate::rejection::{Rejection, end_of};
 use crate::specification_input::read_specification;
@@ -25,6 +24,7 @@ use lotos_length::LengthSearch;
 use lotos_length::laws::begun_length_search_has_question;
 use lotos_listing::Mark;
 use lotos_normal::NormalTable;
+use lotos_output::OutputProgress;
 use lotos_pattern::Pattern;
 use lotos_report::{Ended, Why};
 use lotos_search::Search;
@@ -42,9 +42,9 @@ use std::alloc::{AllocError, Global};
 /// first of these to be refused is returned with nothing written, and the words and the mark are refused with nothing
 /// read. A line is composed completely before its first byte is written. The listing stops when as many lines as the
 /// limit are written, at the first prefix that can still match and reaches more terms than the request allows (normal
-/// forms, if it has a length), when memory runs out, and when the output cannot be written. A complete listing, be it without lines, and one that stops
-/// at the limit or at such a prefix, ends with one flush. At most one byte more than a text may have is taken from the
-/// reader, whatever it returns. Neither the reader nor the writer may have failed before.
+/// forms, if it has a length), when memory runs out, and when the output cannot be written. A complete listing, be it
+/// without lines, and one that stops at the limit or at such a prefix, ends with one flush. At most one byte more than a
+/// text may have is taken from the reader, whatever it returns. Neither the reader nor the writer may have failed before.
 /// The observer is told when the text is accepted, of each prefix that the search visits, and of each line before it is
 /// written; `NoProgress` is one that does nothing.
 pub fn list<R: Source, W: Sink, P: OutputProgress>(
@@ -111,16 +111,20 @@ fn list_system<W: Sink, P: OutputProgress>(
         (W.written writer.old) (W.written writer.new) result }
     ensures failed { W.has_failed writer.new ≡ is_output_fault result }
 {
+    let options = ListingOptions {
+        explain: request.explain,
+        limit: request.limit,
+    };
     match request.extent {
         Extent::Depth(depth) => {
             match begin_by_depth(alloc, request, depth, system, pattern, mark) {
-                Ok(mut search) => write_listing(alloc, request, &mut search, writer, progress),
+                Ok(mut search) => write_listing(alloc, options, &mut search, writer, progress),
                 Err(AllocError) => out_of_memory(),
             }
         }
         Extent::Length(length) => {
             match begin_by_length(alloc, request, length, system, pattern, mark) {
-                Ok(mut search) => write_listing(alloc, request, &mut search, writer, progress),
+                Ok(mut search) => write_listing(alloc, options, &mut search, writer, progress),
                 Err(AllocError) => out_of_memory(),
             }
         }
@@ -176,7 +180,7 @@ fn begin_by_length(
 }
 
 /// The outcome if memory runs out before the listing begins.
-fn out_of_memory() -> Ended
+pub(crate) fn out_of_memory() -> Ended
     ensures { result ≡ Stopped None Memory }
 {
     Ended::Stopped {

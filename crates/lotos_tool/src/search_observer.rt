@@ -1,9 +1,9 @@
 //! The observer of a command that searches. What it writes to the error stream changes neither output nor status.
 
-use crate::output_progress::OutputProgress;
 use crate::unknown_names::unknown_names;
 use lotos_check::AcceptedText;
 use lotos_listing::Progress;
+use lotos_output::OutputProgress;
 use lotos_report::{
     Messages, NameHint, NamePlaces, ProgressReport, Visited, first_name_hint, warn_of_names,
 };

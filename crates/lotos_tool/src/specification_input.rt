@@ -9,10 +9,10 @@ ghost use Rattle.lotos_tool.specs.RefusalCauses.{IsInputRefusal, IsPositionOf};
 ghost use Rattle.lotos_device.specs.TextInput.{ReadsAll};
 ghost use Rattle.lotos_tool.specs.Rejections.{IsRejection, IsRejectionBy, is_input_failure};
 
-use crate::output_progress::OutputProgress;
 use crate::rejection::Rejection;
 use lotos_check::{AcceptFault, AcceptedText, CheckFault, Checked, accept};
 use lotos_device::{ReadFault, Source, read_text};
+use lotos_output::OutputProgress;
 use lotos_report::Refusal;
 use lotos_text::{TEXT_LIMIT, TextFault, line_column};
 use std::alloc::Global;

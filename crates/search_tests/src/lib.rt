@@ -1,5 +1,5 @@
 //! Tests of searches through public items: tables of listings, marks, small specifications against two oracles, first
-//! matches, sets of normal forms, what observers are told, and the examples of `uses`.
+//! matches, sets of normal forms, covers against a third oracle, what observers are told, and the examples of `uses`.
 //!
 //! They are a crate of their own, because a crate with tests inside is proved twice, and one crate, because each that
 //! runs tests is linked with all libraries below.
@@ -9,6 +9,14 @@
 mod accepted_text;
 #[cfg(test)]
 mod call_tests;
+#[cfg(test)]
+mod cover_comparison;
+#[cfg(test)]
+mod cover_oracle;
+#[cfg(test)]
+mod cover_run;
+#[cfg(test)]
+mod cover_tests;
 #[cfg(test)]
 mod derivation_oracle;
 #[cfg(test)]

@@ -64,7 +64,7 @@ pub struct Listing {
 }
 
 /// The text of a specification, given by its functionality and its behaviour.
-fn specification(alloc: Global, behaviour: &str) -> Result<String, AllocError> {
+pub fn specification(alloc: Global, behaviour: &str) -> Result<String, AllocError> {
     joined(
         alloc,
         &["specification S [a,a1,b,c] : ", behaviour, " endspec"],
@@ -83,9 +83,10 @@ pub fn normal_table_of(alloc: Global, behaviour: &str) -> Result<Box<NormalTable
     normal_table_of_text(alloc, text.as_str())
 }
 
-fn mark_of(alloc: Global, question: Question) -> Result<Option<Mark>, Fail> {
-    match question.mark {
-        Some(line) => Ok(Some(Mark::read(alloc, line, question.strong)?)),
+/// The mark of a line, if there is one.
+pub fn mark_of(alloc: Global, line: Option<&str>, strong: bool) -> Result<Option<Mark>, Fail> {
+    match line {
+        Some(line) => Ok(Some(Mark::read(alloc, line, strong)?)),
         None => Ok(None),
     }
 }
@@ -107,7 +108,7 @@ pub fn begin_with(
     if question.terms == 0 {
         return Err("a bound of no terms")?;
     }
-    let mark = mark_of(alloc, question)?;
+    let mark = mark_of(alloc, question.mark, question.strong)?;
     begin_after(alloc, question, depth, capacity, mark)
 }
 
@@ -184,7 +185,7 @@ fn begin_by_length(
     question: Question,
     length: u8,
 ) -> Result<Box<LengthSearch>, Fail> {
-    let mark = mark_of(alloc, question)?;
+    let mark = mark_of(alloc, question.mark, question.strong)?;
     let pattern = Pattern::read(alloc, question.words, question.strong)?;
     begin_length_pattern(alloc, question, length, pattern, mark)
 }

@@ -24,6 +24,16 @@ pub const SAME_PREFIX: &str =
 pub const HIDDEN_STOP: &str =
     "specification K [a,b] : noexit behaviour a; (i; stop [] b; stop) endspec";
 
+/// A sender repeats a message until it is acknowledged; the media may lose what they carry.
+pub const LINK: &str = "specification Link [put,get] : noexit behaviour
+hide send, frame, reply, ack in (Sender [put,send,ack] ||| Receiver [get,frame,reply])
+|[send,frame,reply,ack]| (Medium [send,frame] ||| Medium [reply,ack])
+where process Sender [put,send,ack] : noexit := put; Sending [put,send,ack]
+where process Sending [put,send,ack] : noexit
+:= send; (ack; Sender [put,send,ack] [] i; Sending [put,send,ack]) endproc endproc
+process Receiver [get,frame,reply] : noexit := frame; get; reply; Receiver [get,frame,reply] endproc
+process Medium [take,give] : noexit := take; (give; Medium [take,give] [] i; Medium [take,give]) endproc endspec";
+
 /// The labels that follow the set, each followed by a blank, and `<deadlock>` if it has one.
 fn describe_set(alloc: Global, walk: &mut SetWalk, set: SetNumber) -> Result<String, WalkError> {
     let mut out = String::new(alloc);

@@ -5,6 +5,7 @@ use super::runs::{
     Outcome, RUN, Run, SINGLE, Taken, WHOLE, expect, expect_broken, expect_refused_words,
     expect_unflushed, expect_unreadable,
 };
+use super::worked_texts::{GROWING, LINK, MEETING, SERVER, VANISHING};
 use std::alloc::{AllocError, Global};
 use std::process::Abort;
 
@@ -17,20 +18,6 @@ struct Row {
     message: &'static [u8],
     status: u8,
 }
-
-/// A link that repeats a message until it is acknowledged, over media that may lose what they carry.
-const LINK: &[u8] = b"specification Link [put, get] : noexit behaviour
-hide send, frame, reply, ack in (Sender [put, send, ack] ||| Receiver [get, frame, reply])
-|[send, frame, reply, ack]| (Medium [send, frame] ||| Medium [reply, ack])
-where process Sender [put, send, ack] : noexit := put; Sending [put, send, ack]
-where process Sending [put, send, ack] : noexit
-:= send; (ack; Sender [put, send, ack] [] i; Sending [put, send, ack]) endproc endproc
-process Receiver [get, frame, reply] : noexit := frame; get; reply; Receiver [get, frame, reply] endproc
-process Medium [take, give] : noexit := take; (give; Medium [take, give] [] i; Medium [take, give]) endproc endspec";
-
-const SERVER: &[u8] = b"specification D [req, rsp, nak] : noexit behaviour S [req, rsp, nak]
-where process S [req, rsp, nak] : noexit
-:= req; (rsp; S [req, rsp, nak] [] i; nak; S [req, rsp, nak]) endproc endspec";
 
 /// Sequences that can happen, and how their labels are given.
 const LABELS: &[Row] = &[
@@ -99,9 +86,6 @@ const LABELS: &[Row] = &[
         status: 0,
     },
 ];
-
-const MEETING: &[u8] = b"specification G [a, b, c] : exit
-behaviour hide s in ((a; s; exit) |[s]| (s; b; exit)) >> c; exit endspec";
 
 /// After A it may do B, end, or stop.
 const THREE_ENDS: &[u8] =
@@ -174,11 +158,6 @@ const ENDS: &[Row] = &[
         status: 0,
     },
 ];
-
-/// After A it may be silent for ever, and it may take B and then be so.
-const VANISHING: &[u8] = b"specification V [a, b] : noexit behaviour hide h in P [a, b, h]
-where process P [a, b, h] : noexit := a; (h; P [a, b, h] [] b; Q [h]) endproc
-process Q [h] : noexit := h; Q [h] endproc endspec";
 
 /// Internal steps without end.
 const LOOPS: &[Row] = &[
@@ -343,10 +322,6 @@ const IMPOSSIBLE: &[Row] = &[
         status: 1,
     },
 ];
-
-/// It grows for ever by internal steps.
-const GROWING: &[u8] = b"specification S [a] : noexit behaviour hide b in P [b]
-where process P [b] : noexit := b; (P [b] ||| P [b]) endproc endspec";
 
 /// Bounds on the normal forms of a beginning of the sequence.
 const BOUNDS: &[Row] = &[

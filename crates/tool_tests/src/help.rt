@@ -28,6 +28,10 @@ const ROWS: &[(&[&str], &[u8])] = &[
         b"Tells what can come after a sequence\n",
     ),
     (
+        &["lotosseq", "help", "cover"],
+        b"Lists sequences that show all that can be observed\n",
+    ),
+    (
         &["lotosseq", "--version"],
         b"lotosseq 0.1.0 (proved, logic dac8208d650f15bf)\n",
     ),

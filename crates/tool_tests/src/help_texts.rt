@@ -23,7 +23,8 @@ standard output. A file is given by `< FILE`, as in
   lotosseq check < ring.lotos
 `lotosseq check --help` tells of the static rules, `lotosseq search --help` of the
 listing, its options and the words of a pattern, `lotosseq ever --help` of matches of
-any length, and `lotosseq after --help` of what can come after a sequence.
+any length, `lotosseq after --help` of what can come after a sequence, and
+`lotosseq cover --help` of sequences that show all that can be observed.
 
 Usage: lotosseq <COMMAND>
 
@@ -32,6 +33,7 @@ Commands:
   check   Checks the static rules and lists the processes
   ever    Finds a shortest match, of any length
   after   Tells what can come after a sequence
+  cover   Lists sequences that show all that can be observed
   help    Print this message or the help of the given subcommand(s)
 
 Options:
@@ -49,7 +51,7 @@ Statuses:
   2  the command, its words, the mark or the specification is refused, or cannot
      be read
   3  the limit of lines is reached
-  4  a prefix reaches too many terms, or there are too many states
+  4  a prefix reaches too many terms, or there are too many states or sets
   5  out of memory
   6  the output cannot be written
 ";
@@ -324,12 +326,12 @@ Arguments:
 
 Options:
       --terms <N>
-          The most terms that a beginning of the sequence may reach, 1 to 1000000
+          The most terms that a prefix may reach, 1 to 1000000
          \x20
-          The beginning reaches the terms in which derivations that show it end; their normal
-          forms count. If one reaches more, the search stops with status 4. For example, with
-          `--terms 1` and the specification's behaviour `i; a; stop` it stops at once: with no
-          label, two terms are reached.
+          A prefix is a beginning of the sequence. It reaches the terms in which derivations
+          that show it end; their normal forms count. If one reaches more, the search stops with
+          status 4. For example, with `--terms 1` and the specification's behaviour `i; a; stop`
+          it stops at once: with no label, two terms are reached.
          \x20
           [default: 100000]
 
@@ -354,6 +356,90 @@ Statuses:
   1  the sequence cannot happen
   2  the command, a label or the specification is refused, or cannot be read
   4  a beginning of the sequence reaches too many terms
+  5  out of memory
+  6  the output cannot be written
+";
+
+/// `lotosseq cover --help`
+const COVER: &str = "Lists sequences that show all that can be observed
+
+Reads a specification in basic LOTOS from standard input (a file is given by `< FILE`)
+and writes a listing to standard output: a finite test suite.
+
+A sequence reaches the terms in which derivations that show it end, of any number of
+steps. For each set of terms, taken by their normal forms, the listing has the first
+sequence that reaches just this set with each label that can come after it, after
+internal steps or none. A sequence with which another one begins is left out.
+
+Each sequence occurs once, on a line of its own: its labels, separated by one
+blank. Shorter sequences come first, and sequences of one length in the order of
+their labels: gates by their names, then `exit`.
+
+For example, with the specification
+  specification S [a,b] : noexit behaviour P[a,b]
+  where process P [x,y] : noexit := x; (x; stop [] y; P[x,y]) endproc endspec
+the command `lotosseq cover` lists
+  A A
+  A B
+as after `A B` the system is where it began.
+
+Usage: lotosseq cover [OPTIONS]
+
+Options:
+      --limit <N>
+          The most lines that are written, 1 to 1000000000
+         \x20
+          The search stops when so many lines are written, with status 3, even if no line
+          would follow. For example, `--limit 1` writes the first line alone.
+
+      --terms <N>
+          The most terms that a prefix may reach, 1 to 1000000
+         \x20
+          A prefix is a beginning of a line. It reaches the terms in which derivations that show
+          it end; their normal forms count. The search stops with status 4 at the first prefix
+          that reaches more. For example, with `--terms 1` the specification's behaviour
+          `i; a; stop` stops the search at `<empty>`, which reaches two terms.
+         \x20
+          [default: 100000]
+
+      --states <N>
+          The most sets that may be reached, 1 to 100000000
+         \x20
+          A set has the normal forms of all terms that a sequence reaches. If more sets than
+          these are reached, the search stops with status 4. For example, for `a; b; stop` it
+          stops with `--states 2`, as `<empty>`, `A` and `A B` reach three sets.
+         \x20
+          [default: 1000000]
+
+      --after <LINE>
+          Lists only what comes after this line of a listing
+         \x20
+          LINE is a line as the listing has it, in upper or lower case; what follows ` : ` in it
+          is ignored. It need not be a line of this listing. In a shell it is quoted. For
+          example, `--after \"A B\"` goes on after the line `A B`, and `--after \"<empty>\"`
+          after the empty sequence.
+
+      --strong
+          Makes the internal action `i` a label like others
+         \x20
+          Sequences then show internal steps. For example, `i; a; stop` with `--strong` has
+            i A
+
+      --progress
+          Tells on standard error how far the search is
+         \x20
+          At a terminal this is one line, which is renewed; else a line is written now and then.
+          Output and status stay the same.
+
+  -h, --help
+          Print help (see a summary with '-h')
+
+Statuses:
+  0  the listing is complete and has lines
+  1  the listing is complete and has none
+  2  the command, the mark or the specification is refused, or cannot be read
+  3  the limit of lines is reached
+  4  a prefix reaches too many terms, or there are too many sets
   5  out of memory
   6  the output cannot be written
 ";
@@ -419,6 +505,7 @@ Commands:
   check   Checks the static rules and lists the processes
   ever    Finds a shortest match, of any length
   after   Tells what can come after a sequence
+  cover   Lists sequences that show all that can be observed
   help    Print this message or the help of the given subcommand(s)
 
 Options:
@@ -433,7 +520,7 @@ Statuses:
   2  the command, its words, the mark or the specification is refused, or cannot
      be read
   3  the limit of lines is reached
-  4  a prefix reaches too many terms, or there are too many states
+  4  a prefix reaches too many terms, or there are too many states or sets
   5  out of memory
   6  the output cannot be written
 ";
@@ -502,7 +589,7 @@ Arguments:
   [LABEL]...  The labels of the sequence
 
 Options:
-      --terms <N>  The most terms that a beginning of the sequence may reach, 1 to 1000000 [default: 100000]
+      --terms <N>  The most terms that a prefix may reach, 1 to 1000000 [default: 100000]
       --strong     Makes the internal action `i` a label like others
       --progress   Tells on standard error how far the search is
   -h, --help       Print help (see more with '--help')
@@ -512,6 +599,30 @@ Statuses:
   1  the sequence cannot happen
   2  the command, a label or the specification is refused, or cannot be read
   4  a beginning of the sequence reaches too many terms
+  5  out of memory
+  6  the output cannot be written
+";
+
+/// `lotosseq cover -h`
+const COVER_SUMMARY: &str = "Lists sequences that show all that can be observed
+
+Usage: lotosseq cover [OPTIONS]
+
+Options:
+      --limit <N>     The most lines that are written, 1 to 1000000000
+      --terms <N>     The most terms that a prefix may reach, 1 to 1000000 [default: 100000]
+      --states <N>    The most sets that may be reached, 1 to 100000000 [default: 1000000]
+      --after <LINE>  Lists only what comes after this line of a listing
+      --strong        Makes the internal action `i` a label like others
+      --progress      Tells on standard error how far the search is
+  -h, --help          Print help (see more with '--help')
+
+Statuses:
+  0  the listing is complete and has lines
+  1  the listing is complete and has none
+  2  the command, the mark or the specification is refused, or cannot be read
+  3  the limit of lines is reached
+  4  a prefix reaches too many terms, or there are too many sets
   5  out of memory
   6  the output cannot be written
 ";
@@ -550,6 +661,7 @@ const SHORT: &[Row] = &[
     (&["lotosseq", "search", "-h"], SEARCH_SUMMARY),
     (&["lotosseq", "ever", "-h"], EVER_SUMMARY),
     (&["lotosseq", "after", "-h"], AFTER_SUMMARY),
+    (&["lotosseq", "cover", "-h"], COVER_SUMMARY),
     (&["lotosseq", "check", "-h"], CHECK_SUMMARY),
     (&["lotosseq", "--version"], VERSION),
     (&["lotosseq", "-V"], VERSION),
@@ -584,4 +696,9 @@ fn ever(rt: HostRuntime) {
 #[test]
 fn after(rt: HostRuntime) {
     expect_text(&rt, rt.alloc(), &["lotosseq", "after", "--help"], AFTER);
+}
+
+#[test]
+fn cover(rt: HostRuntime) {
+    expect_text(&rt, rt.alloc(), &["lotosseq", "cover", "--help"], COVER);
 }

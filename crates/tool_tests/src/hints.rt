@@ -13,6 +13,14 @@ const ROWS: &[(&[&str], &[u8])] = &[
         b"error: unexpected argument 'ring' found\n\nUsage: lotosseq check [OPTIONS]\n\nFor more information, try '--help'.\nlotosseq: a specification is read from standard input: lotosseq check <FILE\n",
     ),
     (
+        &["lotosseq", "cover", "--limit", "3", "ring.lotos"],
+        b"error: unexpected argument 'ring.lotos' found\n\nUsage: lotosseq cover [OPTIONS]\n\nFor more information, try '--help'.\nlotosseq: a specification is read from standard input: lotosseq cover <FILE\n",
+    ),
+    (
+        &["lotosseq", "cover", "ring"],
+        b"error: unexpected argument 'ring' found\n\nUsage: lotosseq cover [OPTIONS]\n\nFor more information, try '--help'.\n",
+    ),
+    (
         &["lotosseq", "check", "--nothing"],
         b"error: unexpected argument '--nothing' found\n\nUsage: lotosseq check [OPTIONS]\n\nFor more information, try '--help'.\n",
     ),

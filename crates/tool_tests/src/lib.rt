@@ -12,6 +12,8 @@ mod byte_output_tests;
 #[cfg(test)]
 mod check_runs;
 #[cfg(test)]
+mod cover_runs;
+#[cfg(test)]
 mod diagnosis_runs;
 #[cfg(test)]
 mod ever_runs;
@@ -55,6 +57,8 @@ mod text_input_tests;
 mod unknown_names;
 #[cfg(test)]
 mod worked_rows;
+#[cfg(test)]
+mod worked_texts;
 #[cfg(test)]
 mod wrapped_device_tests;
 #[cfg(test)]

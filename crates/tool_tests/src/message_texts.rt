@@ -7,18 +7,22 @@ use lotos_listing::MarkFault;
 use lotos_pattern::PatternFault;
 use lotos_text::TextFault;
 use lotos_tool::{
-    AfterEnded, AfterWhy, CommandFault, Ended, EverEnded, EverWhy, Refusal, Why, report_after,
-    report_check, report_command_fault, report_ever, report_search,
+    AfterEnded, AfterWhy, Bounds, CommandFault, Ended, EverEnded, EverWhy, Refusal, Why,
+    report_after, report_check, report_command_fault, report_ever, report_search,
 };
 use std::alloc::{AllocError, Global};
 use std::fmt::Display;
 use std::io::Write;
 use std::process::Abort;
 
-/// Expects what a search reports that ended so, with 300 as the bound on the terms.
+/// Expects what a listing reports that ended so, with 300 as the bound on the terms and 400 as that on the sets.
 fn expect_search(rt: &impl Abort, ended: Ended, message: &[u8], status: u8) {
     let mut err = ArrayWriter::new(4096);
-    let found = report_search(&ended, 300, &mut err);
+    let bounds = Bounds {
+        terms: 300,
+        states: 400,
+    };
+    let found = report_search(&ended, bounds, &mut err);
     expect_report(rt, &err, message, found, status);
 }
 
@@ -104,6 +108,20 @@ fn a_search_that_stopped_at_an_oversized_prefix(rt: HostRuntime) -> Result<(), A
         (
             b"lotosseq: stopped after A exit: more than 300 terms at B A\n",
             b"lotosseq: stopped before the first line: more than 300 terms at <empty>\n",
+        ),
+        4,
+    )
+}
+
+#[test]
+fn a_cover_that_stopped_at_too_many_sets(rt: HostRuntime) -> Result<(), AllocError> {
+    expect_stop(
+        &rt,
+        rt.alloc(),
+        (Why::OverStates, Why::OverStates),
+        (
+            b"lotosseq: stopped after A exit: more than 400 sets; --states N allows more\n",
+            b"lotosseq: stopped before the first line: more than 400 sets; --states N allows more\n",
         ),
         4,
     )

@@ -3,11 +3,12 @@
 use super::expected_output::{repeated, repeated_words};
 use super::memory_devices::{ArrayWriter, SliceReader};
 use super::runs::{RUN, Ran, Run, Taken, WHOLE};
+use super::worked_texts::VANISHING;
 use lotos_check::AcceptedText;
 use lotos_device::{FromRead, FromWrite};
 use lotos_tool::{
-    AfterRequest, EverRequest, Messages, OutputProgress, Progress, Request, after, ever, list,
-    request, run_args,
+    AfterRequest, EverRequest, Messages, OutputProgress, Progress, Request, after, cover, ever,
+    list, request, run_args,
 };
 use std::alloc::{AllocError, Global};
 use std::io::{Error, ErrorKind};
@@ -230,6 +231,68 @@ fn a_terminal_is_cleared_before_a_label_that_cannot_come(
     )
 }
 
+/// Two sides that take 33 and 32 steps of `A` from round to round, and may end when both begin one: the states are the
+/// pairs of their numbers of steps, each of which one sequence of `A` reaches first, after up to 1,055 steps. With the
+/// end after `B`, which comes up after the first `A`, these are 1,057 sets, and the lines are `B` and 1,056 times `A`.
+fn two_rounds(alloc: Global) -> Result<Vec<u8>, AllocError> {
+    let mut text = repeated(
+        alloc,
+        b"specification S [a,b] : noexit behaviour L [a,b] |[a,b]| M [a,b]
+where process L [a,b] : noexit := b; stop [] ",
+        b"a; ",
+        33,
+        b"L [a,b] endproc ",
+    )?;
+    let other = repeated(
+        alloc,
+        b"process M [a,b] : noexit := b; stop [] ",
+        b"a; ",
+        32,
+        b"M [a,b] endproc endspec",
+    )?;
+    text.extend_from_slice(other.as_slice())?;
+    Ok(text)
+}
+
+#[test]
+fn a_cover_reports_sets_and_lines(rt: HostRuntime) -> Result<(), AllocError> {
+    let text = two_rounds(rt.alloc())?;
+    assert_reports(
+        &rt,
+        rt.alloc(),
+        (&["lotosseq", "cover"], &["lotosseq", "cover", "--progress"]),
+        text.as_slice(),
+        false,
+        (
+            b"lotosseq: length 1023, 1024 sets, 1 lines\n",
+            b"\rlotosseq: length 1023, 1024 sets, 1 lines\r\x1b[K",
+            0,
+        ),
+    );
+    Ok(())
+}
+
+#[test]
+fn a_terminal_is_cleared_before_a_stop(rt: HostRuntime) -> Result<(), AllocError> {
+    let text = two_rounds(rt.alloc())?;
+    assert_reports(
+        &rt,
+        rt.alloc(),
+        (
+            &["lotosseq", "cover", "--states", "1050"],
+            &["lotosseq", "cover", "--states", "1050", "--progress"],
+        ),
+        text.as_slice(),
+        false,
+        (
+            b"lotosseq: length 1023, 1024 sets, 1 lines\nlotosseq: stopped after B: more than 1050 sets; --states N allows more\n",
+            b"\rlotosseq: length 1023, 1024 sets, 1 lines\r\x1b[Klotosseq: stopped after B: more than 1050 sets; --states N allows more\n",
+            4,
+        ),
+    );
+    Ok(())
+}
+
 /// With 44 steps at most the lengths have 990 visits.
 #[test]
 fn a_short_search_reports_nothing(rt: HostRuntime) {
@@ -345,6 +408,11 @@ fn observe(alloc: Global, words: &[&str]) -> Result<Counter, AllocError> {
         }
         Ok(Request::Ever(question)) => ever_observed(alloc, &question, &mut counter)?,
         Ok(Request::After(question)) => after_observed(alloc, &question, &mut counter),
+        Ok(Request::Cover(question)) => {
+            let mut reader = FromRead::new(SliceReader::new(VANISHING, 4096));
+            let mut out = FromWrite::new(ArrayWriter::new(4096));
+            let _ = cover(alloc, &question, &mut reader, &mut out, &mut counter);
+        }
         Ok(Request::Check) => {}
         Ok(Request::Diagnose(_asked)) => {}
         Err(_fault) => {}
@@ -384,6 +452,17 @@ fn an_observer_is_told_of_each_label(rt: HostRuntime) -> Result<(), AllocError> 
     assert_told(&rt, rt.alloc(), first.as_slice(), 0, 1)?;
     assert_told(&rt, rt.alloc(), followed.as_slice(), 3, 1)?;
     assert_told(&rt, rt.alloc(), impossible.as_slice(), 2, 0)
+}
+
+/// `A` and `A B` lead to new sets, between which comes the line `A A`.
+#[test]
+fn an_observer_is_told_of_each_set(rt: HostRuntime) -> Result<(), AllocError> {
+    let covered = ["lotosseq", "cover"];
+    let limited = ["lotosseq", "cover", "--limit", "1"];
+    let stopped = ["lotosseq", "cover", "--states", "2"];
+    assert_told(&rt, rt.alloc(), covered.as_slice(), 2, 2)?;
+    assert_told(&rt, rt.alloc(), limited.as_slice(), 1, 1)?;
+    assert_told(&rt, rt.alloc(), stopped.as_slice(), 1, 1)
 }
 
 /// Runs arguments that cannot be read, with an error stream that is a terminal or is none.

@@ -32,6 +32,14 @@ const ROWS: &[(&[&str], &[u8])] = &[
         &["lotosseq", "after", "--explain", "A"],
         b"error: unexpected argument '--explain' found\n\n  tip: to pass '--explain' as a value, use '-- --explain'\n\nUsage: lotosseq after [OPTIONS] [LABEL]...\n\nFor more information, try '--help'.\n",
     ),
+    (
+        &["lotosseq", "cover", "--states", "0"],
+        b"error: invalid value '0' for '--states <N>': 0 is not in 1..=100000000\n\nFor more information, try '--help'.\n",
+    ),
+    (
+        &["lotosseq", "cover", "--limit", "0"],
+        b"error: invalid value '0' for '--limit <N>': 0 is not in 1..=1000000000\n\nFor more information, try '--help'.\n",
+    ),
 ];
 
 #[test]

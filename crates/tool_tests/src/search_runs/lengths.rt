@@ -1,25 +1,10 @@
 //! Searches for the sequences of at most so many labels.
 
+use super::super::worked_texts::{GROWING, MEETING, SERVER, VANISHING};
 use super::{Row, expect};
 
 const ACTIONS: &[u8] =
     b"specification S [a,b] : noexit behaviour i; i; a; (i; stop [] b; stop) endspec";
-
-/// After A it may be silent for ever, and it may take B and then be so.
-const VANISHING: &[u8] = b"specification V [a, b] : noexit behaviour hide h in P [a, b, h]
-where process P [a, b, h] : noexit := a; (h; P [a, b, h] [] b; Q [h]) endproc
-process Q [h] : noexit := h; Q [h] endproc endspec";
-
-const SERVER: &[u8] = b"specification D [req, rsp, nak] : noexit behaviour S [req, rsp, nak]
-where process S [req, rsp, nak] : noexit
-:= req; (rsp; S [req, rsp, nak] [] i; nak; S [req, rsp, nak]) endproc endspec";
-
-const MEETING: &[u8] = b"specification G [a, b, c] : exit
-behaviour hide s in ((a; s; exit) |[s]| (s; b; exit)) >> c; exit endspec";
-
-/// It grows for ever by internal steps.
-const GROWING: &[u8] = b"specification S [a] : noexit behaviour hide b in P [b]
-where process P [b] : noexit := b; (P [b] ||| P [b]) endproc endspec";
 
 const BRANCHES: &[u8] =
     b"specification S [a,b] : noexit behaviour a; stop [] b; stop [] b; a; stop endspec";

@@ -1,6 +1,5 @@
-use Rattle.std.proofs.Common.{◌≡◌, ◌≤◌, ◌∙◌, List, ap, length, subst, sym}
+use Rattle.std.proofs.Common.{◌≤◌, ◌∙◌, ap, subst, sym}
 use Rattle.lotos_check.proofs.SameFault.{passed_on}
-use Rattle.lotos_listing.specs.Order.{Label}
 use Rattle.lotos_listing.specs.Question.{ArePrinted}
 use Rattle.lotos_terms.specs.TableView.{TableView}
 use Rattle.lotos_after.specs.Behaviours.{IsFirstOversized}

@@ -2,7 +2,7 @@ use Rattle.std.proofs.Common.{◌∙◌, ap, subst}
 use Rattle.std.specs.Io.KnownBytes.{Appends}
 use Rattle.std.specs.List.{flat_map}
 use Rattle.lotos_check.specs.CheckedView.{system_of}
-use Rattle.lotos_tool.specs.OutputLines.{process_line}
+use Rattle.lotos_output.specs.OutputLines.{process_line}
 use Rattle.lotos_tool.proofs.Checks.{process_count, processes_ended}
 use Rattle.lotos_tool.proofs.check_command.write_processes.Goals as goal
 

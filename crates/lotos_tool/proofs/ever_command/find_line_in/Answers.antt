@@ -4,7 +4,7 @@ use Rattle.std.proofs.lemmas.Result.{err_from_is_err_and}
 use Rattle.lotos_ever.specs.MatchQuestions.{IsAnswer, IsFound, match_question_of}
 use Rattle.lotos_tool.specs.EverParts.{IsEverQuestionFor}
 use Rattle.lotos_tool.specs.EverOutcome.{item_of}
-use Rattle.lotos_tool.specs.OutputLines.{IsItemOf}
+use Rattle.lotos_output.specs.OutputLines.{IsItemOf}
 use Rattle.lotos_tool.proofs.MatchOutcomes.{handed_on, out_of_memory, shown_now}
 use Rattle.lotos_tool.proofs.ever_command.find_line_in.Goals as goal
 

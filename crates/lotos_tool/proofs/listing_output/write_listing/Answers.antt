@@ -1,5 +1,5 @@
 use Rattle.std.proofs.Common.{◌≡◌, ◌∙◌, Err, ap, false, refl, rules, true}
-use Rattle.lotos_tool.specs.SearchParts.{is_at_limit}
+use Rattle.lotos_tool.specs.ListingParts.{is_at_limit}
 use Rattle.lotos_tool.proofs.Calls.{halt_failed, told_end, told_halt, returned_item}
 use Rattle.lotos_tool.proofs.ListingProgress.{below_limit, ends_finished, ends_halted, ends_limited, ends_unwritten, item_of, its_labels_now, none_below, progress_more, progress_none, within_more}
 use Rattle.lotos_tool.proofs.listing_output.write_listing.Goals as goal
@@ -58,9 +58,9 @@ returns-then-is_at_limit-clause-ends g c =
     let returned = returned_item (g.S.ListingSearch.state c.loop-found.search) (g.S.ListingSearch.state c.next_item.new.self) _ _ inv.stage c.in-Ok-Some.field-0-is c.in-Ok-Some.ensures.next_returns in
     let more = progress_more _ _ _ _ c.strict_order.ensures.total _ _ _ _ inv.items inv.progress _ _ _ _ _ _ c.in-Ok.text inv.question (c.next_item.ensures.same ∙ inv.question) returned.0
     c.in-Ok.ensures.whole c.in-Ok.ensures.text c.saturating_add-lines.ensures in
-    let at : is_at_limit c.saturating_add-lines.result c.args.request.now.limit ≡ true = search rules in
+    let at : is_at_limit c.saturating_add-lines.result c.args.options.limit ≡ true = search rules in
     ends_limited _ _ _ _ c.strict_order.ensures.total _ _ _ _ _ more _ _ c.flush_stopped-why.result c.is_at_limit.ensures.small at
-    (within_more inv.items (item_of _ _ _ _ returned.0) c.args.request.now.limit inv.below) c.flush_stopped-why.ensures.cause c.flush_stopped-why.ensures.kept
+    (within_more inv.items (item_of _ _ _ _ returned.0) c.args.options.limit inv.below) c.flush_stopped-why.ensures.cause c.flush_stopped-why.ensures.kept
 
 pub loop-found-preserved : goal.loop-found-preserved
 loop-found-preserved g c =
@@ -68,11 +68,11 @@ loop-found-preserved g c =
     let returned = returned_item (g.S.ListingSearch.state c.loop-found.search) (g.S.ListingSearch.state c.next_item.new.self) _ _ inv.stage c.in-Ok-Some.field-0-is c.in-Ok-Some.ensures.next_returns in
     let more = progress_more _ _ _ _ c.strict_order.ensures.total _ _ _ _ inv.items inv.progress _ _ _ _ _ _ c.in-Ok.text inv.question (c.next_item.ensures.same ∙ inv.question) returned.0
     c.in-Ok.ensures.whole c.in-Ok.ensures.text c.saturating_add-lines.ensures in
-    let at : is_at_limit c.saturating_add-lines.result c.args.request.now.limit ≡ false = search rules in
+    let at : is_at_limit c.saturating_add-lines.result c.args.options.limit ≡ false = search rules in
     record {
       items = _;
       progress = more;
-      below = below_limit _ _ _ at more.count (within_more inv.items (item_of _ _ _ _ returned.0) c.args.request.now.limit inv.below) c.is_at_limit.ensures.small;
+      below = below_limit _ _ _ at more.count (within_more inv.items (item_of _ _ _ _ returned.0) c.args.options.limit inv.below) c.is_at_limit.ensures.small;
       question = c.next_item.ensures.same ∙ inv.question;
       stage = returned.1;
       unfailed = c.in-Ok.ensures.failed;

@@ -2,8 +2,8 @@ use Rattle.std.proofs.Common.{◌≡◌, List, length, false}
 use Rattle.lotos_listing.specs.ListingSteps.{running}
 use Rattle.lotos_listing.specs.Remaining.{remaining}
 use Rattle.lotos_tool.specs.ListingQuestions.{most_of, names_of}
-use Rattle.lotos_tool.specs.SearchOutcome.{IsBelowLimit}
-use Rattle.lotos_tool.specs.OutputLines.{Item}
+use Rattle.lotos_tool.specs.ListingOutcome.{IsBelowLimit}
+use Rattle.lotos_output.specs.OutputLines.{Item}
 use Rattle.lotos_tool.proofs.ListingProgress.{Progress}
 use Rattle.lotos_tool.proofs.listing_output.write_listing.Given as goal
 
@@ -14,9 +14,9 @@ invariant-loop-found g l =
     let now = g.S.ListingSearch.state l.search in
     record {
       items : List Item;
-      progress : Progress l.fn.request begun.question begun.cursor (g.W.Sink.written l.fn.writer) (g.W.Sink.written l.writer)
+      progress : Progress l.fn.options begun.question begun.cursor (g.W.Sink.written l.fn.writer) (g.W.Sink.written l.writer)
           now.cursor l.lines l.last items;
-      below : IsBelowLimit (length items) l.fn.request.limit;
+      below : IsBelowLimit (length items) l.fn.options.limit;
       question : now.question ≡ begun.question;
       stage : now.stage ≡ running;
       unfailed : g.W.Sink.has_failed l.writer ≡ false;

@@ -1,12 +1,13 @@
 use Rattle.std.proofs.Common.{◌≡◌, ℕ, Bool, List, Option, inl, inr, rules, subst}
 use Rattle.lotos_tool.specs.CheckOutcome.{CheckOutcome}
-use Rattle.lotos_tool.specs.OutcomeFlags.{is_input_fault}
+use Rattle.lotos_tool.specs.Rejections.{is_input_fault}
 use Rattle.lotos_command.specs.Request.{RequestOf, request_view}
-use Rattle.lotos_tool.specs.ProgramRuns.{AfterRan, AfterReported, CheckRan, CheckReported, EverRan, EverReported, SearchRan, SearchReported, check_status_of}
+use Rattle.lotos_tool.specs.ProgramRuns.{AfterRan, AfterReported, CheckRan, CheckReported, CoverRan, CoverReported, EverRan, EverReported, SearchRan, SearchReported, check_status_of}
 use Rattle.lotos_report.specs.declared.outcome.Ended.{Ended}
 use Rattle.lotos_command.specs.declared.command.Request.{Request}
 use Rattle.lotos_command.specs.declared.command.Request.TheVariants as one
 use Rattle.lotos_command.specs.declared.command.AfterRequest.{AfterRequest}
+use Rattle.lotos_command.specs.declared.command.CoverRequest.{CoverRequest}
 use Rattle.lotos_command.specs.declared.command.DiagnoseRequest.{DiagnoseRequest}
 use Rattle.lotos_command.specs.declared.command.EverRequest.{EverRequest}
 use Rattle.lotos_command.specs.declared.command.SearchRequest.{SearchRequest}
@@ -44,6 +45,16 @@ module _ (words : List (List ℕ)) (left left' got got' : Option (List ℕ)) (br
       let Asks : Request → Type 0 = λ r. RequestOf words (request_view r) in
       record { request = request; asked = subst Asks is asks; reported = reported }
 
+  covered : (asked : Request) (request : CoverRequest) → CoverReported request left left' got got' broken status → asked ≡ one.Cover request
+      → RequestOf words (request_view asked) → CoverRan words left left' got got' broken status
+  covered asked request reported is asks =
+      let Asks : Request → Type 0 = λ r. RequestOf words (request_view r) in
+      record { request = request; asked = subst Asks is asks; reported = reported }
+
+pub returns-in-Ok-Cover-clause-ran : goal.returns-in-Ok-Cover-clause-ran
+returns-in-Ok-Cover-clause-ran g c =
+    inr (inr (inr (inr (inl (covered _ _ _ _ _ _ _ c.in-Ok-Cover.field-0 c.in-Ok-Cover.asked c.run_cover.ensures.reported (search rules) c.in-Ok-Cover.ensures.is)))))
+
 pub returns-in-Ok-After-clause-ran : goal.returns-in-Ok-After-clause-ran
 returns-in-Ok-After-clause-ran g c =
     inr (inr (inr (inl (followed _ _ _ _ _ _ _ c.in-Ok-After.field-0 c.in-Ok-After.asked c.run_after.ensures.reported (search rules) c.in-Ok-After.ensures.is))))
@@ -66,4 +77,4 @@ returns-in-Ok-Search-clause-ran g c =
 
 pub returns-in-Err-clause-ran : goal.returns-in-Err-clause-ran
 returns-in-Err-clause-ran g c =
-    inr (inr (inr (inr (answered _ c.in-Err.fault _ _ _ _ _ (search rules) c.in-Err.ensures.fault c.in-Err.ensures.taken c.end_without_command.ensures.answer))))
+    inr (inr (inr (inr (inr (answered _ c.in-Err.fault _ _ _ _ _ (search rules) c.in-Err.ensures.fault c.in-Err.ensures.taken c.end_without_command.ensures.answer)))))

@@ -1,0 +1,3 @@
+pub mod OutputLines
+pub mod WriteFaults
+pub mod FlushOutcome

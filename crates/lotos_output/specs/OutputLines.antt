@@ -1,0 +1,72 @@
+-- The lines of a listing and of a match, and those of the processes of a system.
+use Rattle.std.specs.Prelude.{◌≡◌, ℕ, ◌<◌, Bool, true, false, List, [], ◌∷◌, ◌++◌, Option, None, Some, codes, decimal, length, map}
+use Rattle.std.specs.Prelude.{string_bytes}
+use Rattle.std.specs.List.{flat_map}
+use Rattle.std.specs.declared.string.String.{String}
+use Rattle.std.specs.declared.alloc.Global.{Global}
+use Rattle.lotos_text.specs.declared.ast.Functionality.{Functionality}
+use Rattle.lotos_text.specs.declared.ast.Functionality.TheVariants.{Exit, NoExit}
+use Rattle.lotos_check.specs.Flat.{FlatProcess, System}
+use Rattle.lotos_check.specs.NameLists.{Name}
+use Rattle.lotos_store.specs.declared.label.Label.{Label as TermLabel}
+use Rattle.lotos_listing.specs.Order.{Label}
+use Rattle.lotos_listing.specs.Question.{ArePrinted}
+
+-- an item of a listing: a sequence, and its least run; or what is observed of a match, and its run
+pub record Item : Type 0 where
+  pub sequence : List Label
+  pub run : List Label
+
+-- the labels of a sequence and of its run have the printed texts that the item has
+pub record IsItemOf (names : List Name) (labels run_labels : List TermLabel) (item : Item) : Type 0 where
+  pub sequence : ArePrinted names labels item.sequence
+  pub run : ArePrinted names run_labels item.run
+
+-- the sequences of items
+abbrev pub sequences : List Item → List (List Label)
+sequences items = map (λ item. item.sequence) items
+
+-- a sequence as text: its labels, separated by one blank each, or `<empty>`
+abbrev pub sequence_text : List Label → List ℕ
+sequence_text [] = codes "<empty>"
+sequence_text (l ∷ rest) = l ++ flat_map (λ m. 32 ∷ m) rest
+
+-- the text of labels, if there are any
+abbrev pub IsTextOf : List Label → Option (String Global) → Type 0
+IsTextOf next None = length next ≡ 0
+IsTextOf next (Some text) = (0 < length next) × (string_bytes text ≡ sequence_text next)
+
+-- the line of a deadlock, if there can be one
+abbrev pub deadlock_line : (dead : Bool) → List ℕ
+deadlock_line false = []
+deadlock_line true = codes "<deadlock>\n"
+
+-- what follows the sequence in a line: nothing, or with `explain` ` : ` and the run
+abbrev pub run_text : (explain : Bool) → List Label → List ℕ
+run_text false run = []
+run_text true run = codes " : " ++ sequence_text run
+
+-- the line of an item, ended by a line feed
+abbrev pub line_of : (explain : Bool) → Item → List ℕ
+line_of explain item = sequence_text item.sequence ++ run_text explain item.run ++ 10 ∷ []
+
+-- the lines of a list of items
+abbrev pub lines_of : (explain : Bool) → List Item → List ℕ
+lines_of explain items = flat_map (λ item. line_of explain item) items
+
+-- the lines of what can come after a sequence: each label on one, and then `<deadlock>`, if it can end in one
+abbrev pub next_lines : List Label → (dead : Bool) → List ℕ
+next_lines next dead = flat_map (λ l. l ++ 10 ∷ []) next ++ deadlock_line dead
+
+-- a functionality as text
+abbrev pub functionality_text : Functionality → List ℕ
+functionality_text Exit = codes "exit"
+functionality_text NoExit = codes "noexit"
+
+-- the line of a process: its name, how many formal gates it has, and its functionality
+abbrev pub process_line : FlatProcess → List ℕ
+process_line p = p.name ++ codes " " ++ decimal (length p.formals) ++ codes " " ++ functionality_text p.functionality ++ codes "\n"
+
+-- the lines of the processes of a system
+abbrev pub check_lines : System → List ℕ
+check_lines system = flat_map process_line system.processes

@@ -1,0 +1,162 @@
+//! Sequences and processes as text.
+ghost use Rattle.std.specs.Prelude.{◌≡◌, ◌∷◌, [], ◌++◌, IfOk, List, OnOk, flat_map, map, string_bytes, true};
+ghost use Rattle.lotos_check.specs.CheckedView.{process_of};
+ghost use Rattle.lotos_listing.specs.Order.{Label as Text};
+ghost use Rattle.lotos_listing.specs.Question.{ArePrinted};
+ghost use Rattle.lotos_output.specs.OutputLines.{IsTextOf, functionality_text, next_lines, process_line, run_text, sequence_text};
+
+use itoa::Buffer;
+use lotos_check::Process;
+use lotos_terms::{Label, label_text};
+use lotos_text::{Functionality, Name};
+use std::alloc::{AllocError, Global};
+
+/// The most bytes of a text that is copied byte by byte.
+const SHORT_TEXT: usize = 8;
+
+/// A sequence as text: its printed labels, separated by one blank each, or `<empty>`. The gates have these names.
+pub fn format_sequence(
+    alloc: Global,
+    gates: &[Name],
+    labels: &[Label],
+) -> Result<String, AllocError>
+    requires { (s : List Text) × ArePrinted gates.now labels.now s }
+    ensures { IfOk result (λ text. (s : List Text) → ArePrinted gates.now labels.now s →
+        string_bytes text ≡ sequence_text s) }
+{
+    let Some((first, rest)) = labels.split_first() else {
+        return String::from_str(alloc, "<empty>");
+    };
+    let shown = label_text(gates, *first);
+    // Enough if no label is longer than the first, nor than what is short.
+    let each = shown.len().min(SHORT_TEXT) + 1;
+    let capacity = rest.len().saturating_mul(each).saturating_add(shown.len());
+    let mut bytes = Vec::with_capacity(alloc, capacity)?;
+    append_text(&mut bytes, shown)?;
+    for label in rest {
+        bytes.push(b' ')?;
+        append_text(&mut bytes, label_text(gates, *label))?;
+    }
+    Ok(String::from_utf8(bytes).unwrap())
+}
+
+/// Appends a label's text. A short one is copied byte by byte: that takes less time than a call for the whole.
+fn append_text(bytes: &mut Vec<u8>, text: &str) -> Result<(), AllocError>
+    ensures { OnOk result (bytes.new.items ≡ bytes.old.items ++ text.now) }
+{
+    if SHORT_TEXT < text.len() {
+        return bytes.extend_from_slice(text.as_bytes());
+    }
+    for byte in text.as_bytes() {
+        bytes.push(*byte)?;
+    }
+    Ok(())
+}
+
+/// The line of a sequence with this text: the text, with `explain` ` : ` and the run, and a line feed.
+pub fn format_line(
+    alloc: Global,
+    gates: &[Name],
+    text: &str,
+    run: &[Label],
+    explain: bool,
+) -> Result<Vec<u8>, AllocError>
+    requires { (w : List Text) × ArePrinted gates.now run.now w }
+    ensures { IfOk result (λ line. (w : List Text) → ArePrinted gates.now run.now w →
+        line.items ≡ text.now ++ run_text explain w ++ 10 ∷ []) }
+{
+    let mut line = Vec::with_capacity(alloc, text.len() + 1)?;
+    line.extend_from_slice(text.as_bytes())?;
+    if explain {
+        append_run(alloc, gates, run, &mut line)?;
+    }
+    line.push(b'\n')?;
+    Ok(line)
+}
+
+/// Appends ` : ` and the run.
+fn append_run(
+    alloc: Global,
+    gates: &[Name],
+    run: &[Label],
+    line: &mut Vec<u8>,
+) -> Result<(), AllocError>
+    requires { (w : List Text) × ArePrinted gates.now run.now w }
+    ensures { OnOk result ((w : List Text) → ArePrinted gates.now run.now w →
+        line.new.items ≡ line.old.items ++ run_text true w) }
+{
+    let text = format_sequence(alloc, gates, run)?;
+    line.extend_from_slice(b" : ")?;
+    line.extend_from_slice(text.as_bytes())
+}
+
+/// The lines of what can come after a sequence: these labels, and then `<deadlock>` if it can end in one (`dead`). The
+/// gates have these names.
+pub fn format_next(
+    alloc: Global,
+    gates: &[Name],
+    labels: &[Label],
+    dead: bool,
+) -> Result<Vec<u8>, AllocError>
+    requires { (next : List Text) × ArePrinted gates.now labels.now next }
+    ensures { IfOk result (λ lines. (next : List Text) → ArePrinted gates.now labels.now next →
+        lines.items ≡ next_lines next dead) }
+{
+    let mut lines = Vec::new(alloc);
+    for label in labels {
+        append_text(&mut lines, label_text(gates, *label))?;
+        lines.push(b'\n')?;
+    }
+    if dead {
+        lines.extend_from_slice(b"<deadlock>\n")?;
+    }
+    Ok(lines)
+}
+
+/// The labels as text, as that of a sequence; `None` if there are none. The gates have these names.
+pub fn format_labels(
+    alloc: Global,
+    gates: &[Name],
+    labels: &[Label],
+) -> Result<Option<String>, AllocError>
+    requires { (next : List Text) × ArePrinted gates.now labels.now next }
+    ensures { IfOk result (λ text. (next : List Text) → ArePrinted gates.now labels.now next →
+        IsTextOf next text) }
+{
+    if labels.is_empty() {
+        return Ok(None);
+    }
+    Ok(Some(format_sequence(alloc, gates, labels)?))
+}
+
+/// The lines of the processes, in their order.
+pub fn format_processes(alloc: Global, processes: &[Process]) -> Result<Vec<u8>, AllocError>
+    ensures { IfOk result (λ lines. lines.items ≡ flat_map process_line (map process_of processes.now)) }
+{
+    let mut lines = Vec::new(alloc);
+    for process in processes {
+        append_process(process, &mut lines)?;
+    }
+    Ok(lines)
+}
+
+fn append_process(process: &Process, lines: &mut Vec<u8>) -> Result<(), AllocError>
+    ensures { OnOk result (lines.new.items ≡ lines.old.items ++ process_line (process_of process.now)) }
+{
+    let mut digits = Buffer::new();
+    lines.extend_from_slice(process.name.text().as_bytes())?;
+    lines.extend_from_slice(b" ")?;
+    lines.extend_from_slice(digits.format(process.formals.len()).as_bytes())?;
+    lines.extend_from_slice(b" ")?;
+    lines.extend_from_slice(functionality_text(process.functionality).as_bytes())?;
+    lines.extend_from_slice(b"\n")
+}
+
+fn functionality_text(functionality: Functionality) -> &'static str
+    ensures { result.now ≡ functionality_text functionality }
+{
+    match functionality {
+        Functionality::Exit => "exit",
+        Functionality::NoExit => "noexit",
+    }
+}

@@ -1,0 +1,133 @@
+//! The command `cover`, from the text to the lines of the cover.
+ghost use Rattle.std.specs.Prelude.{◌≡◌, ◌+◌, ◌≤◌, IfErr, IfOk, false};
+ghost use Rattle.lotos_text.specs.Limits.{max_text_length};
+ghost use Rattle.lotos_check.specs.CheckedView.{system_of};
+ghost use Rattle.lotos_command.specs.Request.{HasCoverBounds};
+ghost use Rattle.lotos_output.specs.WriteFaults.{is_output_fault};
+ghost use Rattle.lotos_tool.specs.CoverOutcome.{AreCoverParts, CoverOutcome};
+ghost use Rattle.lotos_tool.specs.CoverParts.{IsCoverOutcomeFor, IsCoverSearchFor};
+ghost use Rattle.lotos_tool.specs.RefusalCauses.{IsCoverRefusal};
+ghost use Rattle.lotos_tool.specs.Rejections.{IsRejectionBy, is_input_failure, is_input_fault};
+
+use crate::listing_output::{ListingOptions, write_listing};
+use crate::question_parts::read_mark;
+use crate::rejection::{Rejection, end_of};
+use crate::search_command::out_of_memory;
+use crate::specification_input::read_specification;
+use lotos_check::Checked;
+use lotos_command::CoverRequest;
+use lotos_cover::CoverSearch;
+use lotos_cover::laws::begun_cover_search_has_question;
+use lotos_device::{Sink, Source};
+use lotos_listing::Mark;
+use lotos_normal::NormalTable;
+use lotos_output::OutputProgress;
+use lotos_report::Ended;
+use std::alloc::{AllocError, Global};
+
+/// Reads a specification and writes the lines of its cover: for each set of normal forms that sequences of observable
+/// labels reach, the first of these sequences, with each label that can come next; of the sequences made so those with
+/// which no longer one begins, each once, shorter ones first, then in the order of their labels. With a mark only the
+/// lines after it are written.
+///
+/// The mark is read first, then the text, whose specification is checked. The first of these to be refused is returned
+/// with nothing written, and the mark is refused with nothing read. A line is composed completely before its first byte is
+/// written. The cover stops when as many lines as the limit are written, at the first sequence that reaches more normal
+/// forms than the request allows or leads to one set of them more than it allows, when memory runs out, and when the
+/// output cannot be written. A complete cover, be it without lines, and one that stops at the limit or at such a sequence,
+/// ends with one flush. At most one byte more than a text may have is taken from the reader, whatever it returns. Neither
+/// the reader nor the writer may have failed before.
+/// The observer is told when the text is accepted, of each set of normal forms that comes up after that of the empty
+/// sequence, with the number of labels of its first sequence, and of each line before it is written; `NoProgress` is one
+/// that does nothing.
+pub fn cover<R: Source, W: Sink, P: OutputProgress>(
+    alloc: Global,
+    request: &CoverRequest,
+    reader: &mut R,
+    writer: &mut W,
+    progress: &mut P,
+) -> Ended
+    requires bounds { HasCoverBounds request.now }
+    requires reader { R.has_failed reader.old ≡ false }
+    requires writer { W.has_failed writer.old ≡ false }
+    ensures answers { CoverOutcome request.now (R.remaining reader.old) (R.remaining reader.new)
+        (W.written writer.old) (W.written writer.new) result }
+    ensures given { R.given reader.new ≤ R.given reader.old + (max_text_length + 1) }
+    ensures input { R.has_failed reader.new ≡ is_input_fault result }
+    ensures output { W.has_failed writer.new ≡ is_output_fault result }
+{
+    match read_parts(alloc, request, reader, progress) {
+        Ok((mark, system)) => cover_system(alloc, request, system, mark, writer, progress),
+        Err(rejection) => end_of(rejection),
+    }
+}
+
+/// The mark of the line, and the specification of the text.
+fn read_parts<R: Source, P: OutputProgress>(
+    alloc: Global,
+    request: &CoverRequest,
+    reader: &mut R,
+    progress: &mut P,
+) -> Result<(Option<Mark>, Checked), Rejection>
+    requires reader { R.has_failed reader.old ≡ false }
+    ensures parts { IfOk result (λ (mark, system).
+        AreCoverParts request.now (R.remaining reader.old) (R.remaining reader.new) (system_of system) mark) }
+    ensures rejected { IfErr result (IsRejectionBy (IsCoverRefusal request.now)
+        (R.remaining reader.old) (R.remaining reader.new)) }
+    ensures given { R.given reader.new ≤ R.given reader.old + (max_text_length + 1) }
+    ensures failed { R.has_failed reader.new ≡ is_input_failure result }
+{
+    let mark = read_mark(alloc, &request.after, request.strong)?;
+    let system = read_specification(alloc, reader, progress)?;
+    Ok((mark, system))
+}
+
+/// Writes the lines of the cover of an accepted specification.
+fn cover_system<W: Sink, P: OutputProgress>(
+    alloc: Global,
+    request: &CoverRequest,
+    system: Checked,
+    mark: Option<Mark>,
+    writer: &mut W,
+    progress: &mut P,
+) -> Ended
+    requires bounds { HasCoverBounds request.now }
+    requires writer { W.has_failed writer.old ≡ false }
+    ensures outcome { IsCoverOutcomeFor request.now (system_of system) mark
+        (W.written writer.old) (W.written writer.new) result }
+    ensures failed { W.has_failed writer.new ≡ is_output_fault result }
+{
+    match begin_cover(alloc, request, system, mark) {
+        Ok(mut search) => {
+            let options = ListingOptions {
+                explain: false,
+                limit: request.limit,
+            };
+            write_listing(alloc, options, &mut search, writer, progress)
+        }
+        Err(AllocError) => out_of_memory(),
+    }
+}
+
+/// Begins the search for the lines of the cover of an accepted specification.
+fn begin_cover(
+    alloc: Global,
+    request: &CoverRequest,
+    system: Checked,
+    mark: Option<Mark>,
+) -> Result<CoverSearch, AllocError>
+    ensures { IfOk result (IsCoverSearchFor request.now (system_of system) mark) }
+{
+    begun_cover_search_has_question();
+    let table = NormalTable::new(alloc, system)?;
+    table.recall_sound();
+    let search = CoverSearch::begin(
+        alloc,
+        table,
+        request.strong,
+        request.terms,
+        request.states,
+        mark,
+    );
+    Ok(search)
+}

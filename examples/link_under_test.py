@@ -1,0 +1,89 @@
+#!/usr/bin/env python3
+"""Runs each sequence of a suite against a link, and asks `lotosseq after` whether what was observed can happen.
+
+usage: link_under_test.py [--early] SPECIFICATION <SUITE
+
+With --early the link has a fault: it replies to a frame before it has delivered it. The program is ./lotosseq, or what the variable
+LOTOSSEQ names.
+"""
+import os
+import random
+import subprocess
+import sys
+
+PROGRAM = os.environ.get("LOTOSSEQ", "./lotosseq")
+RUNS = 100
+# How many steps of the link the tester waits for a label.
+PATIENCE = 30
+# What the receiver does in turn: as specified, and with the fault.
+IN_ORDER = {"frame": "get", "get": "reply", "reply": "frame"}
+EARLY = {"frame": "reply", "reply": "get", "get": "frame"}
+
+
+def steps(state, follows):
+    """What the link can do next, and its state afterwards; the label of an internal step is None."""
+    sender, frame, receiver, reply = state
+    follow = follows[receiver]
+    if sender == "idle":
+        yield "PUT", ("sending", frame, receiver, reply)
+    if sender == "sending" and not frame:
+        yield None, ("waiting", True, receiver, reply)
+    if sender == "waiting":
+        yield None, ("sending", frame, receiver, reply)  # The timer runs out.
+    if sender == "waiting" and reply:
+        yield None, ("idle", frame, receiver, False)
+    if frame and receiver == "frame":
+        yield None, (sender, False, follow, reply)
+    if frame:
+        yield None, (sender, False, receiver, reply)  # The frame is lost.
+    if receiver == "get":
+        yield "GET", (sender, frame, follow, reply)
+    if receiver == "reply" and not reply:
+        yield None, (sender, frame, follow, True)
+    if reply:
+        yield None, (sender, frame, receiver, False)  # The reply is lost.
+
+
+def wait(state, follows, label, chance):
+    """The label that comes, None if none does, and the state afterwards. The tester puts only if the label is PUT."""
+    for _ in range(PATIENCE):
+        possible = [step for step in steps(state, follows) if step[0] in (None, "GET", label)]
+        if not possible:
+            break
+        came, state = possible[int(chance.random() * len(possible))]
+        if came:
+            return came, state
+    return None, state
+
+
+def observe(sequence, follows, chance):
+    """What comes while the tester goes along a sequence, and then tries to put once more. It stops where something else comes."""
+    state, observed = ("idle", False, "frame", False), []
+    for label in [*sequence, "PUT"]:
+        came, state = wait(state, follows, label, chance)
+        observed += [came] if came else []
+        if came != label:
+            break
+    return observed
+
+
+def verdict(specification, observed):
+    """Nothing if what was observed can happen, and otherwise what `after` says."""
+    with open(specification, "rb") as text:
+        asked = subprocess.run([PROGRAM, "after", *observed], stdin=text, capture_output=True, text=True, check=False)
+    return "" if asked.returncode == 0 else f"  {' '.join(observed)}\n  {asked.stderr}"
+
+
+def main():
+    if len(sys.argv) != 2 and sys.argv[1:-1] != ["--early"]:
+        sys.exit(__doc__.split("\n\n")[1])
+    *fault, specification = sys.argv[1:]
+    for line in sys.stdin:
+        sequence = line.split()
+        runs = [observe(sequence, EARLY if fault else IN_ORDER, random.Random(seed)) for seed in range(RUNS)]
+        along = sum(observed[: len(sequence)] == sequence for observed in runs)
+        failed = "".join(verdict(specification, observed) for observed in sorted(set(map(tuple, runs))))
+        print(f"{' '.join(sequence)}: {along} of {RUNS} runs go along, {'FAIL' if failed else 'pass'}\n{failed}", end="")
+
+
+main()
