@@ -1,10 +1,14 @@
 # The program is proved and built by the launcher ./lotosseq, and kept up to date by it.
 PREFIX = /usr/local
-BIN = $(DESTDIR)$(PREFIX)/bin
-MAN = $(DESTDIR)$(PREFIX)/share/man/man1
-COMPLETIONS = $(DESTDIR)$(PREFIX)/share/bash-completion/completions
-VIMFILES = $(DESTDIR)$(PREFIX)/share/vim/vimfiles
-VSCODE = $(DESTDIR)$(PREFIX)/share/lotosseq/vscode
+# DESTDIR and PREFIX are folders and not text of make or of a shell: no `$` in them is expanded. All that begins with BELOW is
+# written between single quotes.
+BELOW = $(subst ','\'',$(value DESTDIR)$(value PREFIX))
+BIN = $(BELOW)/bin
+MAN = $(BELOW)/share/man/man1
+COMPLETIONS = $(BELOW)/share/bash-completion/completions
+VIMFILES = $(BELOW)/share/vim/vimfiles
+VSCODE = $(BELOW)/share/lotosseq/vscode
+unexport DESTDIR PREFIX
 
 help: ## lists these targets
 	@sed -n 's/^\([a-z]*\):.*## /\1: /p' Makefile | awk -F ': ' '{ printf "make %-10s %s\n", $$1, $$2 }'
@@ -22,21 +26,21 @@ edits: ## tries every edit that makes code wrong, not only those of the gate
 	tools/try-edits
 
 install: build ## installs programs, manual page, completion and syntax files below PREFIX (/usr/local)
-	install -D -m 755 crates/lotosseq/out/lotosseq $(BIN)/lotosseq
-	install -D -m 755 share/lotosseq-chart $(BIN)/lotosseq-chart
-	install -D -m 755 share/lotosseq-ask $(BIN)/lotosseq-ask
-	install -D -m 644 docs/lotosseq.1 $(MAN)/lotosseq.1
-	install -D -m 644 share/bash-completion/completions/lotosseq $(COMPLETIONS)/lotosseq
-	install -D -m 644 share/vim/vimfiles/ftdetect/lotos.vim $(VIMFILES)/ftdetect/lotos.vim
-	install -D -m 644 share/vim/vimfiles/syntax/lotos.vim $(VIMFILES)/syntax/lotos.vim
-	install -D -m 644 share/vscode/package.json $(VSCODE)/package.json
-	install -D -m 644 share/vscode/language-configuration.json $(VSCODE)/language-configuration.json
-	install -D -m 644 share/vscode/syntaxes/lotos.tmLanguage.json $(VSCODE)/syntaxes/lotos.tmLanguage.json
+	install -D -m 755 crates/lotosseq/out/lotosseq '$(BIN)/lotosseq'
+	install -D -m 755 share/lotosseq-chart '$(BIN)/lotosseq-chart'
+	install -D -m 755 share/lotosseq-ask '$(BIN)/lotosseq-ask'
+	install -D -m 644 docs/lotosseq.1 '$(MAN)/lotosseq.1'
+	install -D -m 644 share/bash-completion/completions/lotosseq '$(COMPLETIONS)/lotosseq'
+	install -D -m 644 share/vim/vimfiles/ftdetect/lotos.vim '$(VIMFILES)/ftdetect/lotos.vim'
+	install -D -m 644 share/vim/vimfiles/syntax/lotos.vim '$(VIMFILES)/syntax/lotos.vim'
+	install -D -m 644 share/vscode/package.json '$(VSCODE)/package.json'
+	install -D -m 644 share/vscode/language-configuration.json '$(VSCODE)/language-configuration.json'
+	install -D -m 644 share/vscode/syntaxes/lotos.tmLanguage.json '$(VSCODE)/syntaxes/lotos.tmLanguage.json'
 
 uninstall: ## removes what install has put there
-	rm -f $(BIN)/lotosseq $(BIN)/lotosseq-chart $(BIN)/lotosseq-ask $(MAN)/lotosseq.1 $(COMPLETIONS)/lotosseq
-	rm -f $(VIMFILES)/ftdetect/lotos.vim $(VIMFILES)/syntax/lotos.vim
-	rm -rf $(DESTDIR)$(PREFIX)/share/lotosseq
+	rm -f '$(BIN)/lotosseq' '$(BIN)/lotosseq-chart' '$(BIN)/lotosseq-ask' '$(MAN)/lotosseq.1' '$(COMPLETIONS)/lotosseq'
+	rm -f '$(VIMFILES)/ftdetect/lotos.vim' '$(VIMFILES)/syntax/lotos.vim'
+	rm -rf '$(BELOW)/share/lotosseq'
 
 clean: ## removes all that was proved and built; the next build proves everything
 	rm -rf crates/*/out
