@@ -27,6 +27,7 @@ syntax match lotosSign @>>@
 syntax match lotosSign @:=@
 syntax match lotosSign @|||@
 syntax region lotosComment start=/(\*/ end=/\*)/ contains=@Spell
+syntax sync fromstart
 
 highlight default link lotosDefinition Structure
 highlight default link lotosBehaviour Statement
