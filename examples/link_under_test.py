@@ -4,10 +4,11 @@
 usage: link_under_test.py [--early] SPECIFICATION <SUITE
 
 With --early the link has a fault: it replies to a frame before it has delivered it. The program is ./lotosseq, or what the variable
-LOTOSSEQ names.
+LOTOSSEQ names. The status is 0 if the suite was run, whatever came of it, and 2 if it could not be run to its end.
 """
 import os
 import random
+import signal
 import subprocess
 import sys
 
@@ -18,6 +19,10 @@ PATIENCE = 30
 # What the receiver does in turn: as specified, and with the fault.
 IN_ORDER = {"frame": "get", "get": "reply", "reply": "frame"}
 EARLY = {"frame": "reply", "reply": "get", "get": "frame"}
+
+
+class NoVerdict(Exception):
+    """Why it is not known whether what was observed can happen."""
 
 
 def steps(state, follows):
@@ -71,19 +76,40 @@ def verdict(specification, observed):
     """Nothing if what was observed can happen, and otherwise what `after` says."""
     with open(specification, "rb") as text:
         asked = subprocess.run([PROGRAM, "after", *observed], stdin=text, capture_output=True, text=True, check=False)
+    # Other statuses than these two are no answers.
+    if asked.returncode not in (0, 1):
+        raise NoVerdict(f"{PROGRAM} ended with status {asked.returncode}: {asked.stderr.strip()}")
     return "" if asked.returncode == 0 else f"  {' '.join(observed)}\n  {asked.stderr}"
+
+
+def try_sequence(specification, follows, sequence):
+    """Writes how many runs go along a sequence, and the verdict."""
+    runs = [observe(sequence, follows, random.Random(seed)) for seed in range(RUNS)]
+    along = sum(observed[: len(sequence)] == sequence for observed in runs)
+    failed = "".join(verdict(specification, observed) for observed in sorted(set(map(tuple, runs))))
+    # A file of its own, so that nothing is left to be written when Python ends.
+    with open(1, "w", encoding="utf-8", closefd=False) as output:
+        output.write(f"{' '.join(sequence)}: {along} of {RUNS} runs go along, {'FAIL' if failed else 'pass'}\n{failed}")
 
 
 def main():
     if len(sys.argv) != 2 and sys.argv[1:-1] != ["--early"]:
-        sys.exit(__doc__.split("\n\n")[1])
+        print(__doc__.split("\n\n")[1], file=sys.stderr)
+        return 2
     *fault, specification = sys.argv[1:]
-    for line in sys.stdin:
-        sequence = line.split()
-        runs = [observe(sequence, EARLY if fault else IN_ORDER, random.Random(seed)) for seed in range(RUNS)]
-        along = sum(observed[: len(sequence)] == sequence for observed in runs)
-        failed = "".join(verdict(specification, observed) for observed in sorted(set(map(tuple, runs))))
-        print(f"{' '.join(sequence)}: {along} of {RUNS} runs go along, {'FAIL' if failed else 'pass'}\n{failed}", end="")
+    try:
+        with open(0, encoding="utf-8", closefd=False) as suite:
+            for line in suite:
+                try_sequence(specification, EARLY if fault else IN_ORDER, line.split())
+    except (OSError, UnicodeDecodeError, NoVerdict) as why:
+        print(f"link_under_test.py: {why}", file=sys.stderr)
+        return 2
+    return 0
 
 
-main()
+try:
+    sys.exit(main())
+except KeyboardInterrupt:
+    # Ends as a program does that this signal ends.
+    signal.signal(signal.SIGINT, signal.SIG_DFL)
+    os.kill(os.getpid(), signal.SIGINT)
