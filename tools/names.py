@@ -11,7 +11,10 @@ import re
 
 TOP = os.path.dirname(os.path.dirname(os.path.realpath(__file__)))
 # What no file defines: words of the language, of the command line and of texts, other programs, and what they define.
-WORDS = set("exit i stop hide f c rt gcc mandoc clap indexmap strsim thiserror itoa Option u64".split())
+WORDS = set(
+    "specification behaviour process where endproc endspec in exit noexit stop hide i f c "
+    "rt gcc mandoc clap indexmap strsim thiserror itoa Box Option Result String Vec u64 usize".split()
+)
 
 TICKED = r"`[^`\n]+`"
 SEVERAL = rf"{TICKED}(?:(?:, and |, | and ){TICKED})*"
