@@ -124,15 +124,28 @@ fn compare_sample(rt: &impl Abort, alloc: Global, sample: &Sample) -> Result<(),
         strong: sample.strong,
         terms: ALL,
         states: ALL_STATES,
-        mark: None,
     };
     for terms in TERMS {
-        compare_after(rt, alloc, sample, CoverQuestion { terms, ..whole }, None)?;
+        compare_after(
+            rt,
+            alloc,
+            sample,
+            CoverQuestion { terms, ..whole },
+            None,
+            None,
+        )?;
     }
     for states in STATES {
-        compare_after(rt, alloc, sample, CoverQuestion { states, ..whole }, None)?;
+        compare_after(
+            rt,
+            alloc,
+            sample,
+            CoverQuestion { states, ..whole },
+            None,
+            None,
+        )?;
     }
-    compare_after(rt, alloc, sample, whole, None)?;
+    compare_after(rt, alloc, sample, whole, None, None)?;
     compare_marks(rt, alloc, sample, whole)
 }
 
@@ -163,11 +176,8 @@ fn compare_mark(
     one: &Observed,
 ) -> Result<(), Fail> {
     let line = spelled(alloc, one)?;
-    let question = CoverQuestion {
-        mark: Some(line.as_str()),
-        ..whole
-    };
-    compare_after(rt, alloc, sample, question, Some(index))
+    let after = Some(line.as_str());
+    compare_after(rt, alloc, sample, whole, after, Some(index))
 }
 
 fn spelled(alloc: Global, one: &Observed) -> Result<String, AllocError> {
@@ -176,12 +186,13 @@ fn spelled(alloc: Global, one: &Observed) -> Result<String, AllocError> {
     Ok(line)
 }
 
-/// Compares one search with the oracle's cover after the sequence with this index, which is the mark.
+/// Compares one search after a line with the oracle's cover after the sequence with this index, which is that line.
 fn compare_after(
     rt: &impl Abort,
     alloc: Global,
     sample: &Sample,
     question: CoverQuestion,
+    after: Option<&str>,
     mark: Option<usize>,
 ) -> Result<(), Fail> {
     let limits = Limits {
@@ -190,7 +201,7 @@ fn compare_after(
         length: sample.length,
     };
     let expected = cover_of(alloc, sample.sequences.as_slice(), limits, mark)?;
-    let found = run_up_to(alloc, question, sample.length)?;
-    assert_cover(rt, question, &found, &expected);
+    let found = run_up_to(alloc, question, after, sample.length)?;
+    assert_cover(rt, question, after, &found, &expected);
     Ok(())
 }

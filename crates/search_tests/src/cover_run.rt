@@ -24,7 +24,6 @@ pub struct CoverQuestion<'a> {
     pub terms: usize,
     /// The most sets.
     pub states: usize,
-    pub mark: Option<&'a str>,
 }
 
 /// The lines of a cover and how it ends, as text, and what its observer is told.
@@ -51,9 +50,13 @@ pub enum Kind {
     Failed,
 }
 
-/// The search, not yet asked for a line.
-pub fn begin_cover(alloc: Global, question: CoverQuestion) -> Result<Box<CoverSearch>, Fail> {
-    let mark = mark_of(alloc, question.mark, question.strong)?;
+/// The search for the lines after this one, or for all, not yet asked for a line.
+pub fn begin_cover(
+    alloc: Global,
+    question: CoverQuestion,
+    after: Option<&str>,
+) -> Result<Box<CoverSearch>, Fail> {
+    let mark = mark_of(alloc, after, question.strong)?;
     let table = normal_table_of_text(alloc, question.text)?;
     Ok(begin_in(alloc, table, question, mark)?)
 }
@@ -116,15 +119,24 @@ fn without_labels(alloc: Global, kind: Kind) -> Answer {
     }
 }
 
-/// What the search returns, to its end.
-pub fn run_cover(alloc: Global, question: CoverQuestion) -> Result<Cover, Fail> {
-    run_up_to(alloc, question, usize::MAX)
+/// What the search after this line returns, to its end.
+pub fn run_cover(
+    alloc: Global,
+    question: CoverQuestion,
+    after: Option<&str>,
+) -> Result<Cover, Fail> {
+    run_up_to(alloc, question, after, usize::MAX)
 }
 
 /// What the search returns, up to the first sequence of as many labels as `length`, or more. The text then ends with
 /// `more`, and what the observer is told is left out.
-pub fn run_up_to(alloc: Global, question: CoverQuestion, length: usize) -> Result<Cover, Fail> {
-    let mut search = begin_cover(alloc, question)?;
+pub fn run_up_to(
+    alloc: Global,
+    question: CoverQuestion,
+    after: Option<&str>,
+    length: usize,
+) -> Result<Cover, Fail> {
+    let mut search = begin_cover(alloc, question, after)?;
     answers_up_to(alloc, &mut search, length)
 }
 
@@ -202,25 +214,37 @@ fn label_text(gates: &[Name], label: Label) -> Result<&str, Fail> {
 }
 
 /// Asserts what the search returns.
-pub fn assert_cover(rt: &impl Abort, question: CoverQuestion, found: &Cover, expected: &Cover) {
-    assert_cover_text(rt, question, found, expected.text.as_str());
+pub fn assert_cover(
+    rt: &impl Abort,
+    question: CoverQuestion,
+    after: Option<&str>,
+    found: &Cover,
+    expected: &Cover,
+) {
+    assert_cover_text(rt, question, after, found, expected.text.as_str());
     assert_eq!(rt;
         found.visits,
         expected.visits,
         "visits of {}, internal steps observed: {}, after {:?}, at most {} terms and {} states",
-        question.text, question.strong, question.mark, question.terms, question.states
+        question.text, question.strong, after, question.terms, question.states
     );
 }
 
 /// Asserts the lines and how the cover ends.
-pub fn assert_cover_text(rt: &impl Abort, question: CoverQuestion, found: &Cover, expected: &str) {
+pub fn assert_cover_text(
+    rt: &impl Abort,
+    question: CoverQuestion,
+    after: Option<&str>,
+    found: &Cover,
+    expected: &str,
+) {
     assert_eq!(rt;
         found.text.as_str(),
         expected,
         "{}, internal steps observed: {}, after {:?}, at most {} terms and {} states",
         question.text,
         question.strong,
-        question.mark,
+        after,
         question.terms,
         question.states
     );

@@ -192,7 +192,6 @@ fn whole(text: &str, strong: bool) -> CoverQuestion<'_> {
         strong,
         terms: ALL,
         states: ALL,
-        mark: None,
     }
 }
 
@@ -200,16 +199,17 @@ fn assert_run(
     rt: &impl Abort,
     alloc: Global,
     question: CoverQuestion,
+    after: Option<&str>,
     expected: &str,
 ) -> Result<(), Fail> {
-    let found = run_cover(alloc, question)?;
-    assert_cover_text(rt, question, &found, expected);
+    let found = run_cover(alloc, question, after)?;
+    assert_cover_text(rt, question, after, &found, expected);
     Ok(())
 }
 
 fn assert_whole(rt: &impl Abort, alloc: Global, rows: &[(&str, bool, &str)]) -> Result<(), Fail> {
     for (text, strong, expected) in rows {
-        assert_run(rt, alloc, whole(text, *strong), expected)?;
+        assert_run(rt, alloc, whole(text, *strong), None, expected)?;
     }
     Ok(())
 }
@@ -229,10 +229,9 @@ fn halts_at_too_many_normal_forms(rt: HostRuntime) -> Result<(), Fail> {
     for (text, terms, mark, expected) in TERMS {
         let question = CoverQuestion {
             terms: *terms,
-            mark: *mark,
             ..whole(text, false)
         };
-        assert_run(&rt, rt.alloc(), question, expected)?;
+        assert_run(&rt, rt.alloc(), question, *mark, expected)?;
     }
     Ok(())
 }
@@ -242,10 +241,9 @@ fn halts_at_too_many_sets(rt: HostRuntime) -> Result<(), Fail> {
     for (text, states, mark, expected) in STATES {
         let question = CoverQuestion {
             states: *states,
-            mark: *mark,
             ..whole(text, false)
         };
-        assert_run(&rt, rt.alloc(), question, expected)?;
+        assert_run(&rt, rt.alloc(), question, *mark, expected)?;
     }
     Ok(())
 }
@@ -253,18 +251,15 @@ fn halts_at_too_many_sets(rt: HostRuntime) -> Result<(), Fail> {
 #[test]
 fn goes_on_after_a_mark(rt: HostRuntime) -> Result<(), Fail> {
     for (strong, mark, expected) in MARKS {
-        let question = CoverQuestion {
-            mark: Some(*mark),
-            ..whole(HIDDEN_LOOP, *strong)
-        };
-        assert_run(&rt, rt.alloc(), question, expected)?;
+        let question = whole(HIDDEN_LOOP, *strong);
+        assert_run(&rt, rt.alloc(), question, Some(*mark), expected)?;
     }
     Ok(())
 }
 
 /// What the first five calls return.
 fn first_calls(alloc: Global, question: CoverQuestion) -> Result<String, Fail> {
-    let mut search = begin_cover(alloc, question)?;
+    let mut search = begin_cover(alloc, question, None)?;
     answers_of_calls(alloc, &mut search)
 }
 
@@ -321,7 +316,7 @@ fn told_after(alloc: Global, search: &mut CoverSearch, calls: usize) -> Result<V
 }
 
 fn told(alloc: Global, question: CoverQuestion, calls: usize) -> Result<Vec<Visits>, Fail> {
-    let mut search = begin_cover(alloc, question)?;
+    let mut search = begin_cover(alloc, question, None)?;
     told_after(alloc, &mut search, calls)
 }
 
