@@ -263,8 +263,8 @@ fn spell(line: &mut Line, gates: &[Name], labels: &[Label]) -> Result<(), Stop> 
 
 fn label_text(gates: &[Name], label: Label) -> Result<&str, Stop> {
     match label {
-        Label::Gate(number) => match gates.get(number) {
-            Some(gate) => Ok(gate.text()),
+        Label::Gate(gate) => match gates.get(gate.number()) {
+            Some(name) => Ok(name.text()),
             None => Err(Stop::Row),
         },
         Label::Exit => Ok("exit"),

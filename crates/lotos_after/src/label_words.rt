@@ -8,7 +8,7 @@ ghost use Rattle.lotos_terms.specs.TableView.{IsPrintedAs};
 ghost use Rattle.lotos_after.specs.LabelWords.{HasGate, HaveGates, IsWordCause};
 
 use lotos_pattern::is_word;
-use lotos_terms::Label;
+use lotos_terms::{Gate, Label};
 use lotos_text::Name;
 use std::alloc::{AllocError, Global};
 
@@ -87,19 +87,19 @@ fn label_of_word(alloc: Global, gates: &[Name], word: &str) -> Result<Option<Lab
         return Ok(Some(Label::Internal));
     }
     let name = word.to_ascii_uppercase(alloc)?;
-    match gate_number(gates, name.as_str()) {
+    match find_gate(gates, name.as_str()) {
         Some(gate) => Ok(Some(Label::Gate(gate))),
         None => Ok(None),
     }
 }
 
-/// The number of the gate with this name, if it is one of these.
-fn gate_number(gates: &[Name], name: &str) -> Option<usize>
+/// The gate with this name, if it is one of these.
+fn find_gate(gates: &[Name], name: &str) -> Option<Gate>
     ensures { MatchOption result (In name.now gates.now → ⊥) (λ g. slice_get gates.now g ≡ Some name.now) }
 {
     for number in 0..gates.len() {
         if gates[number].text() == name {
-            return Some(number);
+            return Some(Gate::of_number(number));
         }
     }
     None

@@ -1,7 +1,8 @@
 -- Printed labels, and the text of a sequence of them.
-use Rattle.std.proofs.Common.{◌≡◌, ℕ, ◌≤◌, codes, List, [], ◌∷◌, ◌++◌, length, refl, sym, subst, ap, ◌∙◌, drop, append_assoc, append-nil}
+use Rattle.std.proofs.Common.{◌≡◌, ℕ, ◌+◌, ◌<◌, ◌≤◌, codes, List, [], ◌∷◌, ◌++◌, get_or, length, refl, sym, subst, ap, ◌∙◌, drop, append_assoc, append-nil}
 use Rattle.std.specs.List.{flat_map}
 use Rattle.std.proofs.Math.ListN.{drop_of_length-le}
+use Rattle.std.proofs.lemmas.List.{drop_more}
 use Rattle.lotos_check.specs.NameLists.{Name}
 use Rattle.lotos_store.specs.declared.label.Label.{Label as TermLabel}
 use Rattle.lotos_terms.specs.TableView.{IsPrintedAs}
@@ -9,6 +10,10 @@ use Rattle.lotos_terms.proofs.PrintedLabels.{one_text}
 use Rattle.lotos_listing.specs.Order.{Label}
 use Rattle.lotos_listing.specs.Question.{ArePrinted, none_printed, more_printed}
 use Rattle.lotos_output.specs.OutputLines.{sequence_text}
+
+-- the labels from an index on: the one at the index, and those after it
+pub left_from : (labels : List TermLabel) (i : ℕ) (k : TermLabel) → i < length labels → k ≡ get_or labels i k → drop i labels ≡ k ∷ drop (i + 1) labels
+left_from labels i k below is = drop_more labels i k below ∙ ap (λ j. j ∷ drop (i + 1) labels) (sym is)
 
 -- the texts of a list of labels: that of the first label, and those of the others
 pub record AreCut (names : List Name) (k : TermLabel) (ks : List TermLabel) (s : List Label) : Type 0 where

@@ -204,9 +204,9 @@ fn label_texts<'a>(
 /// The text of a label where the gates have these names.
 fn label_text(gates: &[Name], label: Label) -> Result<&str, Fail> {
     match label {
-        Label::Gate(number) => {
-            let gate = gates.get(number).ok_or("an unknown gate")?;
-            Ok(gate.text())
+        Label::Gate(gate) => {
+            let name = gates.get(gate.number()).ok_or("an unknown gate")?;
+            Ok(name.text())
         }
         Label::Exit => Ok("exit"),
         Label::Internal => Ok("i"),

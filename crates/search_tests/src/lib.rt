@@ -46,6 +46,8 @@ mod progress_tests;
 #[cfg(test)]
 mod resumed_listing_tests;
 #[cfg(test)]
+mod row_label;
+#[cfg(test)]
 mod run_oracle;
 #[cfg(test)]
 mod samples;

@@ -2,22 +2,13 @@
 
 use super::accepted_text::{joined, normal_table_of_text};
 use super::progress_tests::NONE;
+use super::row_label::{A, B, EXIT, I, RowLabel, are_labels};
 use lotos_ever::{Found, Halt, find_shortest_match, find_shortest_match_with_progress};
 use lotos_normal::NormalTable;
 use lotos_pattern::Pattern;
-use lotos_terms::Label;
 use std::alloc::Global;
 use std::process::Abort;
 use std::test::Fail;
-
-/// The label of the gate `a`: gates are numbered in the order of their names.
-const A: Label = Label::Gate(0);
-
-const B: Label = Label::Gate(1);
-
-const I: Label = Label::Internal;
-
-const EXIT: Label = Label::Exit;
 
 /// A question and the expected answer.
 #[derive(Clone, Copy)]
@@ -36,7 +27,7 @@ struct Row<'a> {
 enum Answer<'a> {
     NoMatch,
     /// The run of the first match, and what is observed of it.
-    Found(&'a [Label], &'a [Label]),
+    Found(&'a [RowLabel], &'a [RowLabel]),
     TooManyStates,
 }
 
@@ -440,7 +431,8 @@ pub fn boxed_table(alloc: Global, behaviour: &str) -> Result<Box<NormalTable>, F
 fn is_found(found: &Found, expected: Answer) -> bool {
     match expected {
         Answer::Found(run, sequence) => {
-            found.word.as_slice() == run && found.sequence.as_slice() == sequence
+            are_labels(found.word.as_slice(), run)
+                && are_labels(found.sequence.as_slice(), sequence)
         }
         Answer::NoMatch => false,
         Answer::TooManyStates => false,

@@ -2,9 +2,10 @@
 ghost use Rattle.std.specs.Prelude.{◌≤◌};
 
 use super::accepted_text::table_of_text;
+use super::row_label::{A, B, EXIT, RowLabel, are_labels};
 use lotos_listing::{Found, Halt};
 use lotos_pattern::Pattern;
-use lotos_terms::{Label, Table};
+use lotos_terms::Table;
 use std::alloc::Global;
 use std::process::Abort;
 use std::test::Fail;
@@ -18,30 +19,28 @@ const TERMS: usize = 100;
 /// A specification with the sequences `<empty>`, `A`, `B`, `A exit`, `B A`, `B A exit`.
 const TEXT: &str = "specification S [a,b] : exit behaviour a; exit [] b; a; exit endspec";
 
-/// The labels of the gates, in the order of their names.
-const A: Label = Label::Gate(0);
-
-const B: Label = Label::Gate(1);
-
 /// A line, and the sequence of the first item after it, if there is one.
-const LINES: &[(&str, Option<&[Label]>)] = &[
+const LINES: &[(&str, Option<&[RowLabel]>)] = &[
     ("<empty>", Some(&[A])),
     ("A", Some(&[B])),
-    ("B", Some(&[A, Label::Exit])),
+    ("B", Some(&[A, EXIT])),
     ("A exit", Some(&[B, A])),
     ("A exit : A exit", Some(&[B, A])),
-    ("B A", Some(&[B, A, Label::Exit])),
+    ("B A", Some(&[B, A, EXIT])),
     ("B A exit", None),
     // Lines that the listing does not have.
-    ("A A", Some(&[A, Label::Exit])),
-    ("C", Some(&[A, Label::Exit])),
+    ("A A", Some(&[A, EXIT])),
+    ("C", Some(&[A, EXIT])),
     ("A A A A", None),
 ];
 
 /// Whether the answer is this item.
-fn is_item<E>(answer: &Result<Option<Found>, E>, wanted: Option<&[Label]>) -> bool {
+fn is_item<E>(answer: &Result<Option<Found>, E>, wanted: Option<&[RowLabel]>) -> bool {
     match answer {
-        Ok(Some(item)) => wanted == Some(item.sequence.as_slice()),
+        Ok(Some(item)) => match wanted {
+            Some(labels) => are_labels(item.sequence.as_slice(), labels),
+            None => false,
+        },
         Ok(None) => wanted.is_none(),
         Err(_) => false,
     }
@@ -64,7 +63,7 @@ fn after(alloc: Global, line: &str) -> Result<Result<Option<Found>, ItemFault>, 
     Ok(found_after(alloc, table_of_text(alloc, TEXT)?, pattern, line))
 }
 
-fn is_after(alloc: Global, line: &str, wanted: Option<&[Label]>) -> Result<bool, Fail> {
+fn is_after(alloc: Global, line: &str, wanted: Option<&[RowLabel]>) -> Result<bool, Fail> {
     let answer = after(alloc, line)?;
     Ok(is_item(&answer, wanted))
 }
@@ -78,7 +77,7 @@ fn finds_the_item_after_a_line(rt: HostRuntime) -> Result<(), Fail> {
     Ok(())
 }
 
-fn assert_after(rt: &impl Abort, line: &str, wanted: Option<&[Label]>, holds: bool) {
+fn assert_after(rt: &impl Abort, line: &str, wanted: Option<&[RowLabel]>, holds: bool) {
     assert!(rt; holds, "after {}: {:?}", line, wanted);
 }
 
@@ -119,19 +118,19 @@ fn second(
     Ok(found_second(alloc, table_of_text(alloc, text)?, pattern, terms))
 }
 
-fn is_second(alloc: Global, words: &[&str], wanted: Option<&[Label]>) -> Result<bool, Fail> {
+fn is_second(alloc: Global, words: &[&str], wanted: Option<&[RowLabel]>) -> Result<bool, Fail> {
     let answer = second(alloc, TEXT, words, TERMS)?;
     Ok(is_item(&answer, wanted))
 }
 
 /// The words of a pattern, and the sequence of the second item of its listing, if there is one.
-const SECOND: &[(&[&str], Option<&[Label]>)] = &[
+const SECOND: &[(&[&str], Option<&[RowLabel]>)] = &[
     (&["<while>", "<any>"], Some(&[A])),
     (&["<any>"], Some(&[B])),
     // `A exit` and `B A`.
     (&["<any>", "<any>"], Some(&[B, A])),
     // `A exit` and `B A exit`.
-    (&["<until>", "exit"], Some(&[B, A, Label::Exit])),
+    (&["<until>", "exit"], Some(&[B, A, EXIT])),
     // `B` alone.
     (&["b"], None),
     // None at all.
@@ -147,7 +146,7 @@ fn finds_the_second_item(rt: HostRuntime) -> Result<(), Fail> {
     Ok(())
 }
 
-fn assert_second(rt: &impl Abort, words: &[&str], wanted: Option<&[Label]>, holds: bool) {
+fn assert_second(rt: &impl Abort, words: &[&str], wanted: Option<&[RowLabel]>, holds: bool) {
     assert!(rt; holds, "{:?}: {:?}", words, wanted);
 }
 
@@ -155,7 +154,7 @@ fn assert_second(rt: &impl Abort, words: &[&str], wanted: Option<&[Label]>, hold
 fn is_over(alloc: Global, text: &str) -> Result<bool, Fail> {
     let answer = second(alloc, text, &["<while>", "<any>"], 1)?;
     match &answer {
-        Err(Halt::OverTerms(prefix)) => Ok(prefix.as_slice() == [A].as_slice()),
+        Err(Halt::OverTerms(prefix)) => Ok(are_labels(prefix.as_slice(), &[A])),
         _ => Ok(false),
     }
 }

@@ -1,19 +1,15 @@
 //! Runs of a few specifications.
 use super::accepted_text::{joined, table_of_text};
+use super::row_label::{A, B, EXIT, I, RowLabel, are_labels};
 use lotos_terms::{Label, Step, Table};
 use std::alloc::{AllocError, Global};
 use std::process::Abort;
 use std::test::Fail;
 use uses::first_run;
 
-/// The labels of the gates, in the order of their names.
-const A: Label = Label::Gate(0);
-
-const B: Label = Label::Gate(1);
-
 /// The functionality and the behaviour of a specification with the gates `a` and `b`, a depth, and the labels of its
 /// first run.
-const RUNS: &[(&str, usize, &[Label])] = &[
+const RUNS: &[(&str, usize, &[RowLabel])] = &[
     ("noexit behaviour stop", 3, &[]),
     ("noexit behaviour a; b; stop", 0, &[]),
     ("noexit behaviour a; b; stop", 1, &[A]),
@@ -21,11 +17,7 @@ const RUNS: &[(&str, usize, &[Label])] = &[
     // A deadlock after two steps.
     ("noexit behaviour a; b; stop", 5, &[A, B]),
     // The term after termination has no step.
-    (
-        "exit behaviour b; i; exit",
-        9,
-        &[B, Label::Internal, Label::Exit],
-    ),
+    ("exit behaviour b; i; exit", 9, &[B, I, EXIT]),
     // Labels ascend, so the step of `a` is the first one.
     ("noexit behaviour b; stop [] a; stop", 9, &[A]),
     // Neither side can do its step alone.
@@ -62,13 +54,18 @@ fn has_run(
     alloc: Global,
     table: &mut Table,
     depth: usize,
-    wanted: &[Label],
+    wanted: &[RowLabel],
 ) -> Result<bool, AllocError> {
     let labels = run_labels(alloc, table, depth)?;
-    Ok(labels.as_slice() == wanted)
+    Ok(are_labels(labels.as_slice(), wanted))
 }
 
-fn follows(alloc: Global, behaviour: &str, depth: usize, wanted: &[Label]) -> Result<bool, Fail> {
+fn follows(
+    alloc: Global,
+    behaviour: &str,
+    depth: usize,
+    wanted: &[RowLabel],
+) -> Result<bool, Fail> {
     let mut table = table_of(alloc, behaviour)?;
     Ok(has_run(alloc, &mut table, depth, wanted)?)
 }
@@ -82,7 +79,13 @@ fn follows_runs(rt: HostRuntime) -> Result<(), Fail> {
     Ok(())
 }
 
-fn assert_follows(rt: &impl Abort, behaviour: &str, depth: usize, wanted: &[Label], holds: bool) {
+fn assert_follows(
+    rt: &impl Abort,
+    behaviour: &str,
+    depth: usize,
+    wanted: &[RowLabel],
+    holds: bool,
+) {
     assert!(rt;
         holds,
         "{} at depth {}, the labels {:?}",

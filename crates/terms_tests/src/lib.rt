@@ -1,5 +1,6 @@
 //! Tests of terms through the public items of `lotos_terms`: worked rows, the steps of a table against an oracle, a slow
-//! reading of the inference rules over terms of its own, and how soon normal forms recur.
+//! reading of the inference rules over terms of its own, and how soon normal forms recur. And tests of what can still come,
+//! through the public items of `lotos_ends`: worked rows, and an oracle that goes over all normal forms again and again.
 //!
 //! They are a crate of their own, because a crate with tests inside is proved twice, and one crate, because each that
 //! runs tests is linked with all libraries below.
@@ -8,11 +9,19 @@
 #[cfg(test)]
 mod accepted_text;
 #[cfg(test)]
+mod end_states_tests;
+#[cfg(test)]
+mod ends_comparison;
+#[cfg(test)]
+mod ends_oracle;
+#[cfg(test)]
 mod form_step_tests;
 #[cfg(test)]
 mod gate_names;
 #[cfg(test)]
 mod graph;
+#[cfg(test)]
+mod label_set;
 #[cfg(test)]
 mod large_terms;
 #[cfg(test)]

@@ -1,8 +1,6 @@
 use Rattle.std.proofs.Common.{◌+◌, ◌++◌, ◌∷◌, [], ◌∙◌, ap, append-nil, codes, drop, sym}
 use Rattle.std.specs.List.{flat_map}
-use Rattle.std.proofs.lemmas.List.{drop_more}
-use Rattle.lotos_store.specs.declared.label.Label.TheVariants.{Gate}
-use Rattle.lotos_output.proofs.FormattedLines.{label_line, line_behind, line_shown, lines_none}
+use Rattle.lotos_output.proofs.FormattedLines.{label_line, left_from, line_behind, line_shown, lines_none}
 use Rattle.lotos_output.proofs.output_lines.format_next.Goals as goal
 use Rattle.lotos_output.proofs.output_lines.format_next.Goals.{else-dead, then-dead+in_ok-extend_from_slice}
 
@@ -11,13 +9,14 @@ loop-label-init c = λ next printed. (next, printed, ap (λ b. b ++ flat_map lab
 
 pub label_text-requires : goal.label_text-requires
 label_text-requires c = line_shown _ _ (drop (c.loop-label.label-index + 1) c.args.labels.now) _ _ _
-    (drop_more c.args.labels.now c.loop-label.label-index (Gate 0) c.loop-label-test.true)
+    (left_from c.args.labels.now c.loop-label.label-index c.label-item.result c.loop-label-test.true c.label-item.is)
     (c.loop-label.invariant c.requires.0 c.requires.1)
 
 pub loop-label-preserved : goal.loop-label-preserved
 loop-label-preserved c =
     let grown = c.in_ok-push.ensures.items ∙ ap (λ b. b ++ 10 ∷ []) c.in_ok-append_text.ensures in
-    λ next printed. line_behind _ _ _ _ _ _ _ next (drop_more c.args.labels.now c.loop-label.label-index (Gate 0) c.loop-label-test.true)
+    λ next printed. line_behind _ _ _ _ _ _ _ next
+    (left_from c.args.labels.now c.loop-label.label-index c.label-item.result c.loop-label-test.true c.label-item.is)
     c.label_text.ensures grown (c.loop-label.invariant next printed)
 
 pub returns : goal.returns

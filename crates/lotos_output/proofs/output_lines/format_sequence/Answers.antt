@@ -1,10 +1,8 @@
 use Rattle.std.proofs.Common.{◌≡◌, ◌+◌, ◌++◌, ◌∷◌, [], ◌∙◌, IsUtf8, ap, arith, drop, rules, string_bytes, subst, sym}
-use Rattle.std.proofs.lemmas.List.{drop_more}
 use Rattle.std.proofs.lemmas.Result.{IfOk-weaker}
 use Rattle.std.proofs.lemmas.Str.{IsUtf8-append, IsUtf8-from_ascii}
 use Rattle.std.proofs.lemmas.Str.Ascii.{IsAscii-cons, IsAscii-nil}
-use Rattle.lotos_store.specs.declared.label.Label.TheVariants.{Gate}
-use Rattle.lotos_output.proofs.FormattedLines.{left_at_first, left_behind, left_none, left_shown, none_spelled}
+use Rattle.lotos_output.proofs.FormattedLines.{left_at_first, left_behind, left_from, left_none, left_shown, none_spelled}
 use Rattle.lotos_output.proofs.output_lines.format_sequence.Goals as goal
 
 pub loop-label-init : goal.loop-label-init
@@ -17,7 +15,7 @@ loop-label-init c =
 
 pub label_text-requires : goal.label_text-requires
 label_text-requires c = left_shown _ _ (drop (c.loop-label.label-index + 1) c.in-Some.rest.now) _ _ _
-    (drop_more c.in-Some.rest.now c.loop-label.label-index (Gate 0) c.loop-label-test.true)
+    (left_from c.in-Some.rest.now c.loop-label.label-index c.label-item.result c.loop-label-test.true c.label-item.is)
     (c.loop-label.invariant.left c.requires.0 c.requires.1)
 
 pub loop-label-preserved : goal.loop-label-preserved
@@ -27,7 +25,7 @@ loop-label-preserved c =
     record {
       utf8 = subst IsUtf8 (sym grown) (IsUtf8-append _ _ (IsUtf8-append _ _ c.loop-label.invariant.utf8 blank) c.label_text.utf8);
       left = λ s all. left_behind _ _ _ _ _ _ _ s
-          (drop_more c.in-Some.rest.now c.loop-label.label-index (Gate 0) c.loop-label-test.true)
+          (left_from c.in-Some.rest.now c.loop-label.label-index c.label-item.result c.loop-label-test.true c.label-item.is)
           c.label_text.ensures grown (c.loop-label.invariant.left s all);
     }
 

@@ -1,5 +1,5 @@
 use Rattle.std.proofs.Common.{◌≡◌, ℕ, ◌<◌, [], get_or}
-use Rattle.lotos_after.proofs.label_words.gate_number.Given as goal
+use Rattle.lotos_after.proofs.label_words.find_gate.Given as goal
 
 -- none of the gates before the index has the name
 abbrev pub invariant-loop-number : goal.invariant-loop-number
