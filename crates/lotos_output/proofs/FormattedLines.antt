@@ -54,7 +54,8 @@ pub left_behind : (names : List Name) (rest later : List TermLabel) (label : Ter
 left_behind names rest later label text shown text' s e h written (left, all, whole) =
     let cut = cut_first names label later left (subst (λ ls. ArePrinted names ls left) e all) in
     let same = one_text names label shown cut.first h cut.printed in
-    let whole' : text ++ flat_map (λ m. 32 ∷ m) (cut.first ∷ cut.others) ≡ sequence_text s = subst (λ x. text ++ flat_map (λ m. 32 ∷ m) x ≡ sequence_text s) cut.joined whole in
+    let whole' : text ++ flat_map (λ m. 32 ∷ m) (cut.first ∷ cut.others) ≡ sequence_text s =
+    subst (λ x. text ++ flat_map (λ m. 32 ∷ m) x ≡ sequence_text s) cut.joined whole in
     let grown : text' ≡ text ++ (32 ∷ cut.first) = written ∙ append_assoc text (32 ∷ []) shown ∙ ap (λ x. text ++ (32 ∷ x)) same in
     let others = flat_map (λ m. 32 ∷ m) cut.others in
     (cut.others, cut.all, ap (λ x. x ++ others) grown ∙ append_assoc text (32 ∷ cut.first) others ∙ whole')
@@ -84,7 +85,8 @@ AreLinesLeft names rest lines all = (left : List Label) × ArePrinted names rest
 
 -- one more line is written
 pub line_behind : (names : List Name) (rest later : List TermLabel) (label : TermLabel) (lines shown lines' : List ℕ) (all : List Label) →
-    rest ≡ label ∷ later → IsPrintedAs names label shown → lines' ≡ (lines ++ shown) ++ 10 ∷ [] → AreLinesLeft names rest lines all → AreLinesLeft names later lines' all
+    rest ≡ label ∷ later → IsPrintedAs names label shown → lines' ≡ (lines ++ shown) ++ 10 ∷ [] → AreLinesLeft names rest lines all →
+    AreLinesLeft names later lines' all
 line_behind names rest later label lines shown lines' all e h written (left, printed, whole) =
     let cut = cut_first names label later left (subst (λ ls. ArePrinted names ls left) e printed) in
     let same = one_text names label shown cut.first h cut.printed in

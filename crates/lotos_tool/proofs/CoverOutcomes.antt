@@ -24,7 +24,8 @@ use Rattle.lotos_tool.proofs.SearchOutcomes.{no_input_fault}
 
 -- a search of the system that began with the request's bounds is one for the request
 pub cover_asked_of : (request : CoverRequest) (system : System) (held : TableView) (mark : Option (List Label)) (search : CoverState) →
-    IsCoverQuestionOf system search.question → IsBegun held request.strong request.terms request.states mark search → IsCoverSearchFor request system mark search
+    IsCoverQuestionOf system search.question → IsBegun held request.strong request.terms request.states mark search →
+    IsCoverSearchFor request system mark search
 cover_asked_of request system held mark search question begun = record {
   question = record {
     question = question;

@@ -10,7 +10,8 @@ use Rattle.lotos_cover.specs.CoverListings.{CoverQuestion}
 use Rattle.lotos_cover.specs.CoverSteps as lines
 use Rattle.lotos_cover.specs.declared.cover_halt.CoverHalt.{CoverHalt}
 use Rattle.lotos_cover.specs.declared.cover_halt.CoverHalt.TheVariants as cover
-use Rattle.lotos_tool.specs.ListingQuestions.{IsLeastRunOf, IsMember, IsOneSetTooMany, IsOversizedPrefix, IsStopAt, IsWhole, ListingQuestion, NextReturnsAt, by_cover, cover_halt_of, halt_of, names_of}
+use Rattle.lotos_tool.specs.ListingQuestions.{IsLeastRunOf, IsMember, IsOneSetTooMany, IsOversizedPrefix, IsStopAt, IsWhole, ListingQuestion}
+use Rattle.lotos_tool.specs.ListingQuestions.{NextReturnsAt, by_cover, cover_halt_of, halt_of, names_of}
 use Rattle.lotos_tool.specs.declared.listing_halt.ListingHalt.{ListingHalt}
 
 -- a result of the search by depth or by length, with its halt as that of a search for the items of a listing
@@ -68,7 +69,8 @@ own_cover_result (Ok value) = Ok value
 own_cover_result (Err cause) = Err (cover_halt_of cause)
 
 -- a call of the search for the lines of a cover returns its items
-pub line_returned : (q : CoverQuestion) (cursor : Option (List Label)) (stage : Stage) (res : Result (Option Found) CoverHalt) (cursor' : Option (List Label)) (stage' : Stage) →
+pub line_returned : (q : CoverQuestion) (cursor : Option (List Label)) (stage : Stage) (res : Result (Option Found) CoverHalt)
+    (cursor' : Option (List Label)) (stage' : Stage) →
     lines.NextReturnsAt q cursor stage res cursor' stage' → NextReturnsAt (by_cover q) cursor stage (own_cover_result res) cursor' stage'
 line_returned q cursor running (Ok (Some found)) cursor' stage' h = h
 line_returned q cursor running (Ok None) cursor' stage' (end, kept, ends) = (record { ends = end.ends; whole = end.whole }, kept, ends)

@@ -128,7 +128,8 @@ mark_was_read T strong _ _ (mark_memory line) = refl
 
 -- a line that is rejected is rejected as a part of any question
 pub mark_means : (Means : Option (List ℕ) → Option (List ℕ) → Refusal → Type 0) (strong : Bool) (after : Option (String Global)) (left : Option (List ℕ))
-    (u : Rejection) → ((line : String Global) → after ≡ Some line → IsMarkFault strong (string_bytes line) mark_fault.E46 → Means left left (refusal.Mark mark_fault.E46)) →
+    (u : Rejection) → ((line : String Global) → after ≡ Some line → IsMarkFault strong (string_bytes line) mark_fault.E46 →
+    Means left left (refusal.Mark mark_fault.E46)) →
     IsMarkRejection strong after u → IsRejectionBy Means left left u
 mark_means Means strong _ left _ means (no_mark line h) = means line refl h
 mark_means Means strong _ left _ means (mark_memory line) = nothing_taken left
@@ -162,6 +163,7 @@ input_refused strong words left left' refusal.E47 h = h
 input_refused strong words left left' (refusal.E49 n) h = absurd h
 
 pub input_means : (Means : Option (List ℕ) → Option (List ℕ) → Refusal → Type 0) (left left' : Option (List ℕ)) (u : Rejection) →
-    ((cause : Refusal) → IsInputRefusal left left' cause → Means left left' cause) → IsRejectionBy IsInputRefusal left left' u → IsRejectionBy Means left left' u
+    ((cause : Refusal) → IsInputRefusal left left' cause → Means left left' cause) → IsRejectionBy IsInputRefusal left left' u →
+    IsRejectionBy Means left left' u
 input_means Means left left' (Refused cause) means h = means cause h
 input_means Means left left' Memory means h = h

@@ -13,7 +13,8 @@ use Rattle.lotos_length.specs.LengthSteps as length
 use Rattle.lotos_length.specs.LengthSteps.{LengthState}
 use Rattle.lotos_tool.specs.ListingOutcome.{ListingOutcome}
 use Rattle.lotos_tool.specs.declared.listing_output.ListingOptions.{ListingOptions}
-use Rattle.lotos_tool.specs.ListingQuestions.{HasBoundsOf, IsOneSetTooMany, ListingQuestion, ListingState, by_cover, by_depth, by_length, depth_state, length_state}
+use Rattle.lotos_tool.specs.ListingQuestions.{HasBoundsOf, IsOneSetTooMany, ListingQuestion, ListingState, by_cover, by_depth, by_length, depth_state}
+use Rattle.lotos_tool.specs.ListingQuestions.{length_state}
 use Rattle.lotos_tool.specs.QuestionParts.{IsMarkOf, ReadsAccepted, words_of}
 use Rattle.lotos_tool.specs.RefusalCauses.{IsInputRefusal, IsSearchRefusal}
 use Rattle.lotos_tool.specs.Rejections.{IsGateRejection, IsMarkRejection, IsPatternRejection, IsRejectionBy, end_of, is_input_fault}
@@ -43,7 +44,8 @@ asked_of request system held p mark depth search extent question begun = record 
 }
 
 -- and so is one that began with its length, its terms, and whether runs are written
-pub length_asked_of : (request : SearchRequest) (system : System) (held : TableView) (p : Pattern) (mark : Option (List Label)) (most : ℕ) (search : LengthState) →
+pub length_asked_of : (request : SearchRequest) (system : System) (held : TableView) (p : Pattern) (mark : Option (List Label)) (most : ℕ)
+    (search : LengthState) →
     request.extent ≡ Length most → IsLengthQuestionOf system search.question → length.IsBegun held p most request.terms mark request.explain search →
     IsSearchFor request system p mark (length_state search)
 length_asked_of request system held p mark most search extent question begun = record {

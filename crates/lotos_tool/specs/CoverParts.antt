@@ -22,7 +22,8 @@ pub record IsCoverSearchFor (request : CoverRequest) (system : System) (mark : O
 
 -- the outcome is that of a search for the request in this system, which began with the mark; or memory ran out before
 -- it began, and nothing was written
-abbrev pub IsCoverOutcomeFor : CoverRequest → System → Option (List Label) → (got got' : Option (List ℕ)) → Ended → Type 0
+abbrev pub IsCoverOutcomeFor : CoverRequest → System → Option (List Label) → (got got' : Option (List ℕ)) → Ended →
+    Type 0
 IsCoverOutcomeFor request system mark got got' ended =
     ((search : CoverState) × IsCoverSearchFor request system mark search
     × ListingOutcome (cover_options_of request) (by_cover search.question) search.cursor got got' ended)

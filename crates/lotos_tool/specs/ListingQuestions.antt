@@ -1,5 +1,5 @@
--- The question of a listing, by depth or by length or of a cover: its members, their runs, and the sequences at which it
--- stops.
+-- The question of a listing, by depth or by length or of a cover: its members, their runs, and the sequences at which
+-- it stops.
 use Rattle.std.specs.Prelude.{◌≡◌, ℕ, ◌⊎◌, List, [], Option, None, Some, Result, Ok, Err, ⊤}
 use Rattle.lotos_check.specs.Flat.{System}
 use Rattle.lotos_check.specs.NameLists.{Name}

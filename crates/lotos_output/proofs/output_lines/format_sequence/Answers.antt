@@ -20,7 +20,8 @@ label_text-requires c = left_shown _ _ (drop (c.loop-label.label-index + 1) c.in
 
 pub loop-label-preserved : goal.loop-label-preserved
 loop-label-preserved c =
-    let grown : c.append_text-in-loop-label.new.bytes.items ≡ (c.loop-label.bytes.items ++ 32 ∷ []) ++ c.label_text.result.now = c.in_ok-append_text-2.ensures ∙ ap (λ b. b ++ c.label_text.result.now) c.in_ok-push.ensures.items in
+    let grown : c.append_text-in-loop-label.new.bytes.items ≡ (c.loop-label.bytes.items ++ 32 ∷ []) ++ c.label_text.result.now =
+    c.in_ok-append_text-2.ensures ∙ ap (λ b. b ++ c.label_text.result.now) c.in_ok-push.ensures.items in
     let blank : IsUtf8 (32 ∷ []) = IsUtf8-from_ascii _ (IsAscii-cons 32 [] (omega arith) IsAscii-nil) in
     record {
       utf8 = subst IsUtf8 (sym grown) (IsUtf8-append _ _ (IsUtf8-append _ _ c.loop-label.invariant.utf8 blank) c.label_text.utf8);

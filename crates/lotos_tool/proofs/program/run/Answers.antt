@@ -2,7 +2,8 @@ use Rattle.std.proofs.Common.{◌≡◌, ℕ, Bool, List, Option, inl, inr, rule
 use Rattle.lotos_tool.specs.CheckOutcome.{CheckOutcome}
 use Rattle.lotos_tool.specs.Rejections.{is_input_fault}
 use Rattle.lotos_command.specs.Request.{RequestOf, request_view}
-use Rattle.lotos_tool.specs.ProgramRuns.{AfterRan, AfterReported, CheckRan, CheckReported, CoverRan, CoverReported, EverRan, EverReported, SearchRan, SearchReported, check_status_of}
+use Rattle.lotos_tool.specs.ProgramRuns.{AfterRan, AfterReported, CheckRan, CheckReported, CoverRan, CoverReported, EverRan, EverReported, SearchRan}
+use Rattle.lotos_tool.specs.ProgramRuns.{SearchReported, check_status_of}
 use Rattle.lotos_report.specs.declared.outcome.Ended.{Ended}
 use Rattle.lotos_command.specs.declared.command.Request.{Request}
 use Rattle.lotos_command.specs.declared.command.Request.TheVariants as one
@@ -53,11 +54,13 @@ module _ (words : List (List ℕ)) (left left' got got' : Option (List ℕ)) (br
 
 pub returns-in-Ok-Cover-clause-ran : goal.returns-in-Ok-Cover-clause-ran
 returns-in-Ok-Cover-clause-ran g c =
-    inr (inr (inr (inr (inl (covered _ _ _ _ _ _ _ c.in-Ok-Cover.field-0 c.in-Ok-Cover.asked c.run_cover.ensures.reported (search rules) c.in-Ok-Cover.ensures.is)))))
+    inr (inr (inr (inr (inl (covered _ _ _ _ _ _ _ c.in-Ok-Cover.field-0 c.in-Ok-Cover.asked c.run_cover.ensures.reported (search rules)
+    c.in-Ok-Cover.ensures.is)))))
 
 pub returns-in-Ok-After-clause-ran : goal.returns-in-Ok-After-clause-ran
 returns-in-Ok-After-clause-ran g c =
-    inr (inr (inr (inl (followed _ _ _ _ _ _ _ c.in-Ok-After.field-0 c.in-Ok-After.asked c.run_after.ensures.reported (search rules) c.in-Ok-After.ensures.is))))
+    inr (inr (inr (inl (followed _ _ _ _ _ _ _ c.in-Ok-After.field-0 c.in-Ok-After.asked c.run_after.ensures.reported (search rules)
+    c.in-Ok-After.ensures.is))))
 
 pub returns-in-Ok-Ever-clause-ran : goal.returns-in-Ok-Ever-clause-ran
 returns-in-Ok-Ever-clause-ran g c =
@@ -65,7 +68,8 @@ returns-in-Ok-Ever-clause-ran g c =
 
 pub returns-in-Ok-Check-clause-ran : goal.returns-in-Ok-Check-clause-ran
 returns-in-Ok-Check-clause-ran g c =
-    inr (inl (inspected _ _ _ _ _ _ _ _ c.check_text.result c.check_text.ensures.answers c.check_text.ensures.input c.report_check.ensures.status (search rules) c.in-Ok-Check.ensures.is))
+    inr (inl (inspected _ _ _ _ _ _ _ _ c.check_text.result c.check_text.ensures.answers c.check_text.ensures.input c.report_check.ensures.status
+    (search rules) c.in-Ok-Check.ensures.is))
 
 pub returns-in-Ok-Diagnose-clause-ran : goal.returns-in-Ok-Diagnose-clause-ran
 returns-in-Ok-Diagnose-clause-ran g c =
@@ -77,4 +81,5 @@ returns-in-Ok-Search-clause-ran g c =
 
 pub returns-in-Err-clause-ran : goal.returns-in-Err-clause-ran
 returns-in-Err-clause-ran g c =
-    inr (inr (inr (inr (inr (answered _ c.in-Err.fault _ _ _ _ _ (search rules) c.in-Err.ensures.fault c.in-Err.ensures.taken c.end_without_command.ensures.answer)))))
+    inr (inr (inr (inr (inr (answered _ c.in-Err.fault _ _ _ _ _ (search rules) c.in-Err.ensures.fault c.in-Err.ensures.taken
+    c.end_without_command.ensures.answer)))))

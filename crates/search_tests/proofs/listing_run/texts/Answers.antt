@@ -8,4 +8,5 @@ pub label_text-requires : goal.label_text-requires
 label_text-requires g c =
     let names = g.S.ItemSearch.names c.args.search.now in
     subst (λ k. (text : Label) × IsPrintedAs names k text) (sym c.label-item.is)
-    (All-get_or (λ k. (text : Label) × IsPrintedAs names k text) c.args.labels.now c.loop-label.label-index c.label-item.result c.loop-label-test.true c.requires.all)
+    (All-get_or (λ k. (text : Label) × IsPrintedAs names k text) c.args.labels.now c.loop-label.label-index
+    c.label-item.result c.loop-label-test.true c.requires.all)
