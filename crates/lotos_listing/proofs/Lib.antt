@@ -21,3 +21,4 @@ pub mod ListingAnswers
 pub mod Completions
 pub mod KnownTexts
 pub mod MemoKeys
+pub mod FlagsOfSets

@@ -1,5 +1,6 @@
 pub mod Order
 pub mod Alphabet
+pub mod Ends
 pub mod Derivations
 pub mod Listing
 pub mod ListingSteps
@@ -14,3 +15,4 @@ pub mod Remaining
 pub mod ReachedForms
 pub mod ObservedLabels
 pub mod Completions
+pub mod LabelFlags

@@ -1,9 +1,9 @@
 -- What the last element demands, and the elements from one on.
-use Rattle.std.proofs.Common.{◌≡◌, ℕ, suc, ◌+◌, ◌-◌, ◌<◌, List, [], ◌∷◌, length, drop, refl, sym, ap, subst, ◌∙◌, arith, Bool, get_or}
-use Rattle.std.specs.Prelude.{All, MatchBool, Some, option_map, slice_get}
+use Rattle.std.proofs.Common.{◌≡◌, ℕ, suc, ◌+◌, ◌-◌, ◌<◌, List, [], ◌∷◌, length, drop, refl, sym, ap, subst, ◌∙◌, arith, get_or}
+use Rattle.std.specs.Prelude.{All, Option, Some, option_map, slice_get}
 use Rattle.std.proofs.lemmas.List.{drop_more, length-map, get_or-map, drop_all}
 use Rattle.std.proofs.lemmas.Option.{get_or_from_slice_get, slice_get-map, slice_get_read, slice_get_within}
-use Rattle.lotos_pattern.specs.Patterns.{Element, LastDemandsDeadlock, ElementDemandsDeadlock}
+use Rattle.lotos_pattern.specs.Patterns.{Element, LabelSet, last_refusal, refusal_of}
 use Rattle.lotos_pattern.specs.ElementView.{element_of, elements_of}
 use Rattle.lotos_pattern.specs.declared.element.Element.{Element as CodeElement}
 
@@ -31,19 +31,19 @@ pub all_at : (P : Element → Type 0) (p : List Element) (i : ℕ) (e : Element)
 all_at P p i e all here = subst P (get_or_from_slice_get p i e e here) (all i e (slice_get_within p i e here))
 
 -- the last element decides
-last_decides : (p : List Element) (e : Element) → drop (length p - 1) p ≡ e ∷ [] → LastDemandsDeadlock p ≡ ElementDemandsDeadlock e
+last_decides : (p : List Element) (e : Element) → drop (length p - 1) p ≡ e ∷ [] → last_refusal p ≡ refusal_of e
 last_decides [] e is = absurd (let none : [] ≡ e ∷ [] = is in let z : ⊥ = cc in z)
-last_decides (f ∷ []) e is = let same : f ∷ [] ≡ e ∷ [] = is in ap ElementDemandsDeadlock cc
+last_decides (f ∷ []) e is = let same : f ∷ [] ≡ e ∷ [] = is in ap refusal_of cc
 last_decides (f ∷ g ∷ p) e is =
     let shorter : length (f ∷ g ∷ p) - 1 ≡ suc (length (g ∷ p) - 1) = omega arith in
     last_decides (g ∷ p) e (subst (λ i. drop i (f ∷ g ∷ p) ≡ e ∷ []) shorter is)
 
-pub last_kept : (kept : List CodeElement) (x : CodeElement) (answer : Bool) → 0 < length kept → x ≡ get_or kept (length kept - 1) x →
-    MatchBool answer (ElementDemandsDeadlock (element_of x)) (ElementDemandsDeadlock (element_of x) → ⊥) → MatchBool answer (LastDemandsDeadlock (elements_of kept)) (LastDemandsDeadlock (elements_of kept) → ⊥)
+pub last_kept : (kept : List CodeElement) (x : CodeElement) (answer : Option LabelSet) → 0 < length kept → x ≡ get_or kept (length kept - 1) x →
+    answer ≡ refusal_of (element_of x) → answer ≡ last_refusal (elements_of kept)
 last_kept kept x answer some is h =
     let i = length kept - 1 in
     let as_long : length (elements_of kept) ≡ length kept = length-map kept element_of in
     let none : drop (i + 1) (elements_of kept) ≡ [] = drop_all (i + 1) (elements_of kept) (omega arith) in
     let here : drop i (elements_of kept) ≡ element_of x ∷ [] = elements_from kept i x (omega arith) is ∙ ap (λ rest. element_of x ∷ rest) none in
     let at : drop (length (elements_of kept) - 1) (elements_of kept) ≡ element_of x ∷ [] = subst (λ n. drop (n - 1) (elements_of kept) ≡ element_of x ∷ []) (sym as_long) here in
-    subst (λ Fact. MatchBool answer Fact (Fact → ⊥)) (sym (last_decides (elements_of kept) (element_of x) at)) h
+    h ∙ sym (last_decides (elements_of kept) (element_of x) at)

@@ -5,62 +5,74 @@ use Rattle.std.specs.Borrow.{Bor}
 use Rattle.std.proofs.lemmas.List.{append-nil, length-append, map-append}
 use Rattle.std.proofs.lemmas.List.Elements.{All-cons, All-nil}
 use Rattle.std.proofs.lemmas.Option.{slice_get_within}
-use Rattle.lotos_pattern.specs.Patterns.{Element, LastDemandsDeadlock, OnlyLastDemandsDeadlock, IsJoin}
-use Rattle.lotos_pattern.specs.Spelling.{PatternOf, Spelling, Text, texts_of}
+use Rattle.lotos_pattern.specs.Patterns.{Element, IsDemanded, IsJoin, LabelSet, OnlyLastDemandsRefusal, last_refusal}
+use Rattle.lotos_pattern.specs.Spelling.{PatternOf, SetSpelling, Spelling, Text, texts_of}
 use Rattle.lotos_pattern.specs.PatternFaults.{BeginsElement, IsCause, SpellsNone, IsAfterPattern}
 use Rattle.lotos_pattern.specs.ElementView.{CanOccur, IsPattern, element_of, elements_of, pattern_of}
-use Rattle.lotos_pattern.specs.WordKinds.{CanBeFollowed, IsAppendFault, ParsesAt}
+use Rattle.lotos_pattern.specs.WordKinds.{CanBeFollowed, IsAppendFault, IsSpelledAt, ParsesAt, SpellsSetAt}
 use Rattle.lotos_pattern.specs.declared.element.Element.{Element as CodeElement}
 use Rattle.lotos_pattern.specs.declared.fault.PatternFault.{PatternFault}
 use Rattle.lotos_pattern.proofs.Segments.{can_occur}
 use Rattle.lotos_pattern.proofs.SpellingFaults.{full_cause, full_nothing}
 use Rattle.lotos_pattern.proofs.Words.{take_at, within_texts}
 
+module _ (words : List Text) (index : ℕ) (first : Text) (stands : slice_get words index ≡ Some first) (Spells : List Text → Type 0) where
+  -- a word that spells something alone
+  pub spelled_by_one : Spells (first ∷ []) → IsSpelledAt Spells words index (index + 1)
+  spelled_by_one spelling = let there = slice_get_within words index first stands in record {
+    own = first ∷ [];
+    spelling = spelling;
+    located = take_at words index first stands;
+    further = omega arith;
+    within = omega arith;
+  }
+
+  -- a word, with what the words after it spell
+  pub spelled_after : (Rest : List Text → Type 0) (end : ℕ) → ((own : List Text) → Rest own → Spells (first ∷ own)) →
+      IsSpelledAt Rest words (index + 1) end → IsSpelledAt Spells words index end
+  spelled_after Rest end spell rest = let further = rest.further in record {
+    own = first ∷ rest.own;
+    spelling = spell rest.own rest.spelling;
+    located = rest.located ∙ ap (λ front. front ++ rest.own) (take_at words index first stands) ∙ append_assoc (take index words) (first ∷ []) rest.own;
+    further = omega arith;
+    within = rest.within;
+  }
+
+module _ (words : List Text) (index : ℕ) (first : Text) (stands : slice_get words index ≡ Some first) (Spells : List Text → Type 0) where
+  -- two words
+  pub spelled_by_two : (second : Text) → slice_get words (index + 1) ≡ Some second → Spells (first ∷ second ∷ []) →
+      IsSpelledAt Spells words index (index + 1 + 1)
+  spelled_by_two second follows spelling =
+      spelled_after words index first stands Spells (λ own. own ≡ second ∷ []) (index + 1 + 1)
+      (λ own same. subst (λ rest. Spells (first ∷ rest)) (sym same) spelling)
+      (spelled_by_one words (index + 1) second follows (λ own. own ≡ second ∷ []) refl)
+
+-- what spells one thing spells another
+pub spelled_too : {P Q : List Text → Type 0} (words : List Text) (index end : ℕ) → ((own : List Text) → P own → Q own) → IsSpelledAt P words index end →
+    IsSpelledAt Q words index end
+spelled_too words index end follows at = record {
+  own = at.own;
+  spelling = follows at.own at.spelling;
+  located = at.located;
+  further = at.further;
+  within = at.within;
+}
+
 module _ (strong : Bool) where
-  module _ (words : List Text) (index : ℕ) (first : Text) (stands : slice_get words index ≡ Some first) where
-    pub spelled_by_one : (e : Element) → Spelling strong e (first ∷ []) → ParsesAt strong words index e (index + 1)
-    spelled_by_one e spelling = let there = slice_get_within words index first stands in record {
-      own = first ∷ [];
-      spelling = spelling;
-      located = take_at words index first stands;
-      further = omega arith;
-      within = omega arith;
-    }
-
-    pub spelled_by_two : (second : Text) (e : Element) → slice_get words (index + 1) ≡ Some second → Spelling strong e (first ∷ second ∷ []) → ParsesAt strong words index e (index + 1 + 1)
-    spelled_by_two second e follows spelling = let there = slice_get_within words (index + 1) second follows in record {
-      own = first ∷ second ∷ [];
-      spelling = spelling;
-      located = take_at words (index + 1) second follows ∙ ap (λ front. front ++ second ∷ []) (take_at words index first stands) ∙
-          append_assoc (take index words) (first ∷ []) (second ∷ []);
-      further = omega arith;
-      within = omega arith;
-    }
-
-    pub spelled_by_three : (second third : Text) (e : Element) → slice_get words (index + 1) ≡ Some second → slice_get words (index + 1 + 1) ≡ Some third →
-        Spelling strong e (first ∷ second ∷ third ∷ []) → ParsesAt strong words index e (index + 1 + 2)
-    spelled_by_three second third e follows ends spelling =
-        let there = slice_get_within words (index + 1 + 1) third ends in
-        let two : take (index + 1 + 1) words ≡ take index words ++ first ∷ second ∷ [] =
-        take_at words (index + 1) second follows ∙ ap (λ front. front ++ second ∷ []) (take_at words index first stands) ∙ append_assoc (take index words)
-        (first ∷ []) (second ∷ []) in
-        let three : take (index + 1 + 1 + 1) words ≡ take index words ++ first ∷ second ∷ third ∷ [] =
-        take_at words (index + 1 + 1) third ends ∙ ap (λ front. front ++ third ∷ []) two ∙ append_assoc (take index words) (first ∷ second ∷ []) (third ∷ []) in
-        let same : index + 1 + 1 + 1 ≡ index + 1 + 2 = omega arith in
-        record {
-          own = first ∷ second ∷ third ∷ [];
-          spelling = spelling;
-          located = subst (λ n. take n words ≡ take index words ++ first ∷ second ∷ third ∷ []) same three;
-          further = omega arith;
-          within = omega arith;
-        }
+  -- `<not>` and the names after it
+  pub complement_spelled : (words : List Text) (index : ℕ) (set : LabelSet) → SpellsSetAt strong words index set →
+      IsSpelledAt (SetSpelling strong set) words index (index + 2)
+  complement_spelled words index set at =
+      let same : index + 1 + 1 ≡ index + 2 = omega arith in
+      subst (IsSpelledAt (SetSpelling strong set) words index) same
+      (spelled_by_two words index at.first at.first_at (SetSpelling strong set) at.second at.second_at at.spelling)
 
   joined_more : (p : List Element) (e : Element) (words own : List Text) → IsJoin (Spelling strong) p words → Spelling strong e own → IsJoin (Spelling strong) (p ++ e ∷ []) (words ++ own)
   joined_more [] e words own none spelling = (own, [], spelling, refl, ap (λ front. front ++ own) none ∙ sym (append-nil own))
   joined_more (f ∷ p) e words own (front, rest, first, others, cut) spelling =
       (front, rest ++ own, first, joined_more p e rest own others spelling, ap (λ l. l ++ own) cut ∙ append_assoc front rest own)
 
-  ends_last_more : (p : List Element) (e : Element) → OnlyLastDemandsDeadlock p → (LastDemandsDeadlock p → ⊥) → OnlyLastDemandsDeadlock (p ++ e ∷ [])
+  ends_last_more : (p : List Element) (e : Element) → OnlyLastDemandsRefusal p → (IsDemanded (last_refusal p) → ⊥) → OnlyLastDemandsRefusal (p ++ e ∷ [])
   ends_last_more [] e last goes_on = tt
   ends_last_more (f ∷ []) e last goes_on = (goes_on, tt)
   ends_last_more (f ∷ g ∷ p) e last goes_on = (last.0, ends_last_more (g ∷ p) e last.1 goes_on)

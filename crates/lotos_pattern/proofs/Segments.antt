@@ -3,8 +3,8 @@ use Rattle.std.proofs.Common.{◌≡◌, Bool, List, [], ◌∷◌, ◌++◌, re
 use Rattle.std.specs.Prelude.{All}
 use Rattle.std.proofs.lemmas.List.Elements.{All-head, All-tail, All-cons, All-nil}
 use Rattle.lotos_pattern.specs.PatternLabels.{Label}
-use Rattle.lotos_pattern.specs.Patterns.{Element, IsIn, IsObservable, LabelSet, Segment, deadlock, one, others, until, until_deadlock, while}
-use Rattle.lotos_pattern.specs.Spelling.{Spelling, Text, end, one_any, one_of, until_end, until_set, while_any, while_set}
+use Rattle.lotos_pattern.specs.Patterns.{Element, IsIn, IsObservable, LabelSet, Segment, one, others, refuses, until, until_refuses, while}
+use Rattle.lotos_pattern.specs.Spelling.{Spelling, Text, WideSetSpelling, all, end, one_of, some, until_end, until_set, while_set}
 use Rattle.lotos_pattern.specs.ElementView.{CanOccur}
 use Rattle.lotos_pattern.specs.Transitions.{IsTransition}
 use Rattle.lotos_pattern.specs.declared.element.Transition.TheVariants.{Reject, Advance, Stay}
@@ -54,13 +54,13 @@ module _ (set : LabelSet) (l : Label) where
   unfolding IsTransition
   while_fails none s h = none (All-head (λ v. IsIn v set) l s h)
 
-pub deadlock_fails : (l : Label) → IsTransition deadlock l Reject
+pub refuses_fails : (set : LabelSet) (l : Label) → IsTransition (refuses set) l Reject
 unfolding IsTransition
-deadlock_fails l s e = cc
+refuses_fails set l s e = cc
 
-pub until_deadlock_stays : (l : Label) → IsTransition until_deadlock l Stay
+pub until_refuses_stays : (set : LabelSet) (l : Label) → IsTransition (until_refuses set) l Stay
 unfolding IsTransition
-until_deadlock_stays l s = (λ h. tt, λ h. tt)
+until_refuses_stays set l s = (λ h. tt, λ h. tt)
 
 module _ (strong : Bool) where
   alone : (l : Label) → IsObservable strong l → All (IsObservable strong) (l ∷ [])
@@ -76,12 +76,15 @@ module _ (strong : Bool) where
   while_occurs : (set : LabelSet) → CanOccur strong (while set)
   while_occurs set = ([], All-nil (λ x. IsIn x set), All-nil (IsObservable strong))
 
+  -- one label of a set that is spelled can be observed
+  wide_set_occurs : (set : LabelSet) (words : List Text) → WideSetSpelling strong set words → CanOccur strong (one set)
+  wide_set_occurs set words (some h) = one_occurs set (some_label strong set words h)
+  wide_set_occurs _ _ (all i) = one_occurs (others []) (some_other_label strong)
+
   -- an element that is spelled has a segment that can be observed
   pub can_occur : (e : Element) (words : List Text) → Spelling strong e words → CanOccur strong e
-  can_occur _ words (one_of {set = set} h) = one_occurs set (some_label strong set words h)
-  can_occur _ _ (one_any i) = one_occurs (others []) (some_other_label strong)
+  can_occur _ words (one_of {set = set} h) = wide_set_occurs set words h
   can_occur _ _ (until_set {set = set} {rest = rest} i h) = until_occurs set (some_label strong set rest h)
   can_occur _ _ (while_set {set = set} i h) = while_occurs set
-  can_occur _ _ (while_any i j) = while_occurs (others [])
   can_occur _ _ (end i) = ([], refl, All-nil (IsObservable strong))
   can_occur _ _ (until_end i j) = ([], tt, All-nil (IsObservable strong))

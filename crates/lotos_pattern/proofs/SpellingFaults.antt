@@ -2,10 +2,12 @@
 use Rattle.std.proofs.Common.{◌≡◌, ℕ, ◌+◌, ◌<◌, Bool, false, List, [], ◌∷◌, ◌++◌, length, take, drop, Some, refl, sym, ap, subst, ◌∙◌, arith, codes, inl, inr}
 use Rattle.std.specs.Prelude.{slice_get}
 use Rattle.std.proofs.lemmas.List.{drop_all, length-drop, take-append-drop, length-append}
-use Rattle.lotos_pattern.specs.Patterns.{Element, LabelSet, LastDemandsDeadlock, OnlyLastDemandsDeadlock, IsJoin, Pattern}
-use Rattle.lotos_pattern.specs.Spelling.{EqualsIgnoringCase, IsAny, IsDeadlock, IsNot, IsUntil, IsWhile, PatternOf, SetSpelling, Spelling, Text, complement, end, named, one_any, one_of, until_end, until_set, while_any, while_set}
-use Rattle.lotos_pattern.specs.PatternFaults.{AwaitsSet, BeginsElement, BeginsNoElement, EndsNoComplement, EndsNoUntil, EndsNoWhile, HasWord, IsCause, IsLabels, NamesInternal, SpellsNone, IsAfterPattern}
-use Rattle.lotos_pattern.specs.WordKinds.{IsAppendFault, IsFaultAt, IsSetFaultAt}
+use Rattle.lotos_pattern.specs.Patterns.{Element, IsDemanded, IsJoin, LabelSet, OnlyLastDemandsRefusal, Pattern, last_refusal}
+use Rattle.lotos_pattern.specs.Spelling.{EqualsIgnoringCase, IsAny, IsDeadlock, IsNot, IsRefuses, IsUntil, IsWhile, PatternOf, RefusalSpelling, SetSpelling}
+use Rattle.lotos_pattern.specs.Spelling.{Spelling, Text, WideSetSpelling, all, complement, deadlock, end, named, one_of, refused, some, until_end, until_set, while_set}
+use Rattle.lotos_pattern.specs.PatternFaults.{AwaitsEnd, AwaitsSet, BeginsElement, BeginsNoElement, BeginsNoSet, EndsNoComplement, EndsNoUntil, HasNoSetAfter, HasWord}
+use Rattle.lotos_pattern.specs.PatternFaults.{IsAfterPattern, IsCause, IsLabels, NamesInternal, SpellsNone}
+use Rattle.lotos_pattern.specs.WordKinds.{IsAppendFault, IsEndFaultAt, IsFaultAt, IsSetFaultAt}
 use Rattle.lotos_pattern.specs.declared.fault.PatternFault.{PatternFault}
 use Rattle.lotos_pattern.specs.declared.fault.PatternFault.TheVariants.{E41, E42, E43, E44, E45, E48, E50, E99}
 use Rattle.lotos_pattern.proofs.LabelNames.{internal_no_angle, internal_no_labels, labels_no_angle}
@@ -18,8 +20,8 @@ numbered words index Such has =
     let same : has.before ≡ index = let h = has.counted in omega arith in
     subst (λ i. slice_get words i ≡ Some has.word) same has.located
 
--- nothing follows a demand for a deadlock
-dead_last : (p : List Element) (e : Element) (more : List Element) → LastDemandsDeadlock p → OnlyLastDemandsDeadlock (p ++ e ∷ more) → ⊥
+-- nothing follows a demand on the end
+dead_last : (p : List Element) (e : Element) (more : List Element) → IsDemanded (last_refusal p) → OnlyLastDemandsRefusal (p ++ e ∷ more) → ⊥
 dead_last [] e more dead last = dead
 dead_last (f ∷ []) e more dead last = last.0 dead
 dead_last (f ∷ g ∷ p) e more dead last = dead_last (g ∷ p) e more dead last.1
@@ -30,100 +32,124 @@ module _ (strong : Bool) where
     names_head : {word : Text} {more : List Text} → IsLabels strong word → SetHead (word ∷ more)
     not_head : {first second : Text} {more : List Text} → IsNot first → IsLabels strong second → SetHead (first ∷ second ∷ more)
 
+  -- the words begin with those of a set, which may be that of all labels
+  data WideSetHead : List Text → Type 0 where
+    some_head : {words : List Text} → SetHead words → WideSetHead words
+    all_head : {word : Text} {more : List Text} → IsAny word → WideSetHead (word ∷ more)
+
+  -- the words begin with those of a demand on the end
+  data RefusalHead : List Text → Type 0 where
+    deadlock_head : {word : Text} {more : List Text} → IsDeadlock word → RefusalHead (word ∷ more)
+    refuses_head : {first : Text} {rest : List Text} → IsRefuses first → WideSetHead rest → RefusalHead (first ∷ rest)
+
   -- the words begin with those of an element
   data ElementHead : List Text → Type 0 where
-    set_head : {words : List Text} → SetHead words → ElementHead words
-    any_head : {word : Text} {more : List Text} → IsAny word → ElementHead (word ∷ more)
+    set_head : {words : List Text} → WideSetHead words → ElementHead words
     until_head : {first : Text} {rest : List Text} → IsUntil first → SetHead rest → ElementHead (first ∷ rest)
-    until_end_head : {first second : Text} {more : List Text} → IsUntil first → IsDeadlock second → ElementHead (first ∷ second ∷ more)
-    while_head : {first : Text} {rest : List Text} → IsWhile first → SetHead rest → ElementHead (first ∷ rest)
-    while_any_head : {first second : Text} {more : List Text} → IsWhile first → IsAny second → ElementHead (first ∷ second ∷ more)
-    end_head : {word : Text} {more : List Text} → IsDeadlock word → ElementHead (word ∷ more)
+    until_end_head : {first : Text} {rest : List Text} → IsUntil first → RefusalHead rest → ElementHead (first ∷ rest)
+    while_head : {first : Text} {rest : List Text} → IsWhile first → WideSetHead rest → ElementHead (first ∷ rest)
+    end_head : {words : List Text} → RefusalHead words → ElementHead words
 
   set_begins : (set : LabelSet) (own rest : List Text) → SetSpelling strong set own → SetHead (own ++ rest)
   set_begins _ _ rest (named {labels = labels} n) = names_head (labels, n)
   set_begins _ _ rest (complement {labels = labels} i n) = not_head i (labels, n)
 
+  wide_set_begins : (set : LabelSet) (own rest : List Text) → WideSetSpelling strong set own → WideSetHead (own ++ rest)
+  wide_set_begins set own rest (some h) = some_head (set_begins set own rest h)
+  wide_set_begins _ _ rest (all i) = all_head i
+
+  refusal_begins : (set : LabelSet) (own rest : List Text) → RefusalSpelling strong set own → RefusalHead (own ++ rest)
+  refusal_begins _ _ rest (deadlock i) = deadlock_head i
+  refusal_begins set _ rest (refused {rest = own} i h) = refuses_head i (wide_set_begins set own rest h)
+
   element_begins : (e : Element) (own rest : List Text) → Spelling strong e own → ElementHead (own ++ rest)
-  element_begins _ own rest (one_of {set = set} h) = set_head (set_begins set own rest h)
-  element_begins _ _ rest (one_any i) = any_head i
+  element_begins _ own rest (one_of {set = set} h) = set_head (wide_set_begins set own rest h)
   element_begins _ _ rest (until_set {set = set} {rest = own} i h) = until_head i (set_begins set own rest h)
-  element_begins _ _ rest (while_set {set = set} {rest = own} i h) = while_head i (set_begins set own rest h)
-  element_begins _ _ rest (while_any i j) = while_any_head i j
-  element_begins _ _ rest (end i) = end_head i
-  element_begins _ _ rest (until_end i j) = until_end_head i j
+  element_begins _ _ rest (while_set {set = set} {rest = own} i h) = while_head i (wide_set_begins set own rest h)
+  element_begins _ own rest (end {set = set} h) = end_head (refusal_begins set own rest h)
+  element_begins _ _ rest (until_end {set = set} {rest = own} i h) = until_end_head i (refusal_begins set own rest h)
 
   no_beginning : (word : Text) (tail : List Text) → BeginsNoElement strong word → ElementHead (word ∷ tail) → ⊥
-  no_beginning word tail none (set_head (names_head n)) = none.labels n
-  no_beginning word _ none (set_head (not_head i n)) = none.complement i
-  no_beginning word tail none (any_head i) = none.any i
+  no_beginning word tail none (set_head (some_head (names_head n))) = none.labels n
+  no_beginning word _ none (set_head (some_head (not_head i n))) = none.complement i
+  no_beginning word tail none (set_head (all_head i)) = none.any i
   no_beginning word tail none (until_head i h) = none.until i
-  no_beginning word _ none (until_end_head i j) = none.until i
+  no_beginning word tail none (until_end_head i h) = none.until i
   no_beginning word tail none (while_head i h) = none.while i
-  no_beginning word _ none (while_any_head i j) = none.while i
-  no_beginning word tail none (end_head i) = none.deadlock i
+  no_beginning word tail none (end_head (deadlock_head i)) = none.deadlock i
+  no_beginning word tail none (end_head (refuses_head i h)) = none.refuses i
 
   no_internal : (word : Text) (tail : List Text) → strong ≡ false → NamesInternal word → ElementHead (word ∷ tail) → ⊥
-  no_internal word tail hidden is (set_head (names_head n)) = internal_no_labels strong word hidden is n
-  no_internal word _ hidden is (set_head (not_head i n)) = internal_no_angle word _ is i
-  no_internal word tail hidden is (any_head i) = internal_no_angle word _ is i
+  no_internal word tail hidden is (set_head (some_head (names_head n))) = internal_no_labels strong word hidden is n
+  no_internal word _ hidden is (set_head (some_head (not_head i n))) = internal_no_angle word _ is i
+  no_internal word tail hidden is (set_head (all_head i)) = internal_no_angle word _ is i
   no_internal word tail hidden is (until_head i h) = internal_no_angle word _ is i
-  no_internal word _ hidden is (until_end_head i j) = internal_no_angle word _ is i
+  no_internal word tail hidden is (until_end_head i h) = internal_no_angle word _ is i
   no_internal word tail hidden is (while_head i h) = internal_no_angle word _ is i
-  no_internal word _ hidden is (while_any_head i j) = internal_no_angle word _ is i
-  no_internal word tail hidden is (end_head i) = internal_no_angle word _ is i
+  no_internal word tail hidden is (end_head (deadlock_head i)) = internal_no_angle word _ is i
+  no_internal word tail hidden is (end_head (refuses_head i h)) = internal_no_angle word _ is i
 
-  -- what goes on with an element after `<until>`, after `<while>`, and with a set after `<not>`
+  -- what goes on with an element after `<until>`, and with a set after `<not>`
   data UntilTail : List Text → Type 0 where
     until_goes_on : {words : List Text} → SetHead words → UntilTail words
-    until_ends : {word : Text} {more : List Text} → IsDeadlock word → UntilTail (word ∷ more)
-
-  data WhileTail : List Text → Type 0 where
-    while_goes_on : {words : List Text} → SetHead words → WhileTail words
-    while_ends : {word : Text} {more : List Text} → IsAny word → WhileTail (word ∷ more)
+    until_ends : {words : List Text} → RefusalHead words → UntilTail words
 
   data NotTail : List Text → Type 0 where
     not_ends : {word : Text} {more : List Text} → IsLabels strong word → NotTail (word ∷ more)
 
   until_tail : (word : Text) (tail : List Text) → IsUntil word → ElementHead (word ∷ tail) → UntilTail tail
-  until_tail word tail is (set_head (names_head n)) = absurd (labels_no_angle strong word _ n is)
-  until_tail word _ is (set_head (not_head i n)) = absurd (apart word _ _ is i refl)
-  until_tail word tail is (any_head i) = absurd (apart word _ _ is i refl)
+  until_tail word tail is (set_head (some_head (names_head n))) = absurd (labels_no_angle strong word _ n is)
+  until_tail word _ is (set_head (some_head (not_head i n))) = absurd (apart word _ _ is i refl)
+  until_tail word tail is (set_head (all_head i)) = absurd (apart word _ _ is i refl)
   until_tail word tail is (until_head i h) = until_goes_on h
-  until_tail word _ is (until_end_head i j) = until_ends j
+  until_tail word tail is (until_end_head i h) = until_ends h
   until_tail word tail is (while_head i h) = absurd (apart word _ _ is i refl)
-  until_tail word _ is (while_any_head i j) = absurd (apart word _ _ is i refl)
-  until_tail word tail is (end_head i) = absurd (apart word _ _ is i refl)
+  until_tail word tail is (end_head (deadlock_head i)) = absurd (apart word _ _ is i refl)
+  until_tail word tail is (end_head (refuses_head i h)) = absurd (apart word _ _ is i refl)
 
-  while_tail : (word : Text) (tail : List Text) → IsWhile word → ElementHead (word ∷ tail) → WhileTail tail
-  while_tail word tail is (set_head (names_head n)) = absurd (labels_no_angle strong word _ n is)
-  while_tail word _ is (set_head (not_head i n)) = absurd (apart word _ _ is i refl)
-  while_tail word tail is (any_head i) = absurd (apart word _ _ is i refl)
+  while_tail : (word : Text) (tail : List Text) → IsWhile word → ElementHead (word ∷ tail) → WideSetHead tail
+  while_tail word tail is (set_head (some_head (names_head n))) = absurd (labels_no_angle strong word _ n is)
+  while_tail word _ is (set_head (some_head (not_head i n))) = absurd (apart word _ _ is i refl)
+  while_tail word tail is (set_head (all_head i)) = absurd (apart word _ _ is i refl)
   while_tail word tail is (until_head i h) = absurd (apart word _ _ is i refl)
-  while_tail word _ is (until_end_head i j) = absurd (apart word _ _ is i refl)
-  while_tail word tail is (while_head i h) = while_goes_on h
-  while_tail word _ is (while_any_head i j) = while_ends j
-  while_tail word tail is (end_head i) = absurd (apart word _ _ is i refl)
+  while_tail word tail is (until_end_head i h) = absurd (apart word _ _ is i refl)
+  while_tail word tail is (while_head i h) = h
+  while_tail word tail is (end_head (deadlock_head i)) = absurd (apart word _ _ is i refl)
+  while_tail word tail is (end_head (refuses_head i h)) = absurd (apart word _ _ is i refl)
+
+  refuses_tail : (word : Text) (tail : List Text) → IsRefuses word → ElementHead (word ∷ tail) → WideSetHead tail
+  refuses_tail word tail is (set_head (some_head (names_head n))) = absurd (labels_no_angle strong word _ n is)
+  refuses_tail word _ is (set_head (some_head (not_head i n))) = absurd (apart word _ _ is i refl)
+  refuses_tail word tail is (set_head (all_head i)) = absurd (apart word _ _ is i refl)
+  refuses_tail word tail is (until_head i h) = absurd (apart word _ _ is i refl)
+  refuses_tail word tail is (until_end_head i h) = absurd (apart word _ _ is i refl)
+  refuses_tail word tail is (while_head i h) = absurd (apart word _ _ is i refl)
+  refuses_tail word tail is (end_head (deadlock_head i)) = absurd (apart word _ _ is i refl)
+  refuses_tail word tail is (end_head (refuses_head i h)) = h
 
   not_tail : (word : Text) (tail : List Text) → IsNot word → ElementHead (word ∷ tail) → NotTail tail
-  not_tail word tail is (set_head (names_head n)) = absurd (labels_no_angle strong word _ n is)
-  not_tail word _ is (set_head (not_head i n)) = not_ends n
-  not_tail word tail is (any_head i) = absurd (apart word _ _ is i refl)
+  not_tail word tail is (set_head (some_head (names_head n))) = absurd (labels_no_angle strong word _ n is)
+  not_tail word _ is (set_head (some_head (not_head i n))) = not_ends n
+  not_tail word tail is (set_head (all_head i)) = absurd (apart word _ _ is i refl)
   not_tail word tail is (until_head i h) = absurd (apart word _ _ is i refl)
-  not_tail word _ is (until_end_head i j) = absurd (apart word _ _ is i refl)
+  not_tail word tail is (until_end_head i h) = absurd (apart word _ _ is i refl)
   not_tail word tail is (while_head i h) = absurd (apart word _ _ is i refl)
-  not_tail word _ is (while_any_head i j) = absurd (apart word _ _ is i refl)
-  not_tail word tail is (end_head i) = absurd (apart word _ _ is i refl)
+  not_tail word tail is (end_head (deadlock_head i)) = absurd (apart word _ _ is i refl)
+  not_tail word tail is (end_head (refuses_head i h)) = absurd (apart word _ _ is i refl)
 
   -- nothing goes on with no word, or with a word that does not
   no_set_head : SetHead [] → ⊥
   no_set_head h = elim h [ ]
 
+  no_wide_set_head : WideSetHead [] → ⊥
+  no_wide_set_head (some_head h) = no_set_head h
+
+  no_refusal_head : RefusalHead [] → ⊥
+  no_refusal_head h = elim h [ ]
+
   until_stops : UntilTail [] → ⊥
   until_stops (until_goes_on h) = no_set_head h
-
-  while_stops : WhileTail [] → ⊥
-  while_stops (while_goes_on h) = no_set_head h
+  until_stops (until_ends h) = no_refusal_head h
 
   not_stops : NotTail [] → ⊥
   not_stops h = elim h [ ]
@@ -131,24 +157,21 @@ module _ (strong : Bool) where
   until_fails : (word : Text) (tail : List Text) → EndsNoUntil strong word → UntilTail (word ∷ tail) → ⊥
   until_fails word tail none (until_goes_on (names_head n)) = none.labels n
   until_fails word _ none (until_goes_on (not_head i n)) = none.complement i
-  until_fails word tail none (until_ends i) = none.deadlock i
+  until_fails word tail none (until_ends (deadlock_head i)) = none.deadlock i
+  until_fails word tail none (until_ends (refuses_head i h)) = none.refuses i
 
-  while_fails : (word : Text) (tail : List Text) → EndsNoWhile strong word → WhileTail (word ∷ tail) → ⊥
-  while_fails word tail none (while_goes_on (names_head n)) = none.labels n
-  while_fails word _ none (while_goes_on (not_head i n)) = none.complement i
-  while_fails word tail none (while_ends i) = none.any i
+  wide_set_fails : (word : Text) (tail : List Text) → BeginsNoSet strong word → WideSetHead (word ∷ tail) → ⊥
+  wide_set_fails word tail none (some_head (names_head n)) = none.labels n
+  wide_set_fails word _ none (some_head (not_head i n)) = none.complement i
+  wide_set_fails word tail none (all_head i) = none.any i
 
   not_fails : (word : Text) (tail : List Text) → (IsLabels strong word → ⊥) → NotTail (word ∷ tail) → ⊥
   not_fails word tail none (not_ends n) = none n
 
   -- what goes on with an element is itself the beginning of one
   until_next : (words : List Text) → UntilTail words → ElementHead words
-  until_next words (until_goes_on h) = set_head h
-  until_next _ (until_ends i) = end_head i
-
-  while_next : (words : List Text) → WhileTail words → ElementHead words
-  while_next words (while_goes_on h) = set_head h
-  while_next _ (while_ends i) = any_head i
+  until_next words (until_goes_on h) = set_head (some_head h)
+  until_next words (until_ends h) = end_head h
 
   -- the element of a pattern that begins at an index
   record Next (words : List Text) (index : ℕ) (p q : List Element) : Type 0 where
@@ -189,10 +212,10 @@ module _ (strong : Bool) where
     after_word : (before : ℕ) → index ≡ before + 1 → drop (before + 1) words ≡ word ∷ drop (index + 1) words
     after_word before same = subst (λ i. drop i words ≡ word ∷ drop (index + 1) words) same (drop_at words index word stands)
 
-    -- nor do they where a set may begin, and no element does
-    set_spells_none : (ElementHead (word ∷ drop (index + 1) words) → ⊥) → AwaitsSet strong words (index + 1) → (q : Pattern) → PatternOf strong words q → ⊥
-    set_spells_none none (inl begins) = spells_none words index word stands none begins
-    set_spells_none none (inr (n, same, inl with_until)) =
+    -- nor do they where a demand on the end may begin, and no element does
+    end_spells_none : (ElementHead (word ∷ drop (index + 1) words) → ⊥) → AwaitsEnd strong words (index + 1) → (q : Pattern) → PatternOf strong words q → ⊥
+    end_spells_none none (inl begins) = spells_none words index word stands none begins
+    end_spells_none none (inr (n, same, with_until)) =
         let first = with_until.first in
         let before = first.before in
         let counted = first.counted in
@@ -200,14 +223,28 @@ module _ (strong : Bool) where
         spells_none words before first.word first.located
         (λ h. none (subst ElementHead (after_word before follows) (until_next _ (until_tail first.word (drop (before + 1) words) first.such h))))
         (subst (BeginsElement strong words) counted with_until.begins)
-    set_spells_none none (inr (n, same, inr with_while)) =
+
+  module _ (words : List Text) (index : ℕ) (word : Text) (stands : slice_get words index ≡ Some word) where
+    -- nor where a set may begin
+    set_spells_none : (ElementHead (word ∷ drop (index + 1) words) → ⊥) → AwaitsSet strong words (index + 1) → (q : Pattern) → PatternOf strong words q → ⊥
+    set_spells_none none (inl awaits) = end_spells_none words index word stands none awaits
+    set_spells_none none (inr (n, same, inl with_while)) =
         let first = with_while.first in
         let before = first.before in
         let counted = first.counted in
         let follows : index ≡ before + 1 = omega arith in
         spells_none words before first.word first.located
-        (λ h. none (subst ElementHead (after_word before follows) (while_next _ (while_tail first.word (drop (before + 1) words) first.such h))))
+        (λ h. none (subst ElementHead (after_word words index word stands before follows)
+        (set_head (while_tail first.word (drop (before + 1) words) first.such h))))
         (subst (BeginsElement strong words) counted with_while.begins)
+    set_spells_none none (inr (n, same, inr (awaits, first))) =
+        let before = first.before in
+        let counted = first.counted in
+        let follows : index ≡ before + 1 = omega arith in
+        end_spells_none words before first.word first.located
+        (λ h. none (subst ElementHead (after_word words index word stands before follows)
+        (set_head (refuses_tail first.word (drop (before + 1) words) first.such h))))
+        (subst (AwaitsEnd strong words) counted awaits)
 
     pub fault_nothing : BeginsNoElement strong word → IsFaultAt strong words index (E41 (index + 1))
     fault_nothing none begins = (
@@ -231,24 +268,42 @@ module _ (strong : Bool) where
       spells_none words index word stands (λ h. until_stops (subst UntilTail (none_after last) (until_tail word (drop (index + 1) words) is h))) begins,
     )
 
-    pub fault_while_alone : IsWhile word → length words ≡ index + 1 → IsFaultAt strong words index (E48 (index + 1))
-    fault_while_alone is last begins = (
-      (record { begins = begins; first = here words index word stands IsWhile is }, inr last),
-      spells_none words index word stands (λ h. while_stops (subst WhileTail (none_after last) (while_tail word (drop (index + 1) words) is h))) begins,
-    )
-
     pub fault_not_alone : IsNot word → length words ≡ index + 1 → IsSetFaultAt strong words index (E50 (index + 1))
     fault_not_alone is last awaits = (
-      (awaits, here words index word stands IsNot is, inr last),
+      inl (awaits, here words index word stands IsNot is, inr last),
       set_spells_none (λ h. not_stops (subst NotTail (none_after last) (not_tail word (drop (index + 1) words) is h))) awaits,
     )
 
-    -- after `<until>` or `<while>` a set may begin
-    pub awaits_after_until : IsUntil word → BeginsElement strong words (index + 1) → AwaitsSet strong words (index + 1 + 1)
-    awaits_after_until is begins = inr (index + 1, refl, inl (record { begins = begins; first = here words index word stands IsUntil is }))
+    -- after `<until>` a demand on the end may begin, and after `<while>` and `<refuses>` a set
+    pub awaits_after_until : IsUntil word → BeginsElement strong words (index + 1) → AwaitsEnd strong words (index + 1 + 1)
+    awaits_after_until is begins = inr (index + 1, refl, record { begins = begins; first = here words index word stands IsUntil is })
 
     pub awaits_after_while : IsWhile word → BeginsElement strong words (index + 1) → AwaitsSet strong words (index + 1 + 1)
-    awaits_after_while is begins = inr (index + 1, refl, inr (record { begins = begins; first = here words index word stands IsWhile is }))
+    awaits_after_while is begins = inr (index + 1, refl, inl (record { begins = begins; first = here words index word stands IsWhile is }))
+
+    pub awaits_after_refuses : IsRefuses word → AwaitsEnd strong words (index + 1) → AwaitsSet strong words (index + 1 + 1)
+    awaits_after_refuses is awaits = inr (index + 1, refl, inr (awaits, here words index word stands IsRefuses is))
+
+    -- where no set comes after the word, it begins none
+    no_set_after : HasNoSetAfter strong words (index + 1) → WideSetHead (drop (index + 1) words) → ⊥
+    no_set_after (inl none) h =
+        let counted = none.counted in
+        let same : none.before ≡ index + 1 = omega arith in
+        let cut = drop_at words (index + 1) none.word (subst (λ i. slice_get words i ≡ Some none.word) same none.located) in
+        wide_set_fails none.word _ none.such (subst WideSetHead cut h)
+    no_set_after (inr last) h = no_wide_set_head (subst WideSetHead (none_after last) h)
+
+    pub fault_while : IsWhile word → HasNoSetAfter strong words (index + 1) → IsFaultAt strong words index (E48 (index + 1))
+    fault_while is none begins = (
+      (record { begins = begins; first = here words index word stands IsWhile is }, none),
+      spells_none words index word stands (λ h. no_set_after none (while_tail word (drop (index + 1) words) is h)) begins,
+    )
+
+    pub fault_refuses : IsRefuses word → HasNoSetAfter strong words (index + 1) → IsEndFaultAt strong words index (E50 (index + 1))
+    fault_refuses is none awaits = (
+      inr (awaits, here words index word stands IsRefuses is, none),
+      end_spells_none words index word stands (λ h. no_set_after none (refuses_tail word (drop (index + 1) words) is h)) awaits,
+    )
 
     module _ (second : Text) (follows : slice_get words (index + 1) ≡ Some second) where
       there : (Such : Text → Type 0) → Such second → HasWord words (index + 1 + 1) Such
@@ -264,19 +319,13 @@ module _ (strong : Bool) where
         spells_none words index word stands (λ h. until_fails second _ none (subst UntilTail after (until_tail word (drop (index + 1) words) is h))) begins,
       )
 
-      pub fault_while_none : IsWhile word → EndsNoWhile strong second → IsFaultAt strong words index (E48 (index + 1))
-      fault_while_none is none begins = (
-        (record { begins = begins; first = here words index word stands IsWhile is }, inl (there (EndsNoWhile strong) none)),
-        spells_none words index word stands (λ h. while_fails second _ none (subst WhileTail after (while_tail word (drop (index + 1) words) is h))) begins,
-      )
-
       -- where the next word names no labels, `<not>` begins no set
       no_complement : IsNot word → (IsLabels strong second → ⊥) → ElementHead (word ∷ drop (index + 1) words) → ⊥
       no_complement is none h = not_fails second _ none (subst NotTail after (not_tail word (drop (index + 1) words) is h))
 
       pub fault_not_none : IsNot word → EndsNoComplement strong second → IsSetFaultAt strong words index (E50 (index + 1))
       fault_not_none is none awaits = (
-        (awaits, here words index word stands IsNot is, inl (there (EndsNoComplement strong) none)),
+        inl (awaits, here words index word stands IsNot is, inl (there (EndsNoComplement strong) none)),
         set_spells_none (no_complement is none.labels) awaits,
       )
 
@@ -286,11 +335,16 @@ module _ (strong : Bool) where
         set_spells_none (no_complement is (internal_no_labels strong second hidden too)) awaits,
       )
 
+  -- no set begins with the word at an index
+  pub no_set_here : (words : List Text) (index : ℕ) (word : Text) → slice_get words index ≡ Some word → BeginsNoSet strong word → HasNoSetAfter strong words index
+  no_set_here words index word stands none =
+      inl (record { before = index; word = word; counted = refl; located = stands; such = none })
+
   module _ (words : List Text) (index : ℕ) (p : Pattern) (stands : IsAfterPattern strong words (index + 1) p) where
-    dead_spells_none : LastDemandsDeadlock p.elements → (q : Pattern) → PatternOf strong words q → ⊥
+    dead_spells_none : IsDemanded (last_refusal p.elements) → (q : Pattern) → PatternOf strong words q → ⊥
     dead_spells_none dead q spelled =
         let n = next words index p q stands spelled in
-        dead_last p.elements n.element n.more dead (subst OnlyLastDemandsDeadlock n.whole spelled.ends_last)
+        dead_last p.elements n.element n.more dead (subst OnlyLastDemandsRefusal n.whole spelled.ends_last)
 
     full_spells_none : length p.elements ≡ 256 → (q : Pattern) → PatternOf strong words q → ⊥
     full_spells_none full q spelled =
@@ -322,16 +376,18 @@ module _ (strong : Bool) where
 
 -- a word in angle brackets goes on with no element that another one does
 module _ (strong : Bool) (word rest : Text) (is : EqualsIgnoringCase word (60 ∷ rest)) where
-  pub angle_ends_none : Differ (codes "<not>") (60 ∷ rest) → Differ (codes "<deadlock>") (60 ∷ rest) → EndsNoUntil strong word
-  angle_ends_none no_not no_deadlock = record {
+  pub angle_ends_none : Differ (codes "<not>") (60 ∷ rest) → Differ (codes "<deadlock>") (60 ∷ rest) → Differ (codes "<refuses>") (60 ∷ rest) →
+      EndsNoUntil strong word
+  angle_ends_none no_not no_deadlock no_refuses = record {
     labels = λ n. labels_no_angle strong word rest n is;
     internal = λ n. internal_no_angle word rest n is;
     complement = λ h. apart word (codes "<not>") (60 ∷ rest) h is no_not;
     deadlock = λ h. apart word (codes "<deadlock>") (60 ∷ rest) h is no_deadlock;
+    refuses = λ h. apart word (codes "<refuses>") (60 ∷ rest) h is no_refuses;
   }
 
-  pub angle_repeats_none : Differ (codes "<not>") (60 ∷ rest) → Differ (codes "<any>") (60 ∷ rest) → EndsNoWhile strong word
-  angle_repeats_none no_not no_any = record {
+  pub angle_begins_no_set : Differ (codes "<not>") (60 ∷ rest) → Differ (codes "<any>") (60 ∷ rest) → BeginsNoSet strong word
+  angle_begins_no_set no_not no_any = record {
     labels = λ n. labels_no_angle strong word rest n is;
     internal = λ n. internal_no_angle word rest n is;
     complement = λ h. apart word (codes "<not>") (60 ∷ rest) h is no_not;
@@ -342,28 +398,37 @@ module _ (strong : Bool) (word rest : Text) (is : EqualsIgnoringCase word (60 �
   angle_names_none = record { labels = λ n. labels_no_angle strong word rest n is; internal = λ n. internal_no_angle word rest n is }
 
 pub any_ends_none : (strong : Bool) (word : Text) → IsAny word → EndsNoUntil strong word
-any_ends_none strong word is = angle_ends_none strong word _ is refl refl
+any_ends_none strong word is = angle_ends_none strong word _ is refl refl refl
 
 pub until_ends_none : (strong : Bool) (word : Text) → IsUntil word → EndsNoUntil strong word
-until_ends_none strong word is = angle_ends_none strong word _ is refl refl
+until_ends_none strong word is = angle_ends_none strong word _ is refl refl refl
 
 pub while_ends_none : (strong : Bool) (word : Text) → IsWhile word → EndsNoUntil strong word
-while_ends_none strong word is = angle_ends_none strong word _ is refl refl
+while_ends_none strong word is = angle_ends_none strong word _ is refl refl refl
 
 pub nothing_ends_none : (strong : Bool) (word : Text) → BeginsNoElement strong word → EndsNoUntil strong word
-nothing_ends_none strong word none = record { labels = none.labels; internal = none.internal; complement = none.complement; deadlock = none.deadlock }
+nothing_ends_none strong word none = record {
+  labels = none.labels;
+  internal = none.internal;
+  complement = none.complement;
+  deadlock = none.deadlock;
+  refuses = none.refuses;
+}
 
-pub until_repeats_none : (strong : Bool) (word : Text) → IsUntil word → EndsNoWhile strong word
-until_repeats_none strong word is = angle_repeats_none strong word _ is refl refl
+pub until_begins_no_set : (strong : Bool) (word : Text) → IsUntil word → BeginsNoSet strong word
+until_begins_no_set strong word is = angle_begins_no_set strong word _ is refl refl
 
-pub while_repeats_none : (strong : Bool) (word : Text) → IsWhile word → EndsNoWhile strong word
-while_repeats_none strong word is = angle_repeats_none strong word _ is refl refl
+pub while_begins_no_set : (strong : Bool) (word : Text) → IsWhile word → BeginsNoSet strong word
+while_begins_no_set strong word is = angle_begins_no_set strong word _ is refl refl
 
-pub deadlock_repeats_none : (strong : Bool) (word : Text) → IsDeadlock word → EndsNoWhile strong word
-deadlock_repeats_none strong word is = angle_repeats_none strong word _ is refl refl
+pub deadlock_begins_no_set : (strong : Bool) (word : Text) → IsDeadlock word → BeginsNoSet strong word
+deadlock_begins_no_set strong word is = angle_begins_no_set strong word _ is refl refl
 
-pub nothing_repeats_none : (strong : Bool) (word : Text) → BeginsNoElement strong word → EndsNoWhile strong word
-nothing_repeats_none strong word none = record { labels = none.labels; internal = none.internal; complement = none.complement; any = none.any }
+pub refuses_begins_no_set : (strong : Bool) (word : Text) → IsRefuses word → BeginsNoSet strong word
+refuses_begins_no_set strong word is = angle_begins_no_set strong word _ is refl refl
+
+pub nothing_begins_no_set : (strong : Bool) (word : Text) → BeginsNoElement strong word → BeginsNoSet strong word
+nothing_begins_no_set strong word none = record { labels = none.labels; internal = none.internal; complement = none.complement; any = none.any }
 
 pub nothing_names_none : (strong : Bool) (word : Text) → BeginsNoElement strong word → EndsNoComplement strong word
 nothing_names_none strong word none = record { labels = none.labels; internal = none.internal }

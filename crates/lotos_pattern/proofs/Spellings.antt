@@ -1,9 +1,11 @@
 -- The first word of an element decides how it goes on, so words spell at most one pattern.
-use Rattle.std.proofs.Common.{◌≡◌, Bool, List, [], ◌∷◌, ◌++◌, refl, sym, ap, subst, ◌∙◌, append_assoc, arith, codes, get_or}
+use Rattle.std.proofs.Common.{◌≡◌, ℕ, Bool, true, false, List, [], ◌∷◌, ◌++◌, refl, sym, ap, subst, ◌∙◌, append_assoc, arith, codes, get_or}
+use Rattle.std.specs.Prelude.{◌==◌, ◌||◌}
 use Rattle.std.proofs.lemmas.List.{append-nil}
 use Rattle.lotos_pattern.specs.PatternLabels.{Label}
-use Rattle.lotos_pattern.specs.Patterns.{Element, IsJoin, LabelSet, Pattern, one, others, these, until, while}
-use Rattle.lotos_pattern.specs.Spelling.{EqualsIgnoringCase, IsNot, NamesLabels, PatternOf, SetSpelling, Spelling, Text, complement, end, named, one_any, one_of, parts_of, until_end, until_set, while_any, while_set}
+use Rattle.lotos_pattern.specs.Patterns.{Element, IsJoin, LabelSet, Pattern, one, others, refuses, these, until, until_refuses, while}
+use Rattle.lotos_pattern.specs.Spelling.{EqualsIgnoringCase, IsNot, NamesLabels, PatternOf, RefusalSpelling, SetSpelling, Spelling, Text, WideSetSpelling}
+use Rattle.lotos_pattern.specs.Spelling.{all, complement, deadlock, end, named, one_of, parts_of, refused, some, until_end, until_set, while_set}
 use Rattle.lotos_pattern.specs.PatternFaults.{IsLabels}
 use Rattle.lotos_pattern.proofs.LabelNames.{labels_no_angle, same_labels}
 use Rattle.lotos_pattern.proofs.Words.{Differ, apart}
@@ -25,14 +27,20 @@ module _ (strong : Bool) where
   set_mark (named n) = []
   set_mark (complement i n) = codes "<not>"
 
+  abbrev wide_mark : {set : LabelSet} {words : List Text} → WideSetSpelling strong set words → Text
+  wide_mark (some h) = set_mark h
+  wide_mark (all i) = codes "<any>"
+
+  abbrev refusal_mark : {set : LabelSet} {words : List Text} → RefusalSpelling strong set words → Text
+  refusal_mark (deadlock i) = codes "<deadlock>"
+  refusal_mark (refused i h) = codes "<refuses>"
+
   abbrev mark : {e : Element} {words : List Text} → Spelling strong e words → Text
-  mark (one_of h) = set_mark h
-  mark (one_any i) = codes "<any>"
+  mark (one_of h) = wide_mark h
   mark (until_set i h) = codes "<until>"
   mark (while_set i h) = codes "<while>"
-  mark (while_any i j) = codes "<while>"
-  mark (end i) = codes "<deadlock>"
-  mark (until_end i j) = codes "<until>"
+  mark (end h) = refusal_mark h
+  mark (until_end i h) = codes "<until>"
 
   -- the first of the words that spell an element
   record First (words : List Text) (text : Text) : Type 0 where
@@ -45,14 +53,20 @@ module _ (strong : Bool) where
   first_of_set _ _ (named {word = w} {labels = ls} n) = record { word = w; rest = []; begins = refl; marks = labels (ls, n) }
   first_of_set _ _ (complement {first = w} {second = t} i n) = record { word = w; rest = t ∷ []; begins = refl; marks = angle i }
 
+  first_of_wide_set : (set : LabelSet) (words : List Text) (h : WideSetSpelling strong set words) → First words (wide_mark h)
+  first_of_wide_set set words (some h) = first_of_set set words h
+  first_of_wide_set _ _ (all {word = w} i) = record { word = w; rest = []; begins = refl; marks = angle i }
+
+  first_of_refusal : (set : LabelSet) (words : List Text) (h : RefusalSpelling strong set words) → First words (refusal_mark h)
+  first_of_refusal _ _ (deadlock {word = w} i) = record { word = w; rest = []; begins = refl; marks = angle i }
+  first_of_refusal _ _ (refused {first = w} {rest = rest} i h) = record { word = w; rest = rest; begins = refl; marks = angle i }
+
   first : (e : Element) (words : List Text) (h : Spelling strong e words) → First words (mark h)
-  first _ words (one_of {set = set} h) = first_of_set set words h
-  first _ _ (one_any {word = w} i) = record { word = w; rest = []; begins = refl; marks = angle i }
+  first _ words (one_of {set = set} h) = first_of_wide_set set words h
   first _ _ (until_set {first = w} {rest = rest} i h) = record { word = w; rest = rest; begins = refl; marks = angle i }
   first _ _ (while_set {first = w} {rest = rest} i h) = record { word = w; rest = rest; begins = refl; marks = angle i }
-  first _ _ (while_any {first = w} {second = t} i j) = record { word = w; rest = t ∷ []; begins = refl; marks = angle i }
-  first _ _ (end {word = w} i) = record { word = w; rest = []; begins = refl; marks = angle i }
-  first _ _ (until_end {first = w} {second = t} i j) = record { word = w; rest = t ∷ []; begins = refl; marks = angle i }
+  first _ words (end {set = set} h) = first_of_refusal set words h
+  first _ _ (until_end {first = w} {rest = rest} i h) = record { word = w; rest = rest; begins = refl; marks = angle i }
 
   same_first : (a b x y r s : List Text) (w v : Text) → a ≡ w ∷ r → b ≡ v ∷ s → a ++ x ≡ b ++ y → w ≡ v
   same_first a b x y r s w v i j e = let joined : w ∷ (r ++ x) ≡ v ∷ (s ++ y) = sym (ap (λ l. l ++ x) i) ∙ e ∙ ap (λ l. l ++ y) j in cc
@@ -91,39 +105,79 @@ module _ (strong : Bool) where
   set_no_word _ _ x y v tail (complement {first = w} j n) e differ i = let same : w ≡ v = cc in apart v (codes "<not>") (60 ∷ tail) (subst IsNot same j) i
       differ
 
+  -- the same set, which may be that of all labels, begins both
+  one_wide_set : (s t : LabelSet) (a b x y : List Text) → WideSetSpelling strong s a → WideSetSpelling strong t b → a ++ x ≡ b ++ y → OneSet s t x y
+  one_wide_set s t a b x y (some h) (some k) e = one_set s t a b x y h k e
+  one_wide_set s _ a _ x y (some h) (all {word = v} k) e = absurd (set_no_word s a x y v _ h e refl k)
+  one_wide_set _ t _ b x y (all {word = v} h) (some k) e = absurd (set_no_word t b y x v _ k (sym e) refl h)
+  one_wide_set _ _ _ _ x y (all i) (all j) e = record { set = refl; rest = cc }
+
+  -- a demand on the end begins with no word that names labels, nor with `<not>`
+  set_no_refusal : (s t : LabelSet) (a b x y : List Text) → SetSpelling strong s a → RefusalSpelling strong t b → a ++ x ≡ b ++ y → ⊥
+  set_no_refusal s _ a _ x y h (deadlock {word = v} i) e = set_no_word s a x y v _ h e refl i
+  set_no_refusal s _ a _ x y h (refused {first = v} {rest = rest} i k) e = set_no_word s a x (rest ++ y) v _ h e refl i
+
+  -- the same demand on the end begins both
+  one_refusal : (s t : LabelSet) (a b x y : List Text) → RefusalSpelling strong s a → RefusalSpelling strong t b → a ++ x ≡ b ++ y → OneSet s t x y
+  one_refusal _ _ _ _ x y (deadlock i) (deadlock j) e = record { set = refl; rest = cc }
+  one_refusal _ _ _ _ x y (deadlock {word = w} i) (refused {first = v} j k) e =
+      let same : w ≡ v = cc in absurd (apart v _ _ (subst (λ u. EqualsIgnoringCase u (codes "<deadlock>")) same i) j refl)
+  one_refusal _ _ _ _ x y (refused {first = w} i h) (deadlock {word = v} j) e =
+      let same : w ≡ v = cc in absurd (apart v _ _ (subst (λ u. EqualsIgnoringCase u (codes "<refuses>")) same i) j refl)
+  one_refusal s t _ _ x y (refused {rest = a} i h) (refused {rest = b} j k) e =
+      let after : a ++ x ≡ b ++ y = cc in one_wide_set s t a b x y h k after
+
+  -- elements by what they begin with: a set, `<until>`, `<while>`, or a demand on the end
+  abbrev kind : {e : Element} {words : List Text} → Spelling strong e words → ℕ
+  kind (one_of h) = 0
+  kind (until_set i h) = 1
+  kind (while_set i h) = 2
+  kind (end h) = 3
+  kind (until_end i h) = 1
+
+  -- the mark tells which it is, by its second letter
+  abbrev choose : Bool → ℕ → ℕ → ℕ
+  choose true m n = m
+  choose false m n = n
+
+  abbrev kind_of_letter : ℕ → ℕ
+  kind_of_letter n = choose (n == 117) 1 (choose (n == 119) 2 (choose ((n == 100) || (n == 114)) 3 0))
+
+  kind_of_mark : (e : Element) (words : List Text) (h : Spelling strong e words) → kind_of_letter (get_or (mark h) 1 0) ≡ kind h
+  kind_of_mark _ _ (one_of (some (named n))) = refl
+  kind_of_mark _ _ (one_of (some (complement i n))) = refl
+  kind_of_mark _ _ (one_of (all i)) = refl
+  kind_of_mark _ _ (until_set i h) = refl
+  kind_of_mark _ _ (while_set i h) = refl
+  kind_of_mark _ _ (end (deadlock i)) = refl
+  kind_of_mark _ _ (end (refused i h)) = refl
+  kind_of_mark _ _ (until_end i h) = refl
+
+  same_kind : (e f : Element) (a b x y : List Text) (h : Spelling strong e a) (k : Spelling strong f b) → a ++ x ≡ b ++ y → kind h ≡ kind k
+  same_kind e f a b x y h k both =
+      sym (kind_of_mark e a h) ∙ ap (λ text. kind_of_letter (get_or text 1 0)) (same_mark e f a b x y h k both) ∙ kind_of_mark f b k
+
   -- the same element begins both, and the same words follow it
   record Once (e f : Element) (x y : List Text) : Type 0 where
     element : e ≡ f
     rest : x ≡ y
 
   once : (e f : Element) (a b x y : List Text) → Spelling strong e a → Spelling strong f b → a ++ x ≡ b ++ y → Once e f x y
-  once _ _ a b x y (one_of {set = s} h) (one_of {set = t} k) e = let o = one_set s t a b x y h k e in record { element = ap one o.set; rest = o.rest }
-  once _ _ _ _ x y (one_any i) (one_any j) e = record { element = refl; rest = cc }
+  once _ _ a b x y (one_of {set = s} h) (one_of {set = t} k) e =
+      let o = one_wide_set s t a b x y h k e in record { element = ap one o.set; rest = o.rest }
   once _ _ _ _ x y (until_set {set = s} {rest = a} i h) (until_set {set = t} {rest = b} j k) e =
       let after : a ++ x ≡ b ++ y = cc in let o = one_set s t a b x y h k after in record { element = ap until o.set; rest = o.rest }
-  once _ _ _ _ x y (until_set {set = s} {rest = a} i h) (until_end {second = v} j k) e =
-      let after : a ++ x ≡ v ∷ y = cc in absurd (set_no_word s a x y v _ h after refl k)
-  once _ _ _ _ x y (until_end {second = v} i h) (until_set {set = t} {rest = b} j k) e =
-      let after : b ++ y ≡ v ∷ x = cc in absurd (set_no_word t b y x v _ k after refl h)
-  once _ _ _ _ x y (until_end i h) (until_end j k) e = record { element = refl; rest = cc }
+  once _ _ _ _ x y (until_set {set = s} {rest = a} i h) (until_end {set = t} {rest = b} j k) e =
+      let after : a ++ x ≡ b ++ y = cc in absurd (set_no_refusal s t a b x y h k after)
+  once _ _ _ _ x y (until_end {set = s} {rest = a} i h) (until_set {set = t} {rest = b} j k) e =
+      let after : b ++ y ≡ a ++ x = cc in absurd (set_no_refusal t s b a y x k h after)
+  once _ _ _ _ x y (until_end {set = s} {rest = a} i h) (until_end {set = t} {rest = b} j k) e =
+      let after : a ++ x ≡ b ++ y = cc in let o = one_refusal s t a b x y h k after in record { element = ap until_refuses o.set; rest = o.rest }
   once _ _ _ _ x y (while_set {set = s} {rest = a} i h) (while_set {set = t} {rest = b} j k) e =
-      let after : a ++ x ≡ b ++ y = cc in let o = one_set s t a b x y h k after in record { element = ap while o.set; rest = o.rest }
-  once _ _ _ _ x y (while_set {set = s} {rest = a} i h) (while_any {second = v} j k) e =
-      let after : a ++ x ≡ v ∷ y = cc in absurd (set_no_word s a x y v _ h after refl k)
-  once _ _ _ _ x y (while_any {second = v} i h) (while_set {set = t} {rest = b} j k) e =
-      let after : b ++ y ≡ v ∷ x = cc in absurd (set_no_word t b y x v _ k after refl h)
-  once _ _ _ _ x y (while_any i h) (while_any j k) e = record { element = refl; rest = cc }
-  once _ _ _ _ x y (end i) (end j) e = record { element = refl; rest = cc }
-  once e f a b x y (one_of (named n)) k both =
-      let differ : 0 ≡ get_or (mark k) 1 0 = ap (λ text. get_or text 1 0) (same_mark e f a b x y (one_of (named n)) k both) in absurd (omega arith)
-  once e f a b x y (one_of (complement i n)) k both =
-      let differ : 110 ≡ get_or (mark k) 1 0 = ap (λ text. get_or text 1 0) (same_mark e f a b x y (one_of (complement i n)) k both) in absurd (omega arith)
-  once e f a b x y h (one_of (named n)) both =
-      let differ : get_or (mark h) 1 0 ≡ 0 = ap (λ text. get_or text 1 0) (same_mark e f a b x y h (one_of (named n)) both) in absurd (omega arith)
-  once e f a b x y h (one_of (complement i n)) both =
-      let differ : get_or (mark h) 1 0 ≡ 110 = ap (λ text. get_or text 1 0) (same_mark e f a b x y h (one_of (complement i n)) both) in absurd (omega arith)
-  once e f a b x y h k both =
-      let differ : get_or (mark h) 1 0 ≡ get_or (mark k) 1 0 = ap (λ text. get_or text 1 0) (same_mark e f a b x y h k both) in absurd (omega arith)
+      let after : a ++ x ≡ b ++ y = cc in let o = one_wide_set s t a b x y h k after in record { element = ap while o.set; rest = o.rest }
+  once _ _ a b x y (end {set = s} h) (end {set = t} k) e =
+      let o = one_refusal s t a b x y h k e in record { element = ap refuses o.set; rest = o.rest }
+  once e f a b x y h k both = let differ : kind h ≡ kind k = same_kind e f a b x y h k both in absurd (omega arith)
 
   -- a list of words that is empty has an empty front
   front_nil : (a b : List Text) → a ++ b ≡ [] → a ≡ []

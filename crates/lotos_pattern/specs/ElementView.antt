@@ -1,8 +1,9 @@
 -- The views of the program's elements and patterns, and the invariant of patterns.
 use Rattle.std.specs.Prelude.{◌≤◌, Bool, List, All, length, map}
+use Rattle.std.specs.Borrow.{Bor}
 use Rattle.std.specs.String.{string_bytes}
 use Rattle.lotos_pattern.specs.PatternLabels.{Label}
-use Rattle.lotos_pattern.specs.Patterns.{Element, LabelSet, OnlyLastDemandsDeadlock, IsObservable, Pattern, Segment, deadlock, one, others, these, until, until_deadlock, while}
+use Rattle.lotos_pattern.specs.Patterns.{Element, LabelSet, OnlyLastDemandsRefusal, IsObservable, Pattern, Segment, one, others, refuses, these, until, until_refuses, while}
 use Rattle.lotos_pattern.specs.declared.element.Element.{Element as CodeElement}
 use Rattle.lotos_pattern.specs.declared.element.Element.TheVariants as code
 use Rattle.lotos_pattern.specs.declared.label_set.LabelSet.{LabelSet as CodeLabelSet}
@@ -13,13 +14,17 @@ abbrev pub set_of : CodeLabelSet → LabelSet
 set_of (code_set.These labels) = these (map string_bytes labels.items)
 set_of (code_set.Others labels) = others (map string_bytes labels.items)
 
+-- that of a set that is lent
+abbrev pub lent_set_of : Bor CodeLabelSet → LabelSet
+lent_set_of set = set_of set.now
+
 -- the view of an element
 abbrev pub element_of : CodeElement → Element
 element_of (code.One set) = one (set_of set)
 element_of (code.Until set) = until (set_of set)
 element_of (code.While set) = while (set_of set)
-element_of code.Deadlock = deadlock
-element_of code.UntilDeadlock = until_deadlock
+element_of (code.Refuses set) = refuses (set_of set)
+element_of (code.UntilRefuses set) = until_refuses (set_of set)
 
 -- the views of elements
 abbrev pub elements_of : List CodeElement → List Element
@@ -35,6 +40,6 @@ CanOccur strong e = (s : List Label) × Segment e s × All (IsObservable strong)
 
 -- the invariant of patterns
 pub record IsPattern (p : Pattern) : Type 0 where
-  pub ends_last : OnlyLastDemandsDeadlock p.elements
+  pub ends_last : OnlyLastDemandsRefusal p.elements
   pub observable : All (CanOccur p.strong) p.elements
   pub short : length p.elements ≤ 256

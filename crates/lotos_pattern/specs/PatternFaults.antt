@@ -1,8 +1,8 @@
 -- Why words spell no pattern. Words are numbered from 1.
 use Rattle.std.specs.Prelude.{◌≡◌, ◌⊎◌, ℕ, ◌+◌, ◌<◌, Bool, true, false, List, Some, Contains, length, slice_get, take}
 use Rattle.lotos_pattern.specs.PatternLabels.{Label, internal}
-use Rattle.lotos_pattern.specs.Patterns.{DemandsDeadlock, Pattern}
-use Rattle.lotos_pattern.specs.Spelling.{IsAny, IsDeadlock, IsNot, IsUntil, IsWhile, NamesLabels, PatternOf, Text}
+use Rattle.lotos_pattern.specs.Patterns.{DemandsRefusal, Pattern}
+use Rattle.lotos_pattern.specs.Spelling.{IsAny, IsDeadlock, IsNot, IsRefuses, IsUntil, IsWhile, NamesLabels, PatternOf, Text}
 use Rattle.lotos_pattern.specs.declared.fault.PatternFault.{PatternFault}
 use Rattle.lotos_pattern.specs.declared.fault.PatternFault.TheVariants.{E41, E42, E43, E44, E45, E48, E50, E99}
 
@@ -32,7 +32,7 @@ module _ (strong : Bool) where
   pub record BeginsElement (words : List Text) (n : ℕ) : Type 0 where
     pub pattern : Pattern
     pub is_after : IsAfterPattern words n pattern
-    pub goes_on : DemandsDeadlock pattern → ⊥
+    pub goes_on : DemandsRefusal pattern → ⊥
     pub below_limit : length pattern.elements < 256
 
   -- the word names labels
@@ -48,6 +48,7 @@ module _ (strong : Bool) where
     pub until : IsUntil word → ⊥
     pub while : IsWhile word → ⊥
     pub deadlock : IsDeadlock word → ⊥
+    pub refuses : IsRefuses word → ⊥
 
   -- the word goes on no element that `<until>` begins, and it does not name the internal action
   pub record EndsNoUntil (word : Text) : Type 0 where
@@ -55,9 +56,10 @@ module _ (strong : Bool) where
     pub internal : NamesInternal word → ⊥
     pub complement : IsNot word → ⊥
     pub deadlock : IsDeadlock word → ⊥
+    pub refuses : IsRefuses word → ⊥
 
-  -- the word goes on no element that `<while>` begins, and it does not name the internal action
-  pub record EndsNoWhile (word : Text) : Type 0 where
+  -- the word begins no set, is not `<any>`, and does not name the internal action
+  pub record BeginsNoSet (word : Text) : Type 0 where
     pub labels : IsLabels word → ⊥
     pub internal : NamesInternal word → ⊥
     pub complement : IsNot word → ⊥
@@ -73,10 +75,19 @@ module _ (strong : Bool) where
     pub begins : BeginsElement words n
     pub first : HasWord words n Such
 
-  -- a set may begin at the word with this number: an element begins there, or `<until>` or `<while>` comes before it
+  -- no set comes after the word with this number, nor `<any>`
+  abbrev pub HasNoSetAfter : List Text → ℕ → Type 0
+  HasNoSetAfter words n = HasWord words (n + 1) BeginsNoSet ⊎ (length words ≡ n)
+
+  -- an element begins at the word with this number, or `<until>` comes before it: a demand on the end may begin there
+  abbrev pub AwaitsEnd : List Text → ℕ → Type 0
+  AwaitsEnd words n = BeginsElement words n ⊎ ((before : ℕ) × (n ≡ before + 1) × BeginsWith words before IsUntil)
+
+  -- a set may begin at the word with this number: an element begins there, or `<until>`, `<while>` or `<refuses>` comes
+  -- before it
   abbrev pub AwaitsSet : List Text → ℕ → Type 0
-  AwaitsSet words n = BeginsElement words n
-      ⊎ ((before : ℕ) × (n ≡ before + 1) × (BeginsWith words before IsUntil ⊎ BeginsWith words before IsWhile))
+  AwaitsSet words n = AwaitsEnd words n ⊎ ((before : ℕ) × (n ≡ before + 1) ×
+      (BeginsWith words before IsWhile ⊎ (AwaitsEnd words before × HasWord words before IsRefuses)))
 
   -- the word with this number may name labels: a set may begin there, or `<not>` begins one before it
   abbrev pub AwaitsLabels : List Text → ℕ → Type 0
@@ -89,17 +100,19 @@ module _ (strong : Bool) where
   IsCause words (E41 n) = BeginsElement words n × HasWord words n BeginsNoElement
   -- an element begins with `<until>`, and it does not go on with the next word, or there is none
   IsCause words (E42 n) = BeginsWith words n IsUntil × (HasWord words (n + 1) EndsNoUntil ⊎ (length words ≡ n))
-  -- the words before spell a pattern that demands a deadlock
-  IsCause words (E43 n) = (p : Pattern) × IsAfterPattern words n p × DemandsDeadlock p
-  -- the words before spell 256 elements and demand no deadlock
-  IsCause words (E44 n) = (p : Pattern) × IsAfterPattern words n p × (DemandsDeadlock p → ⊥) × (length p.elements ≡ 256)
+  -- the words before spell a pattern that demands a refusal
+  IsCause words (E43 n) = (p : Pattern) × IsAfterPattern words n p × DemandsRefusal p
+  -- the words before spell 256 elements and demand no refusal
+  IsCause words (E44 n) = (p : Pattern) × IsAfterPattern words n p × (DemandsRefusal p → ⊥) × (length p.elements ≡ 256)
   -- the word may name labels, and names the internal action, which is not observed
   IsCause words (E45 n) = AwaitsLabels words n × HasWord words n NamesInternal × (strong ≡ false)
   -- an element begins with `<while>`, and it does not go on with the next word, or there is none
-  IsCause words (E48 n) = BeginsWith words n IsWhile × (HasWord words (n + 1) EndsNoWhile ⊎ (length words ≡ n))
-  -- a set begins with `<not>`, and the next word does not name its labels, or there is none
-  IsCause words (E50 n) = AwaitsSet words n × HasWord words n IsNot ×
-      (HasWord words (n + 1) EndsNoComplement ⊎ (length words ≡ n))
+  IsCause words (E48 n) = BeginsWith words n IsWhile × HasNoSetAfter words n
+  -- a set begins with `<not>`, and the next word does not name its labels, or there is none; or a demand on the end
+  -- begins with `<refuses>`, and no set comes after it
+  IsCause words (E50 n) = (AwaitsSet words n × HasWord words n IsNot ×
+      (HasWord words (n + 1) EndsNoComplement ⊎ (length words ≡ n)))
+      ⊎ (AwaitsEnd words n × HasWord words n IsRefuses × HasNoSetAfter words n)
   IsCause words (E99 e) = Unit {0}
 
   -- the fault is that memory ran out, or the words spell no pattern

@@ -1,5 +1,6 @@
 -- What a pattern is, and which sequences of labels it matches.
-use Rattle.std.specs.Prelude.{◌≡◌, ◌≢◌, Bool, true, false, List, [], ◌∷◌, ◌++◌, All, Contains}
+use Rattle.std.specs.Prelude.{◌≡◌, ◌≢◌, Bool, true, false, List, [], ◌∷◌, ◌++◌, Option, None, Some, MatchOption, All}
+use Rattle.std.specs.Prelude.{Contains}
 use Rattle.lotos_pattern.specs.PatternLabels.{Label, internal}
 
 -- the list is the concatenation of one part for each of the items, in turn
@@ -27,10 +28,10 @@ pub data Element : Type 0 where
   until : LabelSet → Element
   -- any number of labels, all of the set
   while : LabelSet → Element
-  -- no label; the end must be a deadlock
-  deadlock : Element
-  -- any number of labels; the end must be a deadlock
-  until_deadlock : Element
+  -- no label; the end must refuse the set
+  refuses : LabelSet → Element
+  -- any number of labels; the end must refuse the set
+  until_refuses : LabelSet → Element
 
 -- the sequence is a segment of the element
 abbrev pub Segment : Element → List Label → Type 0
@@ -38,8 +39,8 @@ Segment (one set) s = (l : Label) × IsIn l set × (s ≡ l ∷ [])
 Segment (until set) s = (before : List Label) × (l : Label) × All (λ x. IsIn x set → ⊥) before × IsIn l set ×
     (s ≡ before ++ l ∷ [])
 Segment (while set) s = All (λ x. IsIn x set) s
-Segment deadlock s = s ≡ []
-Segment until_deadlock s = Unit {0}
+Segment (refuses set) s = s ≡ []
+Segment (until_refuses set) s = Unit {0}
 
 -- the label can be observed: any label if internal steps are observed, otherwise any but the internal action
 abbrev pub IsObservable : (strong : Bool) → Label → Type 0
@@ -60,26 +61,34 @@ pub record Matches (p : Pattern) (s : List Label) : Type 0 where
 abbrev pub Viable : Pattern → List Label → Type 0
 Viable p r = (s : List Label) × Matches p (r ++ s)
 
--- the element demands a deadlock at the end
-abbrev pub ElementDemandsDeadlock : Element → Type 0
-ElementDemandsDeadlock (one set) = ⊥
-ElementDemandsDeadlock (until set) = ⊥
-ElementDemandsDeadlock (while set) = ⊥
-ElementDemandsDeadlock deadlock = Unit {0}
-ElementDemandsDeadlock until_deadlock = Unit {0}
+-- the set that the end must refuse, if the element demands that
+abbrev pub refusal_of : Element → Option LabelSet
+refusal_of (one set) = None
+refusal_of (until set) = None
+refusal_of (while set) = None
+refusal_of (refuses set) = Some set
+refusal_of (until_refuses set) = Some set
 
--- the last of the elements demands a deadlock at the end
-abbrev pub LastDemandsDeadlock : List Element → Type 0
-LastDemandsDeadlock [] = ⊥
-LastDemandsDeadlock (e ∷ []) = ElementDemandsDeadlock e
-LastDemandsDeadlock (e ∷ f ∷ p) = LastDemandsDeadlock (f ∷ p)
+-- the set that the end must refuse, if the last of the elements demands that
+abbrev pub last_refusal : List Element → Option LabelSet
+last_refusal [] = None
+last_refusal (e ∷ []) = refusal_of e
+last_refusal (e ∷ f ∷ p) = last_refusal (f ∷ p)
 
--- a matched sequence must end in a deadlock
-abbrev pub DemandsDeadlock : Pattern → Type 0
-DemandsDeadlock p = LastDemandsDeadlock p.elements
+-- the set that the end of a matched sequence must refuse, if the pattern demands that
+abbrev pub refusal : Pattern → Option LabelSet
+refusal p = last_refusal p.elements
 
--- no element but the last demands a deadlock
-abbrev pub OnlyLastDemandsDeadlock : List Element → Type 0
-OnlyLastDemandsDeadlock [] = Unit {0}
-OnlyLastDemandsDeadlock (e ∷ []) = Unit {0}
-OnlyLastDemandsDeadlock (e ∷ f ∷ p) = (ElementDemandsDeadlock e → ⊥) × OnlyLastDemandsDeadlock (f ∷ p)
+-- there is a set that the end must refuse
+abbrev pub IsDemanded : Option LabelSet → Type 0
+IsDemanded demanded = MatchOption demanded ⊥ (λ set. Unit {0})
+
+-- the end of a matched sequence must refuse a set
+abbrev pub DemandsRefusal : Pattern → Type 0
+DemandsRefusal p = IsDemanded (refusal p)
+
+-- no element but the last demands that the end refuses a set
+abbrev pub OnlyLastDemandsRefusal : List Element → Type 0
+OnlyLastDemandsRefusal [] = Unit {0}
+OnlyLastDemandsRefusal (e ∷ []) = Unit {0}
+OnlyLastDemandsRefusal (e ∷ f ∷ p) = (IsDemanded (refusal_of e) → ⊥) × OnlyLastDemandsRefusal (f ∷ p)

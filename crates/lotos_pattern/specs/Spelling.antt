@@ -4,7 +4,8 @@ use Rattle.std.specs.Borrow.{Bor}
 use Rattle.std.specs.Char.{is_ascii_alphabetic, is_ascii_alphanumeric, to_ascii_lowercase, to_ascii_uppercase}
 use Rattle.std.specs.List.{AllByRecursion, slice_split}
 use Rattle.lotos_pattern.specs.PatternLabels.{Label, internal, termination}
-use Rattle.lotos_pattern.specs.Patterns.{Element, LabelSet, OnlyLastDemandsDeadlock, IsJoin, IsObservable, Pattern, deadlock, one, others, these, until, until_deadlock, while}
+use Rattle.lotos_pattern.specs.Patterns.{Element, LabelSet, OnlyLastDemandsRefusal, IsJoin, IsObservable, Pattern, one, others, refuses}
+use Rattle.lotos_pattern.specs.Patterns.{these, until, until_refuses, while}
 
 -- a word as its bytes
 abbrev pub Text : Type 0
@@ -75,6 +76,10 @@ IsWhile word = EqualsIgnoringCase word (codes "<while>")
 abbrev pub IsDeadlock : Text → Type 0
 IsDeadlock word = EqualsIgnoringCase word (codes "<deadlock>")
 
+-- the word is `<refuses>`
+abbrev pub IsRefuses : Text → Type 0
+IsRefuses word = EqualsIgnoringCase word (codes "<refuses>")
+
 -- the words that spell a set of labels
 pub data SetSpelling (strong : Bool) : LabelSet → List Text → Type 0 where
   -- the names of its labels
@@ -84,31 +89,40 @@ pub data SetSpelling (strong : Bool) : LabelSet → List Text → Type 0 where
   complement : {first second : Text} {labels : List Label} → IsNot first → NamesLabels strong second labels →
       SetSpelling strong (others labels) (first ∷ second ∷ [])
 
+-- the words that spell a set of labels, which may be that of all
+pub data WideSetSpelling (strong : Bool) : LabelSet → List Text → Type 0 where
+  some : {set : LabelSet} {words : List Text} → SetSpelling strong set words → WideSetSpelling strong set words
+  -- `<any>`
+  all : {word : Text} → IsAny word → WideSetSpelling strong (others []) (word ∷ [])
+
+-- the words that spell the demand that the end refuses a set
+pub data RefusalSpelling (strong : Bool) : LabelSet → List Text → Type 0 where
+  -- `<deadlock>`: the set of all labels
+  deadlock : {word : Text} → IsDeadlock word → RefusalSpelling strong (others []) (word ∷ [])
+  -- `<refuses>`, and the set
+  refused : {first : Text} {set : LabelSet} {rest : List Text} → IsRefuses first → WideSetSpelling strong set rest →
+      RefusalSpelling strong set (first ∷ rest)
+
 -- the words that spell an element
 pub data Spelling (strong : Bool) : Element → List Text → Type 0 where
   -- a set: one label of it
-  one_of : {set : LabelSet} {words : List Text} → SetSpelling strong set words → Spelling strong (one set) words
-  -- `<any>`: one label of the set of all
-  one_any : {word : Text} → IsAny word → Spelling strong (one (others [])) (word ∷ [])
+  one_of : {set : LabelSet} {words : List Text} → WideSetSpelling strong set words → Spelling strong (one set) words
   -- `<until>`, and a set
   until_set : {first : Text} {set : LabelSet} {rest : List Text} → IsUntil first → SetSpelling strong set rest →
       Spelling strong (until set) (first ∷ rest)
   -- `<while>`, and a set
-  while_set : {first : Text} {set : LabelSet} {rest : List Text} → IsWhile first → SetSpelling strong set rest →
+  while_set : {first : Text} {set : LabelSet} {rest : List Text} → IsWhile first → WideSetSpelling strong set rest →
       Spelling strong (while set) (first ∷ rest)
-  -- `<while> <any>`: the set of all labels
-  while_any : {first second : Text} → IsWhile first → IsAny second →
-      Spelling strong (while (others [])) (first ∷ second ∷ [])
-  -- `<deadlock>`
-  end : {word : Text} → IsDeadlock word → Spelling strong deadlock (word ∷ [])
-  -- `<until> <deadlock>`
-  until_end : {first second : Text} → IsUntil first → IsDeadlock second →
-      Spelling strong until_deadlock (first ∷ second ∷ [])
+  -- the demand that the end refuses a set
+  end : {set : LabelSet} {words : List Text} → RefusalSpelling strong set words → Spelling strong (refuses set) words
+  -- `<until>`, and such a demand
+  until_end : {first : Text} {set : LabelSet} {rest : List Text} → IsUntil first → RefusalSpelling strong set rest →
+      Spelling strong (until_refuses set) (first ∷ rest)
 
--- the words spell the pattern: at most 256 elements, of which only the last may demand a deadlock; if internal steps
+-- the words spell the pattern: at most 256 elements, of which only the last may demand a refusal; if internal steps
 -- are observed, the internal action is a label like others
 pub record PatternOf (strong : Bool) (words : List Text) (p : Pattern) : Type 0 where
   pub shows : p.strong ≡ strong
   pub spelled : IsJoin (Spelling strong) p.elements words
   pub short : length p.elements ≤ 256
-  pub ends_last : OnlyLastDemandsDeadlock p.elements
+  pub ends_last : OnlyLastDemandsRefusal p.elements

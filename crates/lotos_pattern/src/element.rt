@@ -1,9 +1,9 @@
 //! Elements of a pattern, and their transitions on labels.
-ghost use Rattle.std.specs.Prelude.{◌≡◌, ◌↔◌, ◌≤◌, ℕ, IfOk, MatchBool, [], drop, map};
-ghost use Rattle.lotos_pattern.specs.Patterns.{LastDemandsDeadlock, ElementDemandsDeadlock, IsJoin, Segment};
+ghost use Rattle.std.specs.Prelude.{◌≡◌, ◌↔◌, ◌≤◌, ℕ, IfOk, MatchBool, [], drop, map, option_map};
+ghost use Rattle.lotos_pattern.specs.Patterns.{IsJoin, Segment, last_refusal, refusal_of};
 ghost use Rattle.lotos_pattern.specs.Spelling.{texts_of};
 ghost use Rattle.lotos_pattern.specs.ExactPatterns.{exact_elements, label_element};
-ghost use Rattle.lotos_pattern.specs.ElementView.{element_of, elements_of};
+ghost use Rattle.lotos_pattern.specs.ElementView.{element_of, elements_of, lent_set_of};
 ghost use Rattle.lotos_pattern.specs.Transitions.{IsTransition};
 
 use crate::label_set::LabelSet;
@@ -18,10 +18,10 @@ pub(crate) enum Element {
     Until(LabelSet),
     /// Any number of labels, all of the set.
     While(LabelSet),
-    /// No label; the end must be a deadlock.
-    Deadlock,
-    /// Any number of labels; the end must be a deadlock.
-    UntilDeadlock,
+    /// No label; the end must refuse the set.
+    Refuses(LabelSet),
+    /// Any number of labels; the end must refuse the set.
+    UntilRefuses(LabelSet),
 }
 
 /// What a label does at the start of an element's segment.
@@ -61,8 +61,8 @@ impl Element {
                     Transition::Reject
                 }
             }
-            Element::Deadlock => Transition::Reject,
-            Element::UntilDeadlock => Transition::Stay,
+            Element::Refuses(_) => Transition::Reject,
+            Element::UntilRefuses(_) => Transition::Stay,
         }
     }
 
@@ -74,17 +74,22 @@ impl Element {
             Element::One(_) => false,
             Element::Until(_) => false,
             Element::While(_) => true,
-            Element::Deadlock => true,
-            Element::UntilDeadlock => true,
+            Element::Refuses(_) => true,
+            Element::UntilRefuses(_) => true,
         }
     }
 
-    /// Whether the element demands a deadlock at the end.
-    pub(crate) fn demands_deadlock(&self) -> bool
-        ensures { MatchBool result (ElementDemandsDeadlock (element_of self.now))
-            (ElementDemandsDeadlock (element_of self.now) → ⊥) }
+    /// The set that the end must refuse, if the element demands that.
+    pub(crate) fn refusal(&self) -> Option<&LabelSet>
+        ensures { option_map lent_set_of result ≡ refusal_of (element_of self.now) }
     {
-        matches!(self, Element::Deadlock | Element::UntilDeadlock)
+        match self {
+            Element::One(_) => None,
+            Element::Until(_) => None,
+            Element::While(_) => None,
+            Element::Refuses(set) => Some(set),
+            Element::UntilRefuses(set) => Some(set),
+        }
     }
 
     /// A copy of the element.
@@ -104,8 +109,14 @@ impl Element {
                 let set = labels.copied(alloc)?;
                 Ok(Element::While(set))
             }
-            Element::Deadlock => Ok(Element::Deadlock),
-            Element::UntilDeadlock => Ok(Element::UntilDeadlock),
+            Element::Refuses(labels) => {
+                let set = labels.copied(alloc)?;
+                Ok(Element::Refuses(set))
+            }
+            Element::UntilRefuses(labels) => {
+                let set = labels.copied(alloc)?;
+                Ok(Element::UntilRefuses(set))
+            }
         }
     }
 }
@@ -124,18 +135,18 @@ pub(crate) fn copied_elements(
     Ok(copy)
 }
 
-/// The elements that match the sequence of these labels alone, and demand a deadlock at its end if it must be one.
+/// The elements that match the sequence of these labels alone, and demand that its end refuses the set, if there is one.
 pub(crate) fn exact_elements(
     alloc: Global,
     labels: &[&str],
-    dead: bool,
+    refused: Option<&LabelSet>,
 ) -> Result<Vec<Element>, AllocError>
     ensures { IfOk result (λ elements.
-        elements_of elements.items ≡ exact_elements dead (texts_of labels.now)) }
+        elements_of elements.items ≡ exact_elements (option_map lent_set_of refused.entry) (texts_of labels.now)) }
 {
     let mut elements = label_elements(alloc, labels)?;
-    if dead {
-        elements.push(Element::Deadlock)?;
+    if let Some(set) = refused {
+        elements.push(Element::Refuses(set.copied(alloc)?))?;
     }
     Ok(elements)
 }
@@ -160,15 +171,11 @@ fn label_element(alloc: Global, label: &str) -> Result<Element, AllocError>
     Ok(Element::One(LabelSet::These(labels)))
 }
 
-/// Whether the last of the elements demands a deadlock at the end.
-pub(crate) fn demands_deadlock(elements: &[Element]) -> bool
-    ensures { MatchBool result (LastDemandsDeadlock (elements_of elements.now))
-        (LastDemandsDeadlock (elements_of elements.now) → ⊥) }
+/// The set that the end must refuse, if the last of the elements demands that.
+pub(crate) fn last_refusal(elements: &[Element]) -> Option<&LabelSet>
+    ensures { option_map lent_set_of result ≡ last_refusal (elements_of elements.now) }
 {
-    match elements.last() {
-        Some(last) => last.demands_deadlock(),
-        None => false,
-    }
+    elements.last()?.refusal()
 }
 
 /// The least accepting NFA state: each element after the first so many may have an empty segment.

@@ -9,10 +9,10 @@ pub enum PatternFault {
     /// The word neither names labels nor begins an element.
     #[error("E41 word {0} is neither a label nor an element")]
     E41(usize),
-    /// This word, `<until>`, is not followed by a set of labels or `<deadlock>`.
+    /// This word, `<until>`, is not followed by a set of labels or a demand on the end.
     #[error("E42 word {0} needs a label or <deadlock> after it")]
     E42(usize),
-    /// The word follows an element that demands a deadlock.
+    /// The word follows an element that is a demand on the end.
     #[error("E43 word {0} follows an end element")]
     E43(usize),
     /// The word follows 256 elements, the most that a pattern may have.
@@ -24,7 +24,8 @@ pub enum PatternFault {
     /// This word, `<while>`, is not followed by a set of labels or `<any>`.
     #[error("E48 word {0} needs a label or <any> after it")]
     E48(usize),
-    /// This word, `<not>`, is not followed by a word that names labels.
+    /// This word is `<not>` and no word that names labels follows it, or `<refuses>` and no set of labels and no `<any>`
+    /// follows it.
     #[error("E50 word {0} needs a label after it")]
     E50(usize),
     /// Out of memory.

@@ -7,7 +7,7 @@ use std::alloc::{AllocError, Global};
 
 /// A set of labels, which are given by their printed texts.
 #[derive(Debug, Drop)]
-pub(crate) enum LabelSet {
+pub enum LabelSet {
     /// These labels.
     These(Vec<String>),
     /// All labels but these.
@@ -16,7 +16,7 @@ pub(crate) enum LabelSet {
 
 impl LabelSet {
     /// Whether the label, given by its printed text, is in the set.
-    pub(crate) fn contains(&self, label: &str) -> bool
+    pub fn contains(&self, label: &str) -> bool
         ensures { MatchBool result (IsIn label.now (set_of self.now)) (IsIn label.now (set_of self.now) → ⊥) }
     {
         match self {
@@ -26,7 +26,7 @@ impl LabelSet {
     }
 
     /// A copy of the set.
-    pub(crate) fn copied(&self, alloc: Global) -> Result<LabelSet, AllocError>
+    pub fn copied(&self, alloc: Global) -> Result<LabelSet, AllocError>
         ensures { IfOk result (λ copy. set_of copy ≡ set_of self.now) }
     {
         match self {

@@ -21,6 +21,7 @@ mod step_rows;
 pub use compiled_pattern::CompiledPattern;
 pub use fault::PatternFault;
 pub use label_names::{is_word, split_names};
+pub use label_set::LabelSet;
 pub use pattern::Pattern;
 pub use place::{End, Place};
 pub use place_number::PlaceNumber;

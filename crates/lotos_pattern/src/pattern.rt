@@ -1,8 +1,8 @@
 //! Patterns, and the places of sequences in them.
-ghost use Rattle.std.specs.Prelude.{◌≡◌, ◌↔◌, ◌∷◌, ◌++◌, ◌<◌, ◌≤◌, ℕ, [], All, List, IfErr, IfOk, IfSome, MatchBool, MatchOption, length};
+ghost use Rattle.std.specs.Prelude.{◌≡◌, ◌↔◌, ◌∷◌, ◌++◌, ◌<◌, ◌≤◌, ℕ, [], All, List, IfErr, IfOk, IfSome, MatchBool, MatchOption, length, option_map};
 ghost use Rattle.lotos_pattern.specs.PatternLabels.{Label};
-ghost use Rattle.lotos_pattern.specs.Patterns.{DemandsDeadlock, IsObservable, Matches, Viable};
-ghost use Rattle.lotos_pattern.specs.ElementView.{CanOccur, element_of};
+ghost use Rattle.lotos_pattern.specs.Patterns.{IsObservable, Matches, Viable, refusal};
+ghost use Rattle.lotos_pattern.specs.ElementView.{CanOccur, element_of, lent_set_of};
 ghost use Rattle.lotos_pattern.specs.Spelling.{PatternOf, texts_of};
 ghost use Rattle.lotos_pattern.specs.PatternFaults.{IsCause, SpellsNone};
 ghost use Rattle.lotos_pattern.specs.NfaStates.{HasState, IsPlaceValue};
@@ -11,9 +11,10 @@ ghost use Rattle.lotos_pattern.specs.PlaceTransitions.{HasTransition, IsNextStat
 ghost use Rattle.lotos_pattern.specs.NfaTransitions.{HasStatesAfter, Leads};
 
 use crate::element::{
-    Element, Transition, copied_elements, demands_deadlock, exact_elements, min_accepting_state,
+    Element, Transition, copied_elements, exact_elements, last_refusal, min_accepting_state,
 };
 use crate::fault::PatternFault;
+use crate::label_set::LabelSet;
 use crate::pattern_parser::parse_elements;
 use crate::place::{End, Place};
 use std::alloc::{AllocError, Global};
@@ -46,7 +47,7 @@ impl Pattern {
     /// # Errors
     ///
     /// Words are read from the left, and the first fault is returned. Where an element has to begin, the faults are
-    /// tried in this order: E43, if the pattern so far demands a deadlock; E44, if it has 256 elements; those of the
+    /// tried in this order: E43, if the pattern so far has a demand on the end; E44, if it has 256 elements; those of the
     /// word itself. E99 if an allocation fails.
     pub fn read(alloc: Global, words: &[&str], strong: bool) -> Result<Pattern, PatternFault>
         ensures pattern { IfOk result (PatternOf strong (texts_of words.now)) }
@@ -73,16 +74,23 @@ impl Pattern {
         Ok(Pattern { elements, strong })
     }
 
-    /// The pattern that matches the sequence of these labels alone, and demands a deadlock at the end if this one does.
+    /// The set of labels that the end of a matched sequence must refuse, if the pattern demands that: the term where it
+    /// ends must have no internal step, and none with a label of the set.
+    pub fn refusal(&self) -> Option<&LabelSet>
+        ensures { option_map lent_set_of result ≡ refusal self.now }
+    {
+        last_refusal(self.elements.as_slice())
+    }
+
+    /// The pattern that matches the sequence of these labels alone, and demands of the end what this one does.
     pub fn exactly(&self, alloc: Global, labels: &[&str]) -> Result<Pattern, AllocError>
         requires short { length labels.now ≤ 255 }
         requires observable { All (IsObservable self.now.strong) (texts_of labels.now) }
         ensures strong { IfOk result (λ p. p.strong ≡ self.now.strong) }
         ensures matches { IfOk result (λ p. (s : List Label) → Matches p s ↔ (s ≡ texts_of labels.now)) }
-        ensures deadlock { IfOk result (λ p. DemandsDeadlock p ↔ DemandsDeadlock self.now) }
+        ensures refusal { IfOk result (λ p. refusal p ≡ refusal self.now) }
     {
-        let dead = demands_deadlock(self.elements.as_slice());
-        let elements = exact_elements(alloc, labels, dead)?;
+        let elements = exact_elements(alloc, labels, self.refusal())?;
         let strong = self.strong;
         Ok(Pattern { elements, strong })
     }
@@ -130,8 +138,8 @@ impl Pattern {
     {
         if !self.is_accepting(&place) {
             End::No
-        } else if demands_deadlock(self.elements.as_slice()) {
-            End::IfDead
+        } else if self.refusal().is_some() {
+            End::IfRefuses
         } else {
             End::Yes
         }

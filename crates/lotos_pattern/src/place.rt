@@ -121,6 +121,6 @@ pub enum End {
     No,
     /// It does.
     Yes,
-    /// It does if the sequence ends in a deadlock: a term without any step.
-    IfDead,
+    /// It does if the end of the sequence refuses the set that the pattern demands.
+    IfRefuses,
 }

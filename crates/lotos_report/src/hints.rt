@@ -14,7 +14,14 @@ use strsim::levenshtein;
 const EXTENSION: &str = ".lotos";
 
 /// The words of elements that are not labels.
-const ELEMENT_WORDS: [&str; 5] = ["<any>", "<not>", "<until>", "<while>", "<deadlock>"];
+const ELEMENT_WORDS: [&str; 6] = [
+    "<any>",
+    "<not>",
+    "<until>",
+    "<while>",
+    "<deadlock>",
+    "<refuses>",
+];
 
 /// The most bytes of a word that may be almost an element.
 const LONGEST: usize = 16;

@@ -23,10 +23,35 @@ const ROWS: &[Row] = &[
         &["<until>", "<deadlock>"],
         &["A", "exit"],
         &["A", "exit"],
-        Some(End::IfDead),
+        Some(End::IfRefuses),
     ),
-    (&["A", "<deadlock>"], &[], &[], Some(End::IfDead)),
+    (&["A", "<deadlock>"], &[], &[], Some(End::IfRefuses)),
     (&["<deadlock>"], &["B"], &[], Some(End::No)),
+    (
+        &["A", "<refuses>", "A"],
+        &["B"],
+        &["B"],
+        Some(End::IfRefuses),
+    ),
+    (
+        &["<refuses>", "<not>", "i"],
+        &["A", "i"],
+        &["A", "i"],
+        Some(End::IfRefuses),
+    ),
+    (
+        &["<until>", "<refuses>", "A,i"],
+        &[],
+        &[],
+        Some(End::IfRefuses),
+    ),
+    (&["<until>", "<refuses>", "A"], &["A"], &["A", "A"], None),
+    (
+        &["<until>", "<refuses>", "<any>"],
+        &["A", "A"],
+        &["A"],
+        Some(End::No),
+    ),
 ];
 
 /// The pattern that matches the labels alone, if internal steps are observed and there are at most 255.

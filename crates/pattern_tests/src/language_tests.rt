@@ -1,9 +1,28 @@
 //! Small patterns, compared with the definition of what they match.
-use super::sequence_ends::end_after;
+use super::sequence_ends::{end_after, is_refused};
 use lotos_pattern::{End, Pattern, PatternFault};
 use std::alloc::{AllocError, Global};
 use std::process::Abort;
 use std::test::Fail;
+
+/// A set of labels that the end must refuse, as the definition has it.
+#[derive(Clone, Copy)]
+enum Refused {
+    These(&'static [&'static str]),
+    Others(&'static [&'static str]),
+}
+
+/// All labels.
+const ALL_LABELS: Refused = Refused::Others(&[]);
+
+impl Refused {
+    fn has(self, label: &str) -> bool {
+        match self {
+            Refused::These(labels) => labels.contains(&label),
+            Refused::Others(labels) => !labels.contains(&label),
+        }
+    }
+}
 
 /// An element, as the definition has it.
 enum Part {
@@ -18,8 +37,8 @@ enum Part {
     UntilOutside(&'static [&'static str]),
     WhileInside(&'static [&'static str]),
     WhileOutside(&'static [&'static str]),
-    Deadlock,
-    UntilDeadlock,
+    Refuses(Refused),
+    UntilRefuses(Refused),
 }
 
 /// A small pattern: its words, and its elements. At most two elements need a label.
@@ -31,8 +50,11 @@ const WITHOUT_REPETITIONS: &[Row] = &[
     (&["A"], &[Part::One("A")]),
     (&["<any>"], &[Part::Any]),
     (&["<until>", "B"], &[Part::Until("B")]),
-    (&["<deadlock>"], &[Part::Deadlock]),
-    (&["<until>", "<deadlock>"], &[Part::UntilDeadlock]),
+    (&["<deadlock>"], &[Part::Refuses(ALL_LABELS)]),
+    (
+        &["<until>", "<deadlock>"],
+        &[Part::UntilRefuses(ALL_LABELS)],
+    ),
     (&["A", "B"], &[Part::One("A"), Part::One("B")]),
     (&["<any>", "exit"], &[Part::Any, Part::One("exit")]),
     (
@@ -44,18 +66,93 @@ const WITHOUT_REPETITIONS: &[Row] = &[
         &[Part::Until("exit"), Part::Any],
     ),
     (&["<until>", "B", "A"], &[Part::Until("B"), Part::One("A")]),
-    (&["A", "<deadlock>"], &[Part::One("A"), Part::Deadlock]),
+    (
+        &["A", "<deadlock>"],
+        &[Part::One("A"), Part::Refuses(ALL_LABELS)],
+    ),
     (
         &["<until>", "B", "<deadlock>"],
-        &[Part::Until("B"), Part::Deadlock],
+        &[Part::Until("B"), Part::Refuses(ALL_LABELS)],
     ),
     (
         &["<any>", "<until>", "<deadlock>"],
-        &[Part::Any, Part::UntilDeadlock],
+        &[Part::Any, Part::UntilRefuses(ALL_LABELS)],
     ),
     (
         &["B", "<until>", "A", "<until>", "<deadlock>"],
-        &[Part::One("B"), Part::Until("A"), Part::UntilDeadlock],
+        &[
+            Part::One("B"),
+            Part::Until("A"),
+            Part::UntilRefuses(ALL_LABELS),
+        ],
+    ),
+];
+
+/// Patterns whose end must refuse a set.
+const REFUSALS: &[Row] = &[
+    (
+        &["<refuses>", "A"],
+        &[Part::Refuses(Refused::These(&["A"]))],
+    ),
+    (
+        &["<refuses>", "A,exit"],
+        &[Part::Refuses(Refused::These(&["A", "exit"]))],
+    ),
+    (
+        &["<refuses>", "<not>", "B"],
+        &[Part::Refuses(Refused::Others(&["B"]))],
+    ),
+    (&["<refuses>", "<any>"], &[Part::Refuses(ALL_LABELS)]),
+    (
+        &["<until>", "<refuses>", "B"],
+        &[Part::UntilRefuses(Refused::These(&["B"]))],
+    ),
+    (
+        &["<until>", "<refuses>", "<not>", "A,B"],
+        &[Part::UntilRefuses(Refused::Others(&["A", "B"]))],
+    ),
+    (
+        &["<until>", "<refuses>", "<any>"],
+        &[Part::UntilRefuses(ALL_LABELS)],
+    ),
+];
+
+/// Patterns with other elements before the demand that the end refuses a set.
+const REFUSALS_AFTER_OTHERS: &[Row] = &[
+    (
+        &["A", "<refuses>", "A"],
+        &[Part::One("A"), Part::Refuses(Refused::These(&["A"]))],
+    ),
+    (
+        &["<until>", "B", "<refuses>", "A,B"],
+        &[Part::Until("B"), Part::Refuses(Refused::These(&["A", "B"]))],
+    ),
+    (
+        &["<while>", "A", "<refuses>", "<not>", "A"],
+        &[Part::While("A"), Part::Refuses(Refused::Others(&["A"]))],
+    ),
+    (
+        &["<while>", "<any>", "B", "<refuses>", "exit"],
+        &[
+            Part::WhileAny,
+            Part::One("B"),
+            Part::Refuses(Refused::These(&["exit"])),
+        ],
+    ),
+    (
+        &["<not>", "B", "<until>", "<refuses>", "B"],
+        &[
+            Part::OneOutside(&["B"]),
+            Part::UntilRefuses(Refused::These(&["B"])),
+        ],
+    ),
+    (
+        &["B", "<until>", "A", "<until>", "<refuses>", "<not>", "B"],
+        &[
+            Part::One("B"),
+            Part::Until("A"),
+            Part::UntilRefuses(Refused::Others(&["B"])),
+        ],
     ),
 ];
 
@@ -74,11 +171,11 @@ const REPETITIONS: &[Row] = &[
     ),
     (
         &["<while>", "<any>", "<deadlock>"],
-        &[Part::WhileAny, Part::Deadlock],
+        &[Part::WhileAny, Part::Refuses(ALL_LABELS)],
     ),
     (
         &["<while>", "A", "<deadlock>"],
-        &[Part::While("A"), Part::Deadlock],
+        &[Part::While("A"), Part::Refuses(ALL_LABELS)],
     ),
     (&["<while>", "A", "A"], &[Part::While("A"), Part::One("A")]),
     (
@@ -111,16 +208,20 @@ const LONGER_REPETITIONS: &[Row] = &[
             Part::WhileAny,
             Part::While("A"),
             Part::One("B"),
-            Part::Deadlock,
+            Part::Refuses(ALL_LABELS),
         ],
     ),
     (
         &["<while>", "A", "<while>", "B", "<deadlock>"],
-        &[Part::While("A"), Part::While("B"), Part::Deadlock],
+        &[
+            Part::While("A"),
+            Part::While("B"),
+            Part::Refuses(ALL_LABELS),
+        ],
     ),
     (
         &["<while>", "B", "<until>", "<deadlock>"],
-        &[Part::While("B"), Part::UntilDeadlock],
+        &[Part::While("B"), Part::UntilRefuses(ALL_LABELS)],
     ),
     (
         &["<while>", "<any>", "<any>", "<while>", "<any>"],
@@ -133,7 +234,7 @@ const LONGER_REPETITIONS: &[Row] = &[
             Part::While("A"),
             Part::One("B"),
             Part::While("B"),
-            Part::Deadlock,
+            Part::Refuses(ALL_LABELS),
         ],
     ),
     (
@@ -195,12 +296,12 @@ const SETS_AMONG_OTHERS: &[Row] = &[
         &[
             Part::WhileInside(&["A", "B"]),
             Part::OneOutside(&["A"]),
-            Part::Deadlock,
+            Part::Refuses(ALL_LABELS),
         ],
     ),
     (
         &["<not>", "B", "<until>", "<deadlock>"],
-        &[Part::OneOutside(&["B"]), Part::UntilDeadlock],
+        &[Part::OneOutside(&["B"]), Part::UntilRefuses(ALL_LABELS)],
     ),
 ];
 
@@ -238,15 +339,50 @@ const INTERNAL_STEPS: &[Row] = &[
     ),
     (
         &["A", "<while>", "i", "<deadlock>"],
-        &[Part::One("A"), Part::While("i"), Part::Deadlock],
+        &[Part::One("A"), Part::While("i"), Part::Refuses(ALL_LABELS)],
     ),
     (
         &["<until>", "i", "<while>", "A", "<until>", "<deadlock>"],
-        &[Part::Until("i"), Part::While("A"), Part::UntilDeadlock],
+        &[
+            Part::Until("i"),
+            Part::While("A"),
+            Part::UntilRefuses(ALL_LABELS),
+        ],
     ),
     (
         &["<while>", "A", "i", "<while>", "A"],
         &[Part::While("A"), Part::One("i"), Part::While("A")],
+    ),
+];
+
+/// Patterns whose end must refuse a set, where internal steps are observed.
+const REFUSALS_OF_INTERNAL_STEPS: &[Row] = &[
+    (
+        &["<refuses>", "i"],
+        &[Part::Refuses(Refused::These(&["i"]))],
+    ),
+    (
+        &["<refuses>", "<not>", "i"],
+        &[Part::Refuses(Refused::Others(&["i"]))],
+    ),
+    (
+        &["<until>", "<refuses>", "A,i"],
+        &[Part::UntilRefuses(Refused::These(&["A", "i"]))],
+    ),
+    (
+        &["<while>", "i", "<refuses>", "<not>", "A,i"],
+        &[
+            Part::While("i"),
+            Part::Refuses(Refused::Others(&["A", "i"])),
+        ],
+    ),
+    (
+        &["A", "<while>", "i", "<until>", "<refuses>", "<not>", "i"],
+        &[
+            Part::One("A"),
+            Part::While("i"),
+            Part::UntilRefuses(Refused::Others(&["i"])),
+        ],
     ),
 ];
 
@@ -295,11 +431,24 @@ impl<'p> Language<'p> {
     }
 
     fn end(self) -> End {
-        match self.parts.last() {
-            Some(Part::Deadlock) => End::IfDead,
-            Some(Part::UntilDeadlock) => End::IfDead,
-            _ => End::Yes,
+        match self.refused() {
+            Some(_) => End::IfRefuses,
+            None => End::Yes,
         }
+    }
+
+    /// The set that the end must refuse, if there is one.
+    fn refused(self) -> Option<Refused> {
+        match self.parts.last() {
+            Some(Part::Refuses(set)) => Some(*set),
+            Some(Part::UntilRefuses(set)) => Some(*set),
+            _ => None,
+        }
+    }
+
+    /// Whether the end must refuse the label; none if it need not refuse a set.
+    fn refuses(self, label: &str) -> Option<bool> {
+        Some(self.refused()?.has(label))
     }
 }
 
@@ -342,8 +491,8 @@ fn is_segment(part: &Part, labels: &[&str]) -> bool {
         },
         Part::WhileInside(set) => labels.iter().all(|label| set.contains(label)),
         Part::WhileOutside(set) => !labels.iter().any(|label| set.contains(label)),
-        Part::Deadlock => labels.is_empty(),
-        Part::UntilDeadlock => true,
+        Part::Refuses(_) => labels.is_empty(),
+        Part::UntilRefuses(_) => true,
     }
 }
 
@@ -369,25 +518,46 @@ fn sequence(alloc: Global, length: usize, number: usize) -> Result<Vec<&'static 
     Ok(labels)
 }
 
-/// The first sequence at which the pattern of the words answers otherwise than the definition; none if there is none.
-fn first_difference(
+/// The first sequence at which the pattern of the words answers otherwise than the definition, and the first label that
+/// its end must refuse otherwise; none if there is none.
+fn first_differences(
     alloc: Global,
     words: &[&str],
     language: Language,
     all: &[Vec<&'static str>],
-) -> Result<Option<usize>, PatternFault> {
+) -> Result<(Option<usize>, Option<usize>), PatternFault> {
     let pattern = Pattern::read(alloc, words, language.strong)?;
+    let refusal = first_other_refusal(&pattern, language);
+    Ok((first_other_end(alloc, &pattern, language, all)?, refusal))
+}
+
+fn first_other_end(
+    alloc: Global,
+    pattern: &Pattern,
+    language: Language,
+    all: &[Vec<&'static str>],
+) -> Result<Option<usize>, AllocError> {
     for index in 0..all.len() {
         let labels = all[index].as_slice();
-        if end_after(&pattern, labels) != language.end_behind(alloc, labels, all)? {
+        if end_after(pattern, labels) != language.end_behind(alloc, labels, all)? {
             return Ok(Some(index));
         }
     }
     Ok(None)
 }
 
+fn first_other_refusal(pattern: &Pattern, language: Language) -> Option<usize> {
+    for index in 0..LABELS.len() {
+        if is_refused(pattern, LABELS[index]) != language.refuses(LABELS[index]) {
+            return Some(index);
+        }
+    }
+    None
+}
+
 /// Asserts that each sequence of up to four labels has a place exactly if it or an extension by up to two labels is
-/// matched, and may end exactly if it is matched itself.
+/// matched, and may end exactly if it is matched itself, and that each label must be refused exactly if it is in the
+/// set that the last element demands.
 fn assert_language(
     rt: &impl Abort,
     alloc: Global,
@@ -395,12 +565,13 @@ fn assert_language(
     language: Language,
     all: &[Vec<&'static str>],
 ) -> Result<(), PatternFault> {
-    let difference = first_difference(alloc, words, language, all)?;
+    let differences = first_differences(alloc, words, language, all)?;
     assert_eq!(rt;
-        difference,
-        None,
+        differences,
+        (None, None),
         "{:?}, internal steps observed: {}",
-        words, language.strong
+        words,
+        language.strong
     );
     Ok(())
 }
@@ -429,6 +600,21 @@ fn assert_both(rt: &impl Abort, alloc: Global, rows: &[Row]) -> Result<(), Patte
 #[test]
 fn matches_without_repetitions(rt: HostRuntime) -> Result<(), Fail> {
     Ok(assert_both(&rt, rt.alloc(), WITHOUT_REPETITIONS)?)
+}
+
+#[test]
+fn matches_refusals(rt: HostRuntime) -> Result<(), Fail> {
+    Ok(assert_both(&rt, rt.alloc(), REFUSALS)?)
+}
+
+#[test]
+fn matches_refusals_after_others(rt: HostRuntime) -> Result<(), Fail> {
+    Ok(assert_both(&rt, rt.alloc(), REFUSALS_AFTER_OTHERS)?)
+}
+
+#[test]
+fn matches_refusals_of_internal_steps(rt: HostRuntime) -> Result<(), Fail> {
+    Ok(assert_languages(&rt, rt.alloc(), REFUSALS_OF_INTERNAL_STEPS, true)?)
 }
 
 #[test]

@@ -19,6 +19,8 @@ mod long_tests;
 #[cfg(test)]
 mod place_tests;
 #[cfg(test)]
+mod refusal_tests;
+#[cfg(test)]
 mod sequence_ends;
 #[cfg(test)]
 mod spelling_tests;

@@ -47,6 +47,12 @@ const ALL: &[(&str, Repeated, Repeated, Option<End>)] = &[
         None,
     ),
     (
+        "256 elements, the last a refused set, skipped to the end",
+        Repeated(&["<while>", "A"], 255, &["<refuses>", "A"]),
+        Repeated(NONE, 0, &["A"]),
+        Some(End::IfRefuses),
+    ),
+    (
         "256 labels, one of them not done",
         Repeated(&["A"], 256, NONE),
         Repeated(&["A"], 255, NONE),

@@ -34,21 +34,112 @@ const UP_TO_A_LABEL: &[Row] = &[
 /// Places in patterns that end with a deadlock.
 const DEADLOCKS: &[Row] = &[
     (false, &["A", "<deadlock>"], &[], Some(End::No)),
-    (false, &["A", "<deadlock>"], &["A"], Some(End::IfDead)),
+    (false, &["A", "<deadlock>"], &["A"], Some(End::IfRefuses)),
     (false, &["A", "<deadlock>"], &["B"], None),
     (false, &["A", "<deadlock>"], &["A", "A"], None),
-    (false, &["<until>", "<deadlock>"], &[], Some(End::IfDead)),
-    (false, &["<until>", "<deadlock>"], &["A"], Some(End::IfDead)),
+    (false, &["<until>", "<deadlock>"], &[], Some(End::IfRefuses)),
+    (
+        false,
+        &["<until>", "<deadlock>"],
+        &["A"],
+        Some(End::IfRefuses),
+    ),
     (
         false,
         &["<until>", "<deadlock>"],
         &["A", "exit", "B"],
-        Some(End::IfDead),
+        Some(End::IfRefuses),
     ),
     (false, &["<until>", "<deadlock>"], &["i"], None),
     (false, &["<until>", "<deadlock>"], &["A", "i"], None),
-    (false, &["<deadlock>"], &[], Some(End::IfDead)),
+    (false, &["<deadlock>"], &[], Some(End::IfRefuses)),
     (false, &["<deadlock>"], &["A"], None),
+];
+
+/// Places in patterns whose end must refuse a set.
+const REFUSALS: &[Row] = &[
+    (false, &["A", "<refuses>", "A"], &[], Some(End::No)),
+    (
+        false,
+        &["A", "<refuses>", "A"],
+        &["A"],
+        Some(End::IfRefuses),
+    ),
+    (false, &["A", "<refuses>", "A"], &["A", "A"], None),
+    (false, &["A", "<refuses>", "A"], &["B"], None),
+    (false, &["<refuses>", "A,B"], &[], Some(End::IfRefuses)),
+    (false, &["<refuses>", "A,B"], &["A"], None),
+    (false, &["<refuses>", "A,B"], &["exit"], None),
+    (false, &["<refuses>", "<any>"], &[], Some(End::IfRefuses)),
+    (
+        false,
+        &["<refuses>", "<not>", "A"],
+        &[],
+        Some(End::IfRefuses),
+    ),
+    (false, &["<refuses>", "<not>", "A"], &["A"], None),
+    (false, &["<refuses>", "<not>", "A"], &["B"], None),
+    (true, &["<refuses>", "i"], &[], Some(End::IfRefuses)),
+    (true, &["<refuses>", "<not>", "i"], &["i"], None),
+];
+
+/// Places in patterns with labels, or any labels, before an end that must refuse a set.
+const LABELS_BEFORE_REFUSALS: &[Row] = &[
+    (
+        false,
+        &["<until>", "<refuses>", "A"],
+        &[],
+        Some(End::IfRefuses),
+    ),
+    (
+        false,
+        &["<until>", "<refuses>", "A"],
+        &["A", "exit"],
+        Some(End::IfRefuses),
+    ),
+    (false, &["<until>", "<refuses>", "A"], &["A", "i"], None),
+    (
+        true,
+        &["<until>", "<refuses>", "A"],
+        &["A", "i"],
+        Some(End::IfRefuses),
+    ),
+    (
+        false,
+        &["<until>", "<refuses>", "<not>", "A"],
+        &["B"],
+        Some(End::IfRefuses),
+    ),
+    (
+        false,
+        &["<until>", "B", "<refuses>", "B"],
+        &["A"],
+        Some(End::No),
+    ),
+    (
+        false,
+        &["<until>", "B", "<refuses>", "B"],
+        &["A", "B"],
+        Some(End::IfRefuses),
+    ),
+    (
+        false,
+        &["<until>", "B", "<refuses>", "B"],
+        &["B", "A"],
+        None,
+    ),
+    (
+        true,
+        &["<while>", "i", "<refuses>", "<not>", "i"],
+        &["i", "i"],
+        Some(End::IfRefuses),
+    ),
+    (
+        true,
+        &["<while>", "i", "<refuses>", "<not>", "i"],
+        &["i", "A"],
+        None,
+    ),
 ];
 
 /// Places in patterns without repetitions.
@@ -121,13 +212,13 @@ const LONGER_REPETITIONS: &[Row] = &[
         false,
         &["<while>", "<any>", "<deadlock>"],
         &[],
-        Some(End::IfDead),
+        Some(End::IfRefuses),
     ),
     (
         false,
         &["<while>", "<any>", "<deadlock>"],
         &["A", "B"],
-        Some(End::IfDead),
+        Some(End::IfRefuses),
     ),
     (false, &["<while>", "A", "<deadlock>"], &["A", "B"], None),
 ];
@@ -138,7 +229,12 @@ const INTERNAL_STEPS: &[Row] = &[
     (true, &["i", "I", "A"], &["i", "A"], None),
     (true, &["i", "I", "A"], &["i", "I"], None),
     (true, &["<until>", "i"], &["A", "i"], Some(End::Yes)),
-    (true, &["<until>", "<deadlock>"], &["i"], Some(End::IfDead)),
+    (
+        true,
+        &["<until>", "<deadlock>"],
+        &["i"],
+        Some(End::IfRefuses),
+    ),
 ];
 
 /// Places in patterns of sets of labels.
@@ -198,7 +294,7 @@ const SETS_WITH_OTHERS: &[Row] = &[
         false,
         &["<not>", "A", "<deadlock>"],
         &["B"],
-        Some(End::IfDead),
+        Some(End::IfRefuses),
     ),
 ];
 
@@ -237,6 +333,16 @@ fn finds_places_up_to_a_label(rt: HostRuntime) -> Result<(), Fail> {
 #[test]
 fn finds_places_before_deadlocks(rt: HostRuntime) -> Result<(), Fail> {
     Ok(assert_places(&rt, rt.alloc(), DEADLOCKS)?)
+}
+
+#[test]
+fn finds_places_before_refusals(rt: HostRuntime) -> Result<(), Fail> {
+    Ok(assert_places(&rt, rt.alloc(), REFUSALS)?)
+}
+
+#[test]
+fn finds_places_of_labels_before_refusals(rt: HostRuntime) -> Result<(), Fail> {
+    Ok(assert_places(&rt, rt.alloc(), LABELS_BEFORE_REFUSALS)?)
 }
 
 #[test]
@@ -298,6 +404,8 @@ const STATES_OF_TWO_WAYS: &[StatesRow] = &[
     (&["<while>", "A", "<while>", "B", "A"], &["B", "A"], &[3]),
     (&["A", "<until>", "<deadlock>"], &["A", "B"], &[1]),
     (&["<while>", "A", "<deadlock>"], &["A"], &[0]),
+    (&["A", "<until>", "<refuses>", "B"], &["A", "B"], &[1]),
+    (&["<while>", "A", "<refuses>", "<not>", "A"], &["A"], &[0]),
     (&["<while>", "A,B", "B"], &["A"], &[0]),
     (&["<while>", "A,B", "B"], &["B"], &[0, 2]),
     (&["<while>", "<not>", "A", "<any>"], &["B"], &[0, 2]),

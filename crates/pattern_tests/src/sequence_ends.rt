@@ -17,6 +17,11 @@ pub fn end_after(pattern: &Pattern, labels: &[&str]) -> Option<End> {
     Some(pattern.accepts(place_after(pattern, labels)?))
 }
 
+/// Whether the end must refuse the label; none if it need not refuse a set.
+pub fn is_refused(pattern: &Pattern, label: &str) -> Option<bool> {
+    Some(pattern.refusal()?.contains(label))
+}
+
 /// Asserts whether the sequence may end in the pattern of the words; none if it has no place.
 pub fn assert_end(
     rt: &impl Abort,

@@ -37,13 +37,13 @@ const SPELLED_ELEMENTS: &[Spelled] = &[
     ),
     ("up to a label", false, &["<Until>", "b"], "until B;"),
     ("up to `exit`", false, &["<until>", "EXIT"], "until exit;"),
-    ("an end", false, &["a", "<Deadlock>"], "A; deadlock;"),
-    ("an end alone", false, &["<deadlock>"], "deadlock;"),
+    ("an end", false, &["a", "<Deadlock>"], "A; refuses any;"),
+    ("an end alone", false, &["<deadlock>"], "refuses any;"),
     (
         "any labels before an end",
         false,
         &["<UNTIL>", "<Deadlock>"],
-        "until deadlock;",
+        "until refuses any;",
     ),
     (
         "all kinds",
@@ -57,7 +57,7 @@ const SPELLED_ELEMENTS: &[Spelled] = &[
             "<until>",
             "<deadlock>",
         ],
-        "A; any; until B; exit; until deadlock;",
+        "A; any; until B; exit; until refuses any;",
     ),
 ];
 
@@ -91,7 +91,7 @@ const SPELLED_REPETITIONS: &[Spelled] = &[
         "repeats before an end",
         false,
         &["<while>", "<any>", "<deadlock>"],
-        "while any; deadlock;",
+        "while any; refuses any;",
     ),
     (
         "repeats of `exit`",
@@ -121,7 +121,7 @@ const SPELLED_REPETITIONS: &[Spelled] = &[
         "all kinds, observed",
         true,
         &["a", "<any>", "<while>", "i", "<until>", "<deadlock>"],
-        "A; any; while i; until deadlock;",
+        "A; any; while i; until refuses any;",
     ),
 ];
 
@@ -164,7 +164,7 @@ const SPELLED_SETS: &[Spelled] = &[
         "all labels but one before an end",
         false,
         &["<not>", "A", "<until>", "<deadlock>"],
-        "not A; until deadlock;",
+        "not A; until refuses any;",
     ),
     (
         "the internal action among labels, observed",
@@ -180,16 +180,95 @@ const SPELLED_SETS: &[Spelled] = &[
     ),
 ];
 
+/// Words that spell demands that the end refuses a set.
+const SPELLED_REFUSALS: &[Spelled] = &[
+    ("a refused label", false, &["<refuses>", "a"], "refuses A;"),
+    (
+        "refused labels",
+        false,
+        &["<refuses>", "a,Exit"],
+        "refuses A,exit;",
+    ),
+    (
+        "a refused label twice",
+        false,
+        &["<refuses>", "A,a"],
+        "refuses A,A;",
+    ),
+    (
+        "all labels refused, in mixed case",
+        false,
+        &["<ReFuSeS>", "<aNy>"],
+        "refuses any;",
+    ),
+    (
+        "all labels but one refused",
+        false,
+        &["<refuses>", "<not>", "A"],
+        "refuses not A;",
+    ),
+    (
+        "all labels but two refused, after a label",
+        false,
+        &["b", "<REFUSES>", "<NOT>", "a,b"],
+        "B; refuses not A,B;",
+    ),
+    (
+        "repeats before refused labels",
+        false,
+        &["<while>", "A,B", "<refuses>", "A,B"],
+        "while A,B; refuses A,B;",
+    ),
+    (
+        "a refused gate named as the word",
+        false,
+        &["refuses", "<refuses>", "Refuses"],
+        "REFUSES; refuses REFUSES;",
+    ),
+    (
+        "the internal action refused, observed",
+        true,
+        &["<refuses>", "I"],
+        "refuses i;",
+    ),
+];
+
+/// Words that spell any labels before such a demand.
+const SPELLED_UNTIL_REFUSALS: &[Spelled] = &[
+    (
+        "any labels before a refused label",
+        false,
+        &["<until>", "<refuses>", "b"],
+        "until refuses B;",
+    ),
+    (
+        "any labels before all labels refused",
+        false,
+        &["<until>", "<refuses>", "<any>"],
+        "until refuses any;",
+    ),
+    (
+        "any labels before all labels but `exit` refused",
+        false,
+        &["<UNTIL>", "<rEfUsEs>", "<Not>", "Exit"],
+        "until refuses not exit;",
+    ),
+    (
+        "up to a label, then any labels before refused labels",
+        false,
+        &["<until>", "A", "<until>", "<refuses>", "A,B"],
+        "until A; until refuses A,B;",
+    ),
+    (
+        "any labels before all labels but the internal action refused, observed",
+        true,
+        &["i", "<until>", "<refuses>", "<not>", "A,I"],
+        "i; until refuses not A,i;",
+    ),
+];
+
 /// An element of the table, as `Debug` writes it.
 fn element_text(alloc: Global, element: &str) -> Result<String, AllocError> {
-    match element {
-        "deadlock" => joined(alloc, &["Deadlock"]),
-        "until deadlock" => joined(alloc, &["UntilDeadlock"]),
-        _ => set_element_text(alloc, element),
-    }
-}
-
-fn set_element_text(alloc: Global, element: &str) -> Result<String, AllocError> {
     let (front, set) = front_and_set(element);
     let set = set_text(alloc, set)?;
     joined(alloc, &[front, set.as_str(), ")"])
@@ -197,7 +276,11 @@ fn set_element_text(alloc: Global, element: &str) -> Result<String, AllocError> 
 
 /// How `Debug` begins an element of the table, and the set of the element.
 fn front_and_set(element: &str) -> (&'static str, &str) {
-    if let Some(set) = element.strip_prefix("until ") {
+    if let Some(set) = element.strip_prefix("until refuses ") {
+        ("UntilRefuses(", set)
+    } else if let Some(set) = element.strip_prefix("refuses ") {
+        ("Refuses(", set)
+    } else if let Some(set) = element.strip_prefix("until ") {
         ("Until(", set)
     } else if let Some(set) = element.strip_prefix("while ") {
         ("While(", set)
@@ -317,4 +400,14 @@ fn reads_repetitions(rt: HostRuntime) -> Result<(), Fail> {
 #[test]
 fn reads_sets(rt: HostRuntime) -> Result<(), Fail> {
     Ok(assert_each_spelled(&rt, rt.alloc(), SPELLED_SETS)?)
+}
+
+#[test]
+fn reads_refusals(rt: HostRuntime) -> Result<(), Fail> {
+    Ok(assert_each_spelled(&rt, rt.alloc(), SPELLED_REFUSALS)?)
+}
+
+#[test]
+fn reads_any_labels_before_refusals(rt: HostRuntime) -> Result<(), Fail> {
+    Ok(assert_each_spelled(&rt, rt.alloc(), SPELLED_UNTIL_REFUSALS)?)
 }

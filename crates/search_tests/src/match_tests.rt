@@ -397,6 +397,42 @@ const STATES: &[Row] = &[
         states: 30,
         answer: Answer::Found(&[A, B, A, B, A, B], &[A, B, A, B, A, B]),
     },
+    // Ends that refuse a set: not where an internal step is left, nor where a label of the set can come.
+    Row {
+        behaviour: "noexit behaviour a; (b; stop [] i; a; stop)",
+        words: &["a", "<refuses>", "b"],
+        strong: false,
+        states: MANY,
+        answer: Answer::Found(&[A, I], &[A]),
+    },
+    Row {
+        behaviour: "noexit behaviour a; (b; stop [] i; a; stop)",
+        words: &["a", "<refuses>", "b,a"],
+        strong: false,
+        states: MANY,
+        answer: Answer::NoMatch,
+    },
+    Row {
+        behaviour: "noexit behaviour a; (b; stop [] i; a; stop)",
+        words: &["a", "<refuses>", "<not>", "a"],
+        strong: false,
+        states: MANY,
+        answer: Answer::Found(&[A, I], &[A]),
+    },
+    Row {
+        behaviour: "noexit behaviour a; (b; stop [] i; a; stop)",
+        words: &["<until>", "<refuses>", "b"],
+        strong: false,
+        states: MANY,
+        answer: Answer::Found(&[], &[]),
+    },
+    Row {
+        behaviour: "noexit behaviour P[a] where process P [x] : noexit := x; i; P[x] endproc",
+        words: &["<until>", "<refuses>", "a"],
+        strong: false,
+        states: 10,
+        answer: Answer::NoMatch,
+    },
     // A thousand states: five processes, each at one of four places.
     Row {
         behaviour: "noexit behaviour hide b in (P[a] ||| P[a] ||| P[a] ||| P[a] ||| P[a]) where process P [x] : noexit := x; x; x; stop endproc",

@@ -14,9 +14,9 @@ const ANSWERS: &[(&[&str], &[&str], End)] = &[
     (&["<until>", "b", "a"], &["B", "B", "A"], End::No),
     (&["<while>", "<any>", "b"], &["A", "B", "C", "B"], End::Yes),
     (&["<while>", "<any>"], &["i"], End::No),
-    (&["a", "<deadlock>"], &["A"], End::IfDead),
+    (&["a", "<deadlock>"], &["A"], End::IfRefuses),
     (&["a", "<deadlock>"], &["A", "A"], End::No),
-    (&["<until>", "<deadlock>"], &["B", "A"], End::IfDead),
+    (&["<until>", "<deadlock>"], &["B", "A"], End::IfRefuses),
 ];
 
 #[test]

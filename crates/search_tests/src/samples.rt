@@ -148,6 +148,9 @@ pub const SET_PATTERNS: &[Words] = &[
     &["<while>", "<not>", "B", "B"],
     &["A", "<while>", "<not>", "C,C", "B,exit"],
     &["<while>", "<any>", "<not>", "A,B", "<deadlock>"],
+    &["<until>", "<refuses>", "A"],
+    &["A", "<refuses>", "<not>", "B"],
+    &["<until>", "<refuses>", "exit,B"],
 ];
 
 /// Patterns with `i`, for searches in which internal steps are observed.
@@ -160,4 +163,5 @@ pub const THIRD_PATTERNS: &[Words] = &[
     &["<not>", "A,i"],
     &["<while>", "i,A", "B"],
     &["<until>", "<not>", "i", "<deadlock>"],
+    &["<until>", "<refuses>", "i,A"],
 ];

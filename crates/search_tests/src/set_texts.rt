@@ -48,8 +48,13 @@ fn describe_set(alloc: Global, walk: &mut SetWalk, set: SetNumber) -> Result<Str
             }
         }
     }
-    if walk.has_deadlock(set)? {
+    let can_stop = walk.has_deadlock(set)?;
+    if can_stop {
         out.push_str("<deadlock>")?;
+    }
+    // All labels are refused, so a term of the set refuses them exactly if it is a deadlock.
+    if walk.can_refuse(set)? != can_stop {
+        out.push_str("<refuses>")?;
     }
     Ok(out)
 }

@@ -1,5 +1,5 @@
 //! Sets of labels by name.
-use lotos_ends::LabelFlags;
+use lotos_listing::LabelFlags;
 use lotos_text::Name;
 use std::alloc::{AllocError, Global};
 
@@ -51,7 +51,8 @@ impl LabelSet {
     }
 }
 
-fn is_named(names: &[&str], name: &str) -> bool {
+/// Whether the name is among these.
+pub fn is_named(names: &[&str], name: &str) -> bool {
     for one in names {
         if *one == name {
             return true;

@@ -5,6 +5,7 @@ use super::runs::{
     Outcome, RUN, Run, SINGLE, Taken, WHOLE, expect, expect_broken, expect_refused_words,
     expect_unflushed, expect_unreadable,
 };
+use super::worked_texts::{MEETING, SERVER, VANISHING};
 use std::alloc::{AllocError, Global};
 use std::process::Abort;
 
@@ -210,6 +211,63 @@ const SETS: &[Row] = &[
     },
 ];
 
+/// Patterns whose end refuses a set.
+const REFUSED_SETS: &[Row] = &[
+    Row {
+        name: "a set that is refused after an internal step",
+        text: SERVER,
+        words: &["lotosseq", "ever", "--explain", "REQ <refuses> RSP"],
+        output: b"REQ : REQ i\n",
+        message: b"",
+        status: 0,
+    },
+    Row {
+        name: "one of the set can come in each state",
+        text: SERVER,
+        words: &["lotosseq", "ever", "REQ <refuses> RSP,NAK"],
+        output: b"",
+        message: NEVER,
+        status: 1,
+    },
+    Row {
+        name: "what is never refused",
+        text: VANISHING,
+        words: &["lotosseq", "ever", "<until> <refuses> A"],
+        output: b"",
+        message: NEVER,
+        status: 1,
+    },
+    Row {
+        name: "refused from the start",
+        text: VANISHING,
+        words: &["lotosseq", "ever", "--explain", "<until> <refuses> B"],
+        output: b"<empty> : <empty>\n",
+        message: b"",
+        status: 0,
+    },
+    Row {
+        name: "all labels: a deadlock",
+        text: MEETING,
+        words: &["lotosseq", "ever", "<until> <refuses> <any>"],
+        output: b"A B C exit\n",
+        message: b"",
+        status: 0,
+    },
+    Row {
+        name: "all but one",
+        text: SERVER,
+        words: &[
+            "lotosseq",
+            "ever",
+            "--explain",
+            "<while> <any> RSP REQ <refuses> <not> NAK",
+        ],
+        output: b"REQ RSP REQ : REQ RSP REQ i\n",
+        message: b"",
+        status: 0,
+    },
+];
+
 /// Searches with a bound on the states.
 const BOUNDS: &[Row] = &[
     Row {
@@ -350,6 +408,11 @@ fn sets_of_labels(rt: HostRuntime) {
 }
 
 #[test]
+fn sets_that_the_end_refuses(rt: HostRuntime) {
+    expect_rows(&rt, rt.alloc(), REFUSED_SETS);
+}
+
+#[test]
 fn bounds_on_the_states(rt: HostRuntime) {
     expect_rows(&rt, rt.alloc(), BOUNDS);
 }
@@ -384,6 +447,26 @@ const PATTERNS: &[(&[&str], &[u8])] = &[
     (
         &["lotosseq", "ever", "<not>"],
         b"lotosseq: E50 word 1 needs a label after it\n",
+    ),
+    (
+        &["lotosseq", "ever", "A", "<refuses>"],
+        b"lotosseq: E50 word 2 needs a label after it\n",
+    ),
+    (
+        &["lotosseq", "ever", "<until>", "<refuses>", "<while>"],
+        b"lotosseq: E50 word 2 needs a label after it\n",
+    ),
+    (
+        &["lotosseq", "ever", "<refuses>", "<not>"],
+        b"lotosseq: E50 word 2 needs a label after it\n",
+    ),
+    (
+        &["lotosseq", "ever", "<refuses>", "A", "B"],
+        b"lotosseq: E43 word 3 follows an end element\n",
+    ),
+    (
+        &["lotosseq", "ever", "<refuses>", "A,i"],
+        b"lotosseq: E45 word 2 is i, which cannot be observed\n",
     ),
     (
         &["lotosseq", "ever", "A,"],

@@ -98,17 +98,21 @@ Arguments:
             <while> <any>  any number of labels. `<while> <any> B` matches all that ends in `B`.
             <deadlock>     no label, if the end is a deadlock. `A <deadlock>` matches `A`,
                            if nothing can follow.
-            <until> <deadlock>
-                           any number of labels, if the end is a deadlock.
+            <refuses> SET  no label, if the end refuses the set. `A <refuses> B` matches `A`, if a
+                           state can be reached then where B is not possible. SET may be `<any>`.
+            <until> <deadlock>, <until> <refuses> SET
+                           any number of labels, if the end is such.
          \x20
           Elements next to each other match labels next to each other: `A B` does not match
           `A C B`. An A and later a B, with no C between them, is `A <while> <not> C B`.
          \x20
-          A deadlock is a term that has no step at all, not even an internal one. The two elements
-          that ask for one may come only at the end. `i` is a word of a pattern only with
-          `--strong`, as the internal action cannot be observed; without it `<not> A` is no
-          internal step either. The name of a gate that the specification does not have is no
-          fault, unless `--known` is given; no sequence has that label.
+          A deadlock is a term that has no step at all, not even an internal one. A term refuses a
+          set if it has no internal step and none with a label of the set; so `<deadlock>` is
+          `<refuses> <any>`. An element that asks for such an end may come only at the end. `i` is
+          a word of a pattern only with `--strong`, as the internal action cannot be observed;
+          without it `<not> A` is no internal step either. The name of a gate that the
+          specification does not have is no fault, unless `--known` is given; no sequence has that
+          label.
 
 Options:
       --depth <N>
@@ -235,17 +239,20 @@ Arguments:
             <while> <any>  any number of labels. `<while> <any> B` matches all that ends in `B`.
             <deadlock>     no label, if the end is a deadlock. `A <deadlock>` matches `A`,
                            if nothing can follow.
-            <until> <deadlock>
-                           any number of labels, if the end is a deadlock.
+            <refuses> SET  no label, if the end refuses the set. `A <refuses> B` matches `A`, if a
+                           state can be reached then where B is not possible. SET may be `<any>`.
+            <until> <deadlock>, <until> <refuses> SET
+                           any number of labels, if the end is such.
          \x20
           Elements next to each other match labels next to each other: `A B` does not match
           `A C B`. An A and later a B, with no C between them, is `A <while> <not> C B`.
          \x20
-          A deadlock is a term that has no step at all, not even an internal one. The two elements
-          that ask for one may come only at the end. `i` is a word of a pattern only with
-          `--strong`, as the internal action cannot be observed; without it `<not> A` is no
-          internal step either. A name that is neither `exit` nor `i` is that of a gate of the
-          specification's own list. If the list does not have it, its word is refused with E49
+          A deadlock is a term that has no step at all, not even an internal one. A term refuses a
+          set if it has no internal step and none with a label of the set; so `<deadlock>` is
+          `<refuses> <any>`. An element that asks for such an end may come only at the end. `i` is
+          a word of a pattern only with `--strong`, as the internal action cannot be observed;
+          without it `<not> A` is no internal step either. A name that is neither `exit` nor `i`
+          is that of a gate of the specification's own list. If the list does not have it, its word is refused with E49
           and status 2, as no sequence has that label. For example, `C` is refused for
             specification S [a,b] : noexit behaviour a; b; stop endspec
 

@@ -9,6 +9,7 @@ mod lengths;
 mod limits;
 mod marks;
 mod operator_rows;
+mod refused_sets;
 mod repetition;
 mod strong;
 

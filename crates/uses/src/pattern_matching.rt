@@ -13,9 +13,9 @@ use std::alloc::Global;
 /// Whether the pattern that the words spell matches the sequence, given by the printed texts of its labels. Internal
 /// steps are not observed, so no sequence with the label `i` is matched.
 ///
-/// [`End::IfDead`] means that the pattern matches the sequence and demands a deadlock: the sequence counts only if it
-/// ends in a term without any step, which its labels do not show. Without such a demand the result is [`End::Yes`] or
-/// [`End::No`].
+/// [`End::IfRefuses`] means that the pattern matches the sequence and demands that its end refuses a set of labels: the
+/// sequence counts only if the term where it ends has no internal step and none with a label of the set, which its
+/// labels do not show. Without such a demand the result is [`End::Yes`] or [`End::No`].
 ///
 /// # Errors
 ///

@@ -12,4 +12,5 @@ returns-in-None c =
       until = λ reads. let equal = c.if-eq_ignore_ascii_case-3.ensures.test.1 reads in let z : ⊥ = cc in z;
       while = λ reads. let equal = c.if-eq_ignore_ascii_case-4.ensures.test.1 reads in let z : ⊥ = cc in z;
       deadlock = λ reads. let equal = c.if-eq_ignore_ascii_case-5.ensures.test.1 reads in let z : ⊥ = cc in z;
+      refuses = λ reads. let equal = c.if-eq_ignore_ascii_case-6.ensures.test.1 reads in let z : ⊥ = cc in z;
     }

@@ -63,6 +63,13 @@ returns-in-Deadlock-clause-fault c =
     (word_at c.args.words.now (c.args.index + 1) _ (omega arith))
     c.requires.complement.such (angle_names_none _ _ _ is)
 
+pub returns-in-Refuses-clause-fault : goal.returns-in-Refuses-clause-fault
+returns-in-Refuses-clause-fault c =
+    let is = rw c.in-Refuses.is at c.in_ok-labels.ensures in
+    fault_not_none c.args.strong (texts_of c.args.words.now) c.args.index _ (numbered _ _ IsNot c.requires.complement) _
+    (word_at c.args.words.now (c.args.index + 1) _ (omega arith))
+    c.requires.complement.such (angle_names_none _ _ _ is)
+
 pub returns-in-Unknown-clause-fault : goal.returns-in-Unknown-clause-fault
 returns-in-Unknown-clause-fault c =
     let is = rw c.in-Unknown.is at c.in_ok-labels.ensures in

@@ -1,4 +1,4 @@
-use Rattle.lotos_pattern.proofs.Segments.{deadlock_fails, one_fails, one_passes, until_deadlock_stays, until_passes, until_stays, while_fails, while_stays}
+use Rattle.lotos_pattern.proofs.Segments.{one_fails, one_passes, refuses_fails, until_passes, until_refuses_stays, until_stays, while_fails, while_stays}
 use Rattle.lotos_pattern.proofs.element.Element.transition_on.Goals as goal
 
 pub returns-then-contains : goal.returns-then-contains
@@ -19,8 +19,8 @@ returns-then-contains-3 c = rw c.in-While.is (while_stays _ _ c.if-contains-3.en
 pub returns-else-contains-3 : goal.returns-else-contains-3
 returns-else-contains-3 c = rw c.in-While.is (while_fails _ _ c.if-contains-3.ensures)
 
-pub returns-in-Deadlock : goal.returns-in-Deadlock
-returns-in-Deadlock c = rw c.in-Deadlock.is (deadlock_fails _)
+pub returns-in-Refuses : goal.returns-in-Refuses
+returns-in-Refuses c = rw c.in-Refuses.is (refuses_fails _ _)
 
-pub returns-in-UntilDeadlock : goal.returns-in-UntilDeadlock
-returns-in-UntilDeadlock c = rw c.in-UntilDeadlock.is (until_deadlock_stays _)
+pub returns-in-UntilRefuses : goal.returns-in-UntilRefuses
+returns-in-UntilRefuses c = rw c.in-UntilRefuses.is (until_refuses_stays _ _)
