@@ -181,6 +181,9 @@ WORDS = [
     "search --length 255 --terms 20 --limit 4 <while> <any>",
     "search --length 3 --explain --after A\xa0B <while> <any>",
     "search --length 4 <until> <deadlock>",
+    "search --length 3 <until> <refuses> A,B",
+    "search --depth 4 --strong --explain <while> <any> <refuses> <not> i",
+    "search --depth 3 A <refuses> <any>",
     "search --length=1 --depth=1 A",
     "search --length 256 A",
     "search --depth 1 -- A",
@@ -203,10 +206,10 @@ WORDS = [
 OTHERS = (
     "search check after help --help -h --depth --length --limit --terms --after --explain --strong --known -- - --depth=1 --depth= 0 1 3 4 255 256 -1 "
     "+2 007 99999999999999999999 1e3 0x1 1000000 1000001 1000000000 1000000001 A B a exit EXIT i I <any> <until> <while> "
-    "<deadlock> <ANY> <empty> <foo> A-B A_1 1A _A <any <any>> <not> A,B A,A i,A A, ,A A,,B , A,<any> "
+    "<deadlock> <refuses> <ANY> <empty> <foo> A-B A_1 1A _A <any <any>> <not> A,B A,A i,A A, ,A A,,B , A,<any> "
     "\u00e4 \u017f \u212a A\xa0B A\xa0\xa0B i\xa0A A\xa0:\xa0A : <empty>\xa0:\xa0i"
 ).split(" ") + [""]
-ELEMENTS = "A B a exit EXIT i I C A,B b,exit,b <any> <not> <until> <while> <deadlock> <ANY> <Not> <Until> <WHILE>".split(" ")
+ELEMENTS = "A B a exit EXIT i I C A,B b,exit,b <any> <not> <until> <while> <deadlock> <refuses> <ANY> <Not> <Until> <WHILE>".split(" ")
 
 
 def row_of(words):

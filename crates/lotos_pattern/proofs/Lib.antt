@@ -17,3 +17,4 @@ pub mod ExactPatterns
 pub mod StepRows
 pub mod PlaceNumbering
 pub mod CompiledPatterns
+pub mod EverPatterns

@@ -15,3 +15,4 @@ pub mod StepRows
 pub mod PlaceNumbering
 pub mod CompiledInvariant
 pub mod CompiledCode
+pub mod EverPatterns

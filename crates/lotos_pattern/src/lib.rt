@@ -7,6 +7,7 @@
 
 mod compiled_pattern;
 mod element;
+mod ever_pattern;
 mod fault;
 mod label_names;
 mod label_set;
@@ -19,6 +20,7 @@ mod place_numbering;
 mod step_rows;
 
 pub use compiled_pattern::CompiledPattern;
+pub use ever_pattern::{EndKind, EverPattern};
 pub use fault::PatternFault;
 pub use label_names::{is_word, split_names};
 pub use label_set::LabelSet;

@@ -10,15 +10,15 @@ use std::process::Abort;
 use std::test::Fail;
 
 /// A loop by `A` and a hidden step, until `B` comes; then internal steps for ever.
-const LIVELOCK: &str =
+pub const LIVELOCK: &str =
     "specification V [a, b] : noexit behaviour hide h in P [a, b, h] where process P [a, b, h] : noexit := a; (h; P [a, b, h] [] b; Q [h]) endproc process Q [h] : noexit := h; Q [h] endproc endspec";
 
 /// A server that answers each request, or refuses to.
-const SERVER: &str =
+pub const SERVER: &str =
     "specification D [req, rsp, nak] : noexit behaviour S [req, rsp, nak] where process S [req, rsp, nak] : noexit := req; (rsp; S [req, rsp, nak] [] i; nak; S [req, rsp, nak]) endproc endspec";
 
 /// Two sides that meet at a hidden gate, and a label after both.
-const MEETING: &str =
+pub const MEETING: &str =
     "specification G [a, b, c] : exit behaviour hide s in ((a; s; exit) |[s]| (s; b; exit)) >> c; exit endspec";
 
 /// A room that is entered and left by turns.
@@ -351,7 +351,11 @@ const ROWS: &[Row] = &[
 const LIMIT: usize = 50;
 
 /// The index of the form after the labels, from the first form of the list.
-fn form_after(alloc: Global, list: &mut TermList, labels: &[&str]) -> Result<usize, TermListError> {
+pub fn form_after(
+    alloc: Global,
+    list: &mut TermList,
+    labels: &[&str],
+) -> Result<usize, TermListError> {
     let mut index = 0;
     for label in labels {
         index = form_after_step(alloc, list, index, label)?;
@@ -374,7 +378,8 @@ fn form_after_step(
     Err(TermListError::Index)
 }
 
-fn flag_of(found: &EndStates, form: Term) -> Result<bool, TermListError> {
+/// The flag of a form.
+pub fn flag_of(found: &EndStates, form: Term) -> Result<bool, TermListError> {
     match found.flag(form) {
         Some(flag) => Ok(flag),
         None => Err(TermListError::Index),
@@ -435,7 +440,7 @@ fn assert_answers(rt: &impl Abort, words: &str, found: (bool, bool), expected: (
 }
 
 /// What a specification has, it, and the number of its normal forms, counted by hand.
-const COUNTS: &[(&str, &str, usize)] = &[
+pub const COUNTS: &[(&str, &str, usize)] = &[
     (
         "inaction alone",
         "specification S : noexit behaviour stop endspec",
@@ -453,7 +458,7 @@ const COUNTS: &[(&str, &str, usize)] = &[
 ];
 
 /// Whether more forms are reached than the bound.
-fn are_too_many(found: Result<EndStates, EndsFault>) -> Result<bool, EndsFault> {
+pub fn are_too_many(found: Result<EndStates, EndsFault>) -> Result<bool, EndsFault> {
     match found {
         Ok(_) => Ok(false),
         Err(EndsFault::TooManyStates) => Ok(true),

@@ -15,7 +15,7 @@ use std::process::Abort;
 use std::test::Fail;
 
 /// Sets of labels, with the internal action and without it.
-const SETS: &[LabelSet] = &[
+pub const SETS: &[LabelSet] = &[
     LabelSet {
         names: &[],
         is_complement: false,
@@ -55,7 +55,7 @@ const SETS: &[LabelSet] = &[
 ];
 
 /// What is tested, and a specification in which some rows of steps end and others do not.
-const LOOPS: &[(&str, &str)] = &[
+pub const LOOPS: &[(&str, &str)] = &[
     (
         "internal steps for ever",
         "specification S : noexit behaviour P where process P : noexit := i; P endproc endspec",
@@ -115,7 +115,7 @@ const LOOPS: &[(&str, &str)] = &[
 ];
 
 /// The number of forms whose flags are not these.
-fn count_wrong(
+pub fn count_wrong(
     list: &TermList,
     found: &EndStates,
     expected: &[bool],

@@ -10,6 +10,8 @@
 #[cfg(test)]
 mod accepted_text;
 #[cfg(test)]
+mod demanded_ends_tests;
+#[cfg(test)]
 mod end_states_tests;
 #[cfg(test)]
 mod ends_comparison;
