@@ -62,17 +62,30 @@ const REFUSED: &[Refused] = &[
 
 /// Asserts what the pattern demands of the end, and with which labels.
 fn assert_demand(rt: &impl Abort, pattern: &EverPattern, row: Row) {
-    assert_eq!(rt; pattern.kind, row.1, "{:?}", row.0);
+    assert_kind(rt, row.0, pattern.kind, row.1);
     for label in LABELS {
-        let expected = is_among(row.2, label);
-        assert_eq!(rt;
-            is_refused(&pattern.pattern, label),
-            expected,
-            "{:?} at {:?}",
+        assert_label(
+            rt,
             row.0,
-            label
+            label,
+            is_refused(&pattern.pattern, label),
+            is_among(row.2, label),
         );
     }
+}
+
+fn assert_kind(rt: &impl Abort, words: &[&str], found: EndKind, expected: EndKind) {
+    assert_eq!(rt; found, expected, "{:?}", words);
+}
+
+fn assert_label(
+    rt: &impl Abort,
+    words: &[&str],
+    label: &str,
+    found: Option<bool>,
+    expected: Option<bool>,
+) {
+    assert_eq!(rt; found, expected, "{:?} at {:?}", words, label);
 }
 
 /// Whether the label is in the list, if there is one.
@@ -89,10 +102,19 @@ fn demands_of_the_end(rt: HostRuntime) -> Result<(), PatternFault> {
     Ok(())
 }
 
+fn assert_fault(
+    rt: &impl Abort,
+    words: &[&str],
+    found: Option<PatternFault>,
+    expected: PatternFault,
+) {
+    assert_eq!(rt; found, Some(expected), "{:?}", words);
+}
+
 #[test]
 fn words_that_spell_none(rt: HostRuntime) {
     for (words, fault) in REFUSED {
         let found = EverPattern::read(rt.alloc(), words, false).err();
-        assert_eq!(rt; found, Some(*fault), "{:?}", words);
+        assert_fault(&rt, words, found, *fault);
     }
 }
