@@ -15,16 +15,18 @@ def wide_set(rng, labels):
     return ("<any>",) if rng.random() < 0.2 else label_set(rng, labels)
 
 
-def end(rng, labels):
-    """A demand on the last term, alone or after any number of labels."""
-    demand = rng.choice([("<deadlock>",), ("<refuses>", *wide_set(rng, labels)), ("<refuses>", *wide_set(rng, labels))])
+def end(rng, labels, is_later):
+    """A demand on the last term, or on what can come after it, alone or after any number of labels."""
+    words = rng.choice(["<livelock>", "<forever>", "<never>"] if is_later else ["<deadlock>", "<refuses>", "<refuses>"])
+    demand = (words,) if words in ("<deadlock>", "<livelock>") else (words, *wide_set(rng, labels))
     return rng.choice([demand, ("<until>", *demand), ("<until>", *demand)])
 
 
-def elements(rng, strong, unknown):
+def elements(rng, strong, unknown, is_later):
     labels = GATES + ["exit", *unknown] + (["i", "I"] if strong else [])
     found = []
-    for _ in range(rng.randint(0, 4)):
+    # What can come is asked where a pattern is matched, which few elements often are.
+    for _ in range(rng.choice([0, 0, 1, 2]) if is_later else rng.randint(0, 4)):
         kind = rng.choice(["one", "one", "any", "until", "while", "whiles"])
         found.append(
             {
@@ -35,17 +37,17 @@ def elements(rng, strong, unknown):
                 "whiles": lambda: ("<while>", "<any>"),
             }[kind]()
         )
-    if rng.random() < 0.5:
-        found.append(end(rng, labels))
+    if is_later or rng.random() < 0.5:
+        found.append(end(rng, labels, is_later))
     return found
 
 
-def pattern_words(rng, strong, unknown=("D",)):
-    """The words of a pattern; sometimes one is left out or put in."""
-    words = [word for element in elements(rng, strong, unknown) for word in element]
+def pattern_words(rng, strong, later, unknown=("D",)):
+    """The words of a pattern; sometimes one is left out or put in. With this probability its end is about what can come after it."""
+    words = [word for element in elements(rng, strong, unknown, rng.random() < later) for word in element]
     if rng.random() < 0.1:
         at = rng.randint(0, len(words))
-        words[at : at + rng.randint(0, 1)] = rng.choice([[], [rng.choice([*KINDS, "A", "i", "A,"])]])
+        words[at : at + rng.randint(0, 1)] = rng.choice([[], [rng.choice([*KINDS, *LATER, "A", "i", "A,"])]])
     return words
 
 
@@ -53,6 +55,8 @@ def pattern_words(rng, strong, unknown=("D",)):
 
 # What a word is on its own, as a letter; names are L, or I if the internal action is among them and not observed.
 KINDS = {"<any>": "A", "<not>": "N", "<until>": "U", "<while>": "W", "<deadlock>": "D", "<refuses>": "R"}
+# Ends about what can come after them, and what they are like. To a search they are S, since it does not answer them.
+LATER = {"<livelock>": "D", "<forever>": "R", "<never>": "R"}
 SET, WIDE = "(?:L|NL)", "(?:L|NL|A)"
 END = f"(?:D|R{WIDE})"
 ELEMENT = re.compile(f"{WIDE}|U{SET}|W{WIDE}|U?{END}")
@@ -61,22 +65,25 @@ FAULTS = [
     ("(?:U?R|W|U)?N?I", "E45 word {} is i, which cannot be observed"),
     ("(?:U?R|W|U)?N", "E50 word {} needs a label after it"),
     ("U?R", "E50 word {} needs a label after it"),
+    ("U?S", "E51 word {} is answered by ever alone"),
     ("W", "E48 word {} needs a label or <any> after it"),
     ("U", "E42 word {} needs a label or <deadlock> after it"),
     (".", "E41 word {} is neither a label nor an element"),
 ]
 
 
-def kind_of(word, strong):
+def kind_of(word, strong, is_ever):
     names = [named(name) for name in word.split(",")]
+    if word in LATER:
+        return LATER[word] if is_ever else "S"
     if word in KINDS or not all(re.fullmatch("[A-Za-z][A-Za-z0-9_]*", name) for name in names):
         return KINDS.get(word, "X")
     return "I" if "i" in names and not strong else "L"
 
 
-def read(words, strong):
+def read(words, strong, is_ever):
     """The elements that the words spell, and None; or None, and why they spell no pattern."""
-    kinds = "".join(kind_of(word, strong) for word in words)
+    kinds = "".join(kind_of(word, strong, is_ever) for word in words)
     found, at = [], 0
     while at < len(words):
         if demand_of(found) is not None:
@@ -92,15 +99,17 @@ def read(words, strong):
 
 # ---- what is matched
 
+ENDS = ("<deadlock>", "<refuses>", *LATER)
+
 
 def named(word):
     return word.lower() if word.lower() in ("exit", "i") else word.upper()
 
 
 def is_in(label, words):
-    """Whether the label is in the set that these words spell."""
-    if words[-1] == "<any>":
-        return True
+    """Whether the label is in the set that these words spell. No words are the empty set."""
+    if not words or words[-1] == "<any>":
+        return bool(words)
     among = label in [named(name) for name in words[-1].split(",")]
     return not among if words[0] == "<not>" else among
 
@@ -111,7 +120,9 @@ def demand_of(pattern):
     words = words[1:] if words[:1] == ("<until>",) else words
     if words == ("<deadlock>",):
         return "<refuses>", ("<any>",)
-    return (words[0], words[1:]) if words[:1] == ("<refuses>",) else None
+    if words == ("<livelock>",):
+        return "<forever>", ()
+    return (words[0], words[1:]) if words and words[0] in ENDS else None
 
 
 def segments(element, s):
@@ -119,9 +130,11 @@ def segments(element, s):
     match element:
         case ("<any>",):
             return [1] if s else []
-        case ("<deadlock>",) | ("<refuses>", *_):
+        case (word, *_) if word in ENDS:
             return [0]
-        case ("<until>", "<deadlock>") | ("<until>", "<refuses>", *_) | ("<while>", "<any>"):
+        case ("<until>", word, *_) if word in ENDS:
+            return range(len(s) + 1)
+        case ("<while>", "<any>"):
             return range(len(s) + 1)
         case ("<until>", *words):
             return [n + 1 for n in range(len(s)) if is_in(s[n], words) and not any(is_in(k, words) for k in s[:n])]

@@ -1,8 +1,15 @@
 """Random specifications in basic LOTOS, and the steps of their terms by the inference rules.
 
-A term is a tuple that begins with the name of its form. A set of gates is a sorted tuple, and None stands for all gates.
+A term is a tuple that begins with the name of its form. A set of gates is a sorted tuple, and None stands for all gates. A `map`
+is made of relabellings and hidings (term_ends.py).
 """
 GATES = ["A", "B", "C"]
+
+
+class TooMany(Exception):
+    """There are more terms, or more derivations, than are looked at."""
+
+
 
 # ---- specifications
 
@@ -119,3 +126,5 @@ def steps(processes, t):
             return steps(processes, ("relabel", pairs, processes[process]["body"]))
         case ("relabel", pairs, body):
             return [(dict(pairs[::-1]).get(k, k), ("relabel", pairs, u)) for k, u in steps(processes, body)]
+        case ("map", pairs, body):
+            return [(dict(pairs).get(k, k), ("map", pairs, u)) for k, u in steps(processes, body)]

@@ -264,7 +264,10 @@ A state is one of the specification and of the pattern together: a term that can
 reached, and how much of the pattern the labels on the way match. If more of them are
 reached before a match is found, the search stops with status 4. Each takes some
 150 to 600 bytes of memory. For example, for `a; b; stop` and the pattern `A B` the
-search stops with `--states 1`.";
+search stops with `--states 1`.
+
+With `<livelock>`, `<forever>` and `<never>` all states of the specification that can
+be reached are found first. If they are more, the search stops too.";
 
 pub(crate) const EVER_EXPLAIN_HELP: &str = "Writes the run of the derivation too";
 
@@ -302,7 +305,12 @@ by itself, as in `'<any>'`, or several in one pair of quotes, as in `'<until> B'
                  if nothing can follow.
   <refuses> SET  no label, if the end refuses the set. `A <refuses> B` matches `A`, if a
                  state can be reached then where B is not possible. SET may be `<any>`.
-  <until> <deadlock>, <until> <refuses> SET
+  <livelock>     no label, if internal steps that never end begin at the end.
+  <forever> SET  no label, if steps that never end begin there, each internal or with a
+                 label of the set. SET may be `<any>`.
+  <never> SET    no label, if no label of the set can come any more, whatever happens.
+                 `<until> <never> B` tells whether `B` can become impossible.
+  <until> <deadlock>, <until> <refuses> SET, <until> <never> SET and so on
                  any number of labels, if the end is such.
 
 Elements next to each other match labels next to each other: `A B` does not match

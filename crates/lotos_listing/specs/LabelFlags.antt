@@ -29,7 +29,8 @@ AreRefused set names flags = AreGateNames names → (label : Label) (text : Text
 -- the labels are those of a table with these gates that the end of a sequence must not have, as the pattern demands;
 -- none if it demands nothing
 abbrev pub AreRefusedBy : Pattern → List Name → LabelFlags → Type 0
-AreRefusedBy p names flags = MatchOption (refusal p) ((k : Label) → HasLabel flags k → ⊥) (λ set. AreRefused set names flags)
+AreRefusedBy p names flags =
+    MatchOption (refusal p) ((k : Label) → HasLabel flags k → ⊥) (λ set. AreRefused set names flags)
 
 -- some step of the list has a label of the set
 abbrev pub HasStepWith : LabelFlags → List (Label × ℕ) → Type 0

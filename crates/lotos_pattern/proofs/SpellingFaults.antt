@@ -3,13 +3,13 @@ use Rattle.std.proofs.Common.{◌≡◌, ℕ, ◌+◌, ◌<◌, Bool, false, Lis
 use Rattle.std.specs.Prelude.{slice_get}
 use Rattle.std.proofs.lemmas.List.{drop_all, length-drop, take-append-drop, length-append}
 use Rattle.lotos_pattern.specs.Patterns.{Element, IsDemanded, IsJoin, LabelSet, OnlyLastDemandsRefusal, Pattern, last_refusal}
-use Rattle.lotos_pattern.specs.Spelling.{EqualsIgnoringCase, IsAny, IsDeadlock, IsNot, IsRefuses, IsUntil, IsWhile, PatternOf, RefusalSpelling, SetSpelling}
+use Rattle.lotos_pattern.specs.Spelling.{EqualsIgnoringCase, IsAny, IsDeadlock, IsFuture, IsNot, IsRefuses, IsUntil, IsWhile, PatternOf, RefusalSpelling, SetSpelling}
 use Rattle.lotos_pattern.specs.Spelling.{Spelling, Text, WideSetSpelling, all, complement, deadlock, end, named, one_of, refused, some, until_end, until_set, while_set}
 use Rattle.lotos_pattern.specs.PatternFaults.{AwaitsEnd, AwaitsSet, BeginsElement, BeginsNoElement, BeginsNoSet, EndsNoComplement, EndsNoUntil, HasNoSetAfter, HasWord}
 use Rattle.lotos_pattern.specs.PatternFaults.{IsAfterPattern, IsCause, IsLabels, NamesInternal, SpellsNone}
 use Rattle.lotos_pattern.specs.WordKinds.{IsAppendFault, IsEndFaultAt, IsFaultAt, IsSetFaultAt}
 use Rattle.lotos_pattern.specs.declared.fault.PatternFault.{PatternFault}
-use Rattle.lotos_pattern.specs.declared.fault.PatternFault.TheVariants.{E41, E42, E43, E44, E45, E48, E50, E99}
+use Rattle.lotos_pattern.specs.declared.fault.PatternFault.TheVariants.{E41, E42, E43, E44, E45, E48, E50, E51, E99}
 use Rattle.lotos_pattern.proofs.LabelNames.{internal_no_angle, internal_no_labels, labels_no_angle}
 use Rattle.lotos_pattern.proofs.Words.{Differ, apart, drop_at}
 use Rattle.lotos_pattern.proofs.Spellings.{goes_on}
@@ -19,6 +19,15 @@ pub numbered : (words : List Text) (index : ℕ) (Such : Text → Type 0) (has :
 numbered words index Such has =
     let same : has.before ≡ index = let h = has.counted in omega arith in
     subst (λ i. slice_get words i ≡ Some has.word) same has.located
+
+-- a text that is none of the words with which an element begins
+record OthersDiffer (text : Text) : Type 0 where
+  complement : Differ (codes "<not>") text
+  any : Differ (codes "<any>") text
+  until : Differ (codes "<until>") text
+  while : Differ (codes "<while>") text
+  deadlock : Differ (codes "<deadlock>") text
+  refuses : Differ (codes "<refuses>") text
 
 -- nothing follows a demand on the end
 dead_last : (p : List Element) (e : Element) (more : List Element) → IsDemanded (last_refusal p) → OnlyLastDemandsRefusal (p ++ e ∷ more) → ⊥
@@ -88,6 +97,22 @@ module _ (strong : Bool) where
   no_internal word tail hidden is (while_head i h) = internal_no_angle word _ is i
   no_internal word tail hidden is (end_head (deadlock_head i)) = internal_no_angle word _ is i
   no_internal word tail hidden is (end_head (refuses_head i h)) = internal_no_angle word _ is i
+
+  -- no element begins with a word in angle brackets that is none of these
+  no_angle : (word tail : Text) (more : List Text) → EqualsIgnoringCase word (60 ∷ tail) → OthersDiffer (60 ∷ tail) → ElementHead (word ∷ more) → ⊥
+  no_angle word tail more is differ (set_head (some_head (names_head n))) = labels_no_angle strong word tail n is
+  no_angle word tail _ is differ (set_head (some_head (not_head i n))) = apart word _ _ i is differ.complement
+  no_angle word tail more is differ (set_head (all_head i)) = apart word _ _ i is differ.any
+  no_angle word tail more is differ (until_head i h) = apart word _ _ i is differ.until
+  no_angle word tail more is differ (until_end_head i h) = apart word _ _ i is differ.until
+  no_angle word tail more is differ (while_head i h) = apart word _ _ i is differ.while
+  no_angle word tail more is differ (end_head (deadlock_head i)) = apart word _ _ i is differ.deadlock
+  no_angle word tail more is differ (end_head (refuses_head i h)) = apart word _ _ i is differ.refuses
+
+  no_future : (word : Text) (more : List Text) → IsFuture word → ElementHead (word ∷ more) → ⊥
+  no_future word more (inl is) = no_angle word _ more is (record { complement = refl; any = refl; until = refl; while = refl; deadlock = refl; refuses = refl })
+  no_future word more (inr (inl is)) = no_angle word _ more is (record { complement = refl; any = refl; until = refl; while = refl; deadlock = refl; refuses = refl })
+  no_future word more (inr (inr is)) = no_angle word _ more is (record { complement = refl; any = refl; until = refl; while = refl; deadlock = refl; refuses = refl })
 
   -- what goes on with an element after `<until>`, and with a set after `<not>`
   data UntilTail : List Text → Type 0 where
@@ -258,6 +283,12 @@ module _ (strong : Bool) where
       set_spells_none (no_internal word (drop (index + 1) words) hidden is) awaits,
     )
 
+    pub fault_future : IsFuture word → IsEndFaultAt strong words index (E51 (index + 1))
+    fault_future is awaits = (
+      (awaits, here words index word stands IsFuture is),
+      end_spells_none words index word stands (no_future word (drop (index + 1) words) is) awaits,
+    )
+
     -- no word follows
     none_after : length words ≡ index + 1 → drop (index + 1) words ≡ []
     none_after last = drop_all (index + 1) words (omega arith)
@@ -362,6 +393,7 @@ module _ (strong : Bool) where
     full_cause (E45 n) h = absurd h
     full_cause (E48 n) h = absurd h
     full_cause (E50 n) h = absurd h
+    full_cause (E51 n) h = absurd h
     full_cause (E99 e) h = absurd h
 
     pub full_nothing : (fault : PatternFault) → IsAppendFault p.elements (index + 1) fault → SpellsNone strong words fault
@@ -372,19 +404,28 @@ module _ (strong : Bool) where
     full_nothing (E45 n) h = absurd h
     full_nothing (E48 n) h = absurd h
     full_nothing (E50 n) h = absurd h
+    full_nothing (E51 n) h = absurd h
     full_nothing (E99 e) h = absurd h
 
 -- a word in angle brackets goes on with no element that another one does
 module _ (strong : Bool) (word rest : Text) (is : EqualsIgnoringCase word (60 ∷ rest)) where
   pub angle_ends_none : Differ (codes "<not>") (60 ∷ rest) → Differ (codes "<deadlock>") (60 ∷ rest) → Differ (codes "<refuses>") (60 ∷ rest) →
-      EndsNoUntil strong word
-  angle_ends_none no_not no_deadlock no_refuses = record {
+      (IsFuture word → ⊥) → EndsNoUntil strong word
+  angle_ends_none no_not no_deadlock no_refuses no_future = record {
     labels = λ n. labels_no_angle strong word rest n is;
     internal = λ n. internal_no_angle word rest n is;
     complement = λ h. apart word (codes "<not>") (60 ∷ rest) h is no_not;
     deadlock = λ h. apart word (codes "<deadlock>") (60 ∷ rest) h is no_deadlock;
     refuses = λ h. apart word (codes "<refuses>") (60 ∷ rest) h is no_refuses;
+    future = no_future;
   }
+
+  -- a word in angle brackets is none of those that demand something of what can come after the end
+  pub angle_no_future : Differ (codes "<livelock>") (60 ∷ rest) → Differ (codes "<forever>") (60 ∷ rest) → Differ (codes "<never>") (60 ∷ rest) →
+      IsFuture word → ⊥
+  angle_no_future no_livelock no_forever no_never (inl h) = apart word (codes "<livelock>") (60 ∷ rest) h is no_livelock
+  angle_no_future no_livelock no_forever no_never (inr (inl h)) = apart word (codes "<forever>") (60 ∷ rest) h is no_forever
+  angle_no_future no_livelock no_forever no_never (inr (inr h)) = apart word (codes "<never>") (60 ∷ rest) h is no_never
 
   pub angle_begins_no_set : Differ (codes "<not>") (60 ∷ rest) → Differ (codes "<any>") (60 ∷ rest) → BeginsNoSet strong word
   angle_begins_no_set no_not no_any = record {
@@ -398,13 +439,13 @@ module _ (strong : Bool) (word rest : Text) (is : EqualsIgnoringCase word (60 �
   angle_names_none = record { labels = λ n. labels_no_angle strong word rest n is; internal = λ n. internal_no_angle word rest n is }
 
 pub any_ends_none : (strong : Bool) (word : Text) → IsAny word → EndsNoUntil strong word
-any_ends_none strong word is = angle_ends_none strong word _ is refl refl refl
+any_ends_none strong word is = angle_ends_none strong word _ is refl refl refl (angle_no_future strong word _ is refl refl refl)
 
 pub until_ends_none : (strong : Bool) (word : Text) → IsUntil word → EndsNoUntil strong word
-until_ends_none strong word is = angle_ends_none strong word _ is refl refl refl
+until_ends_none strong word is = angle_ends_none strong word _ is refl refl refl (angle_no_future strong word _ is refl refl refl)
 
 pub while_ends_none : (strong : Bool) (word : Text) → IsWhile word → EndsNoUntil strong word
-while_ends_none strong word is = angle_ends_none strong word _ is refl refl refl
+while_ends_none strong word is = angle_ends_none strong word _ is refl refl refl (angle_no_future strong word _ is refl refl refl)
 
 pub nothing_ends_none : (strong : Bool) (word : Text) → BeginsNoElement strong word → EndsNoUntil strong word
 nothing_ends_none strong word none = record {
@@ -413,6 +454,7 @@ nothing_ends_none strong word none = record {
   complement = none.complement;
   deadlock = none.deadlock;
   refuses = none.refuses;
+  future = none.future;
 }
 
 pub until_begins_no_set : (strong : Bool) (word : Text) → IsUntil word → BeginsNoSet strong word
@@ -426,6 +468,16 @@ deadlock_begins_no_set strong word is = angle_begins_no_set strong word _ is ref
 
 pub refuses_begins_no_set : (strong : Bool) (word : Text) → IsRefuses word → BeginsNoSet strong word
 refuses_begins_no_set strong word is = angle_begins_no_set strong word _ is refl refl
+
+pub future_begins_no_set : (strong : Bool) (word : Text) → IsFuture word → BeginsNoSet strong word
+future_begins_no_set strong word (inl is) = angle_begins_no_set strong word _ is refl refl
+future_begins_no_set strong word (inr (inl is)) = angle_begins_no_set strong word _ is refl refl
+future_begins_no_set strong word (inr (inr is)) = angle_begins_no_set strong word _ is refl refl
+
+pub future_names_none : (strong : Bool) (word : Text) → IsFuture word → EndsNoComplement strong word
+future_names_none strong word (inl is) = angle_names_none strong word _ is
+future_names_none strong word (inr (inl is)) = angle_names_none strong word _ is
+future_names_none strong word (inr (inr is)) = angle_names_none strong word _ is
 
 pub nothing_begins_no_set : (strong : Bool) (word : Text) → BeginsNoElement strong word → BeginsNoSet strong word
 nothing_begins_no_set strong word none = record { labels = none.labels; internal = none.internal; complement = none.complement; any = none.any }

@@ -1,5 +1,5 @@
 -- Words with different meanings.
-use Rattle.std.proofs.Common.{◌≡◌, ◌≢◌, ℕ, zero, suc, ◌+◌, ◌<◌, Bool, true, false, List, [], ◌∷◌, ◌++◌, length, map, take, drop, get_or, Some, Result, Ok, Err, refl, sym, ap, ◌∙◌, arith}
+use Rattle.std.proofs.Common.{◌≡◌, ◌≢◌, ℕ, zero, suc, ◌+◌, ◌*◌, ◌<◌, Bool, true, false, List, [], ◌∷◌, ◌++◌, length, map, take, drop, get_or, Some, Result, Ok, Err, refl, sym, ap, ◌∙◌, arith}
 use Rattle.std.specs.Prelude.{◌==◌, IfOk, slice_get}
 use Rattle.std.specs.Borrow.{Bor}
 use Rattle.std.specs.Char.{to_ascii_uppercase}
@@ -10,16 +10,20 @@ use Rattle.lotos_pattern.specs.PatternLabels.{Label, internal, termination}
 use Rattle.lotos_pattern.specs.Patterns.{IsObservable}
 use Rattle.lotos_pattern.specs.Spelling.{IsNamed, IsWord, Names, EqualsIgnoringCase, Text, exits, gate, inside, texts_of}
 
--- the texts differ in their second letters
+-- the second and the third letter of a text, as one number
+abbrev letters : Text → ℕ
+letters text = get_or text 1 0 * 256 + get_or text 2 0
+
+-- the texts differ in their second or third letters
 abbrev pub Differ : Text → Text → Type 0
-Differ left right = (get_or left 1 0 == get_or right 1 0) ≡ false
+Differ left right = (letters left == letters right) ≡ false
 
 not_alike : (m n : ℕ) → m ≡ n → (m == n) ≡ false → ⊥
 not_alike m n same differ = grind (arith, nat_tests)
 
 -- one word does not read as two different ones
 pub apart : (word left right : Text) → EqualsIgnoringCase word left → EqualsIgnoringCase word right → Differ left right → ⊥
-apart word left right h k differ = not_alike (get_or left 1 0) (get_or right 1 0) (ap (λ text. get_or text 1 0) (sym h ∙ k)) differ
+apart word left right h k differ = not_alike (letters left) (letters right) (ap letters (sym h ∙ k)) differ
 
 exit_not_internal : termination ≢ internal
 exit_not_internal e = let long : length termination ≡ length internal = ap length e in absurd (omega arith)

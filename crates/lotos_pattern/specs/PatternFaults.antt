@@ -2,9 +2,9 @@
 use Rattle.std.specs.Prelude.{◌≡◌, ◌⊎◌, ℕ, ◌+◌, ◌<◌, Bool, true, false, List, Some, Contains, length, slice_get, take}
 use Rattle.lotos_pattern.specs.PatternLabels.{Label, internal}
 use Rattle.lotos_pattern.specs.Patterns.{DemandsRefusal, Pattern}
-use Rattle.lotos_pattern.specs.Spelling.{IsAny, IsDeadlock, IsNot, IsRefuses, IsUntil, IsWhile, NamesLabels, PatternOf, Text}
+use Rattle.lotos_pattern.specs.Spelling.{IsAny, IsDeadlock, IsFuture, IsNot, IsRefuses, IsUntil, IsWhile, NamesLabels, PatternOf, Text}
 use Rattle.lotos_pattern.specs.declared.fault.PatternFault.{PatternFault}
-use Rattle.lotos_pattern.specs.declared.fault.PatternFault.TheVariants.{E41, E42, E43, E44, E45, E48, E50, E99}
+use Rattle.lotos_pattern.specs.declared.fault.PatternFault.TheVariants.{E41, E42, E43, E44, E45, E48, E50, E51, E99}
 
 -- `Such` holds of the word with this number
 pub record HasWord (words : List Text) (n : ℕ) (Such : Text → Type 0) : Type 0 where
@@ -49,6 +49,7 @@ module _ (strong : Bool) where
     pub while : IsWhile word → ⊥
     pub deadlock : IsDeadlock word → ⊥
     pub refuses : IsRefuses word → ⊥
+    pub future : IsFuture word → ⊥
 
   -- the word goes on no element that `<until>` begins, and it does not name the internal action
   pub record EndsNoUntil (word : Text) : Type 0 where
@@ -57,6 +58,7 @@ module _ (strong : Bool) where
     pub complement : IsNot word → ⊥
     pub deadlock : IsDeadlock word → ⊥
     pub refuses : IsRefuses word → ⊥
+    pub future : IsFuture word → ⊥
 
   -- the word begins no set, is not `<any>`, and does not name the internal action
   pub record BeginsNoSet (word : Text) : Type 0 where
@@ -113,6 +115,8 @@ module _ (strong : Bool) where
   IsCause words (E50 n) = (AwaitsSet words n × HasWord words n IsNot ×
       (HasWord words (n + 1) EndsNoComplement ⊎ (length words ≡ n)))
       ⊎ (AwaitsEnd words n × HasWord words n IsRefuses × HasNoSetAfter words n)
+  -- a demand on the end may begin at the word, and the word is a demand on what can come after the end
+  IsCause words (E51 n) = AwaitsEnd words n × HasWord words n IsFuture
   IsCause words (E99 e) = Unit {0}
 
   -- the fault is that memory ran out, or the words spell no pattern
@@ -124,4 +128,5 @@ module _ (strong : Bool) where
   SpellsNone words (E45 n) = (p : Pattern) → PatternOf strong words p → ⊥
   SpellsNone words (E48 n) = (p : Pattern) → PatternOf strong words p → ⊥
   SpellsNone words (E50 n) = (p : Pattern) → PatternOf strong words p → ⊥
+  SpellsNone words (E51 n) = (p : Pattern) → PatternOf strong words p → ⊥
   SpellsNone words (E99 e) = Unit {0}

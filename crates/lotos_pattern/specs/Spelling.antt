@@ -1,5 +1,5 @@
 -- Which words spell a pattern.
-use Rattle.std.specs.Prelude.{◌≡◌, ℕ, ◌≤◌, ◌||◌, ◌==◌, Bool, IsTrue, List, [], ◌∷◌, codes, length, map}
+use Rattle.std.specs.Prelude.{◌≡◌, ◌⊎◌, ℕ, ◌≤◌, ◌||◌, ◌==◌, Bool, IsTrue, List, [], ◌∷◌, codes, length, map}
 use Rattle.std.specs.Borrow.{Bor}
 use Rattle.std.specs.Char.{is_ascii_alphabetic, is_ascii_alphanumeric, to_ascii_lowercase, to_ascii_uppercase}
 use Rattle.std.specs.List.{AllByRecursion, slice_split}
@@ -79,6 +79,22 @@ IsDeadlock word = EqualsIgnoringCase word (codes "<deadlock>")
 -- the word is `<refuses>`
 abbrev pub IsRefuses : Text → Type 0
 IsRefuses word = EqualsIgnoringCase word (codes "<refuses>")
+
+-- the word is `<livelock>`
+abbrev pub IsLivelock : Text → Type 0
+IsLivelock word = EqualsIgnoringCase word (codes "<livelock>")
+
+-- the word is `<forever>`
+abbrev pub IsForever : Text → Type 0
+IsForever word = EqualsIgnoringCase word (codes "<forever>")
+
+-- the word is `<never>`
+abbrev pub IsNever : Text → Type 0
+IsNever word = EqualsIgnoringCase word (codes "<never>")
+
+-- the word is a demand on what can come after the end
+abbrev pub IsFuture : Text → Type 0
+IsFuture word = IsLivelock word ⊎ (IsForever word ⊎ IsNever word)
 
 -- the words that spell a set of labels
 pub data SetSpelling (strong : Bool) : LabelSet → List Text → Type 0 where

@@ -2,11 +2,11 @@
 use Rattle.std.specs.Prelude.{◌≡◌, ◌≢◌, ℕ, ◌+◌, ◌<◌, ◌≤◌, Bool, false, List, [], ◌∷◌, ◌++◌, Some, length, map, slice_get, take}
 use Rattle.std.specs.String.{string_bytes}
 use Rattle.lotos_pattern.specs.Patterns.{Element, IsDemanded, LabelSet, last_refusal}
-use Rattle.lotos_pattern.specs.Spelling.{IsAny, IsDeadlock, IsNot, IsRefuses, IsUntil, IsWhile, NamesLabels, RefusalSpelling, SetSpelling, Spelling}
-use Rattle.lotos_pattern.specs.Spelling.{Text, WideSetSpelling}
+use Rattle.lotos_pattern.specs.Spelling.{IsAny, IsDeadlock, IsFuture, IsNot, IsRefuses, IsUntil, IsWhile, NamesLabels, RefusalSpelling, SetSpelling}
+use Rattle.lotos_pattern.specs.Spelling.{Spelling, Text, WideSetSpelling}
 use Rattle.lotos_pattern.specs.PatternFaults.{AwaitsEnd, AwaitsSet, BeginsElement, BeginsNoElement, IsCause, NamesInternal, SpellsNone}
 use Rattle.lotos_pattern.specs.declared.fault.PatternFault.{PatternFault}
-use Rattle.lotos_pattern.specs.declared.fault.PatternFault.TheVariants.{E41, E42, E43, E44, E45, E48, E50, E99}
+use Rattle.lotos_pattern.specs.declared.fault.PatternFault.TheVariants.{E41, E42, E43, E44, E45, E48, E50, E51, E99}
 use Rattle.lotos_pattern.specs.declared.pattern_parser.WordKind.{WordKind}
 use Rattle.lotos_pattern.specs.declared.pattern_parser.WordKind.TheVariants as word_kind
 
@@ -20,6 +20,7 @@ IsKindOfWord strong word word_kind.Until = IsUntil word
 IsKindOfWord strong word word_kind.While = IsWhile word
 IsKindOfWord strong word word_kind.Deadlock = IsDeadlock word
 IsKindOfWord strong word word_kind.Refuses = IsRefuses word
+IsKindOfWord strong word word_kind.Future = IsFuture word
 IsKindOfWord strong word word_kind.Unknown = BeginsNoElement strong word
 
 -- another element may follow these
@@ -36,6 +37,7 @@ IsAppendFault p n (E44 m) = (IsDemanded (last_refusal p) → ⊥) × (length p �
 IsAppendFault p n (E45 m) = ⊥
 IsAppendFault p n (E48 m) = ⊥
 IsAppendFault p n (E50 m) = ⊥
+IsAppendFault p n (E51 m) = ⊥
 IsAppendFault p n (E99 e) = ⊥
 
 -- the words from index `index` up to index `end` spell something

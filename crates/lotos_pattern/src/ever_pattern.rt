@@ -37,7 +37,7 @@ impl EverPattern {
     ///
     /// # Errors
     ///
-    /// Those of [`Pattern::read`], with the numbers of these words.
+    /// Those of [`Pattern::read`], but for E51.
     pub fn read(alloc: Global, words: &[&str], strong: bool) -> Result<EverPattern, PatternFault>
         ensures pattern { IfOk result (λ q.
             PatternOf strong (map word_for_refusal (texts_of words.now)) q.pattern) }

@@ -28,6 +28,9 @@ pub enum PatternFault {
     /// follows it.
     #[error("E50 word {0} needs a label after it")]
     E50(usize),
+    /// This word, `<livelock>`, `<forever>` or `<never>`, is a demand on the end that `ever` alone answers.
+    #[error("E51 word {0} is answered by ever alone")]
+    E51(usize),
     /// Out of memory.
     #[error("E99 out of memory")]
     E99(AllocError),

@@ -14,13 +14,16 @@ use strsim::levenshtein;
 const EXTENSION: &str = ".lotos";
 
 /// The words of elements that are not labels.
-const ELEMENT_WORDS: [&str; 6] = [
+const ELEMENT_WORDS: [&str; 9] = [
     "<any>",
     "<not>",
     "<until>",
     "<while>",
     "<deadlock>",
     "<refuses>",
+    "<livelock>",
+    "<forever>",
+    "<never>",
 ];
 
 /// The most bytes of a word that may be almost an element.

@@ -6,13 +6,13 @@ use Rattle.std.specs.declared.vec.Vec.{Vec}
 use Rattle.std.specs.declared.alloc.Global.{Global}
 use Rattle.lotos_check.specs.Flat.{System}
 use Rattle.lotos_pattern.specs.Patterns.{Pattern}
+use Rattle.lotos_pattern.specs.declared.ever_pattern.EverPattern.{EverPattern}
 use Rattle.lotos_pattern.specs.Spelling.{PatternOf}
-use Rattle.lotos_ever.specs.MatchQuestions.{MatchQuestion}
 use Rattle.lotos_device.specs.ByteOutput.{AppendsBeginning}
-use Rattle.lotos_tool.specs.EverOutcome.{AreEverParts, EverOutcome, IsEverQuestionOfText, is_ever_input_fault}
+use Rattle.lotos_tool.specs.EverOutcome.{AreEverParts, EverOutcome, EverQuestion, IsEverQuestionOfText, is_ever_input_fault}
 use Rattle.lotos_tool.specs.EverParts.{HasLine, IsEndWithoutMatch, IsEverQuestionFor, IsOutcomeFor, IsWritten}
-use Rattle.lotos_tool.specs.QuestionParts.{ReadsAccepted, words_of}
-use Rattle.lotos_tool.specs.RefusalCauses.{IsInputRefusal, IsRefusal}
+use Rattle.lotos_tool.specs.QuestionParts.{ReadsAccepted, ever_words_of, words_of}
+use Rattle.lotos_tool.specs.RefusalCauses.{IsEverRefusal, IsInputRefusal}
 use Rattle.lotos_tool.specs.Rejections.{IsGateRejection, IsPatternRejection, IsRejectionBy, ever_end_of}
 use Rattle.lotos_report.specs.declared.outcome.EverEnded.{EverEnded}
 use Rattle.lotos_report.specs.declared.outcome.EverEnded.TheVariants.{Matched, NoMatch, Refused, Stopped}
@@ -20,10 +20,10 @@ use Rattle.lotos_report.specs.declared.outcome.EverWhy.TheVariants as why
 use Rattle.lotos_tool.specs.declared.rejection.Rejection.{Rejection}
 use Rattle.lotos_tool.specs.declared.rejection.Rejection.TheVariants as rejection
 use Rattle.lotos_command.specs.declared.command.EverRequest.{EverRequest}
-use Rattle.lotos_tool.proofs.Rejections.{gate_means, input_means, input_refused, pattern_means, taken_all}
+use Rattle.lotos_tool.proofs.Rejections.{ever_input_refused, gate_means, input_means, pattern_means, taken_all}
 
 -- an outcome for a system and a pattern is no input fault
-pub told_was_read : (request : EverRequest) (system : System) (p : Pattern) (got got' : Option (List ℕ)) (ended : EverEnded) →
+pub told_was_read : (request : EverRequest) (system : System) (p : EverPattern) (got got' : Option (List ℕ)) (ended : EverEnded) →
     IsOutcomeFor request system p got got' ended → is_ever_input_fault ended ≡ false
 told_was_read request system p got got' Matched h = refl
 told_was_read request system p got got' NoMatch h = refl
@@ -31,7 +31,7 @@ told_was_read request system p got got' (Refused cause) h = absurd h
 told_was_read request system p got got' (Stopped cause) h = refl
 
 -- the outcome if the line, or a prefix of it, was written
-pub line_told : (request : EverRequest) (system : System) (p : Pattern) (line : Vec ℕ Global) (got got' : Option (List ℕ)) (ended : EverEnded) →
+pub line_told : (request : EverRequest) (system : System) (p : EverPattern) (line : Vec ℕ Global) (got got' : Option (List ℕ)) (ended : EverEnded) →
     HasLine request system p (Some line) → IsWritten line.items got got' ended → IsOutcomeFor request system p got got' ended
 line_told request system p line got got' Matched has h =
     (has.0, has.1, record { run = has.2.0; first = has.2.1; written = subst (Appends got got') has.2.2 h })
@@ -44,7 +44,7 @@ line_told request system p line got got' (Stopped why.Write) has h =
 line_told request system p line got got' (Stopped why.Flush) has h = absurd h
 
 -- the outcome if there is no match
-pub no_match_told : (request : EverRequest) (system : System) (p : Pattern) (got got' : Option (List ℕ)) (ended : EverEnded) →
+pub no_match_told : (request : EverRequest) (system : System) (p : EverPattern) (got got' : Option (List ℕ)) (ended : EverEnded) →
     HasLine request system p None → IsEndWithoutMatch got got' ended → IsOutcomeFor request system p got got' ended
 no_match_told request system p got got' Matched has h = absurd h
 no_match_told request system p got got' NoMatch has h = (has.0, has.1, record { never = has.2; kept = h })
@@ -54,8 +54,8 @@ no_match_told request system p got got' (Stopped why.Memory) has h = absurd h
 no_match_told request system p got got' (Stopped why.Write) has h = absurd h
 no_match_told request system p got got' (Stopped why.Flush) has h = (has.0, has.1, record { never = has.2; kept = h })
 
-module _ (request : EverRequest) (left left' : Option (List ℕ)) (system : System) (p : Pattern) (parts : AreEverParts request left left' system p) where
-  asks_ever : (q : MatchQuestion) → IsEverQuestionFor system p q → IsEverQuestionOfText request left left' q
+module _ (request : EverRequest) (left left' : Option (List ℕ)) (system : System) (p : EverPattern) (parts : AreEverParts request left left' system p) where
+  asks_ever : (q : EverQuestion) → IsEverQuestionFor system p q → IsEverQuestionOfText request left left' q
   asks_ever q asked = record {
     system = system;
     parts = subst (AreEverParts request left left' system) (sym asked.pattern) parts;
@@ -77,22 +77,23 @@ module _ (request : EverRequest) (left left' : Option (List ℕ)) (system : Syst
 
 -- what was rejected was not written
 pub rejected : (request : EverRequest) (left left' got : Option (List ℕ)) (u : Rejection) →
-    IsRejectionBy (IsRefusal request.strong (words_of request.words)) left left' u → EverOutcome request left left' got got (ever_end_of u)
+    IsRejectionBy (IsEverRefusal request) left left' u → EverOutcome request left left' got got (ever_end_of u)
 rejected request left left' got (rejection.Refused cause) h = (h, Keeps-refl got)
 rejected request left left' got rejection.Memory h = record { taken = h; kept = Keeps-refl got }
 
 -- words that spell no pattern
-pub pattern_rejects : (strong : Bool) (words : List (List ℕ)) (left : Option (List ℕ)) (u : Rejection) → IsPatternRejection strong words u →
-    IsRejectionBy (IsRefusal strong words) left left u
-pattern_rejects strong words left u h = pattern_means (IsRefusal strong words) strong words left u (λ fault is. is) h
+pub pattern_rejects : (request : EverRequest) (left : Option (List ℕ)) (u : Rejection) → IsPatternRejection request.strong (ever_words_of request.words) u →
+    IsRejectionBy (IsEverRefusal request) left left u
+pattern_rejects request left u h = pattern_means (IsEverRefusal request) request.strong (ever_words_of request.words) left u (λ fault is. is) h
 
-module _ (strong : Bool) (words : List (List ℕ)) (left left' : Option (List ℕ)) where
+module _ (request : EverRequest) (left left' : Option (List ℕ)) where
   -- a text that is refused
-  pub input_rejects : (u : Rejection) → IsRejectionBy IsInputRefusal left left' u → IsRejectionBy (IsRefusal strong words) left left' u
-  input_rejects u h = input_means (IsRefusal strong words) left left' u (input_refused strong words left left') h
+  pub input_rejects : (u : Rejection) → IsRejectionBy IsInputRefusal left left' u → IsRejectionBy (IsEverRefusal request) left left' u
+  input_rejects u h = input_means (IsEverRefusal request) left left' u (ever_input_refused request left left') h
 
   -- a word that names an unknown gate
-  pub gate_rejects : (system : System) (p : Pattern) (u : Rejection) → ReadsAccepted left left' system → PatternOf strong words p →
-      IsGateRejection system.formals words u → IsRejectionBy (IsRefusal strong words) left left' u
-  gate_rejects system p u read spelled h = gate_means (IsRefusal strong words) words left left' system u read
+  pub gate_rejects : (system : System) (p : Pattern) (u : Rejection) → ReadsAccepted left left' system →
+      PatternOf request.strong (ever_words_of request.words) p → IsGateRejection system.formals (words_of request.words) u →
+      IsRejectionBy (IsEverRefusal request) left left' u
+  gate_rejects system p u read spelled h = gate_means (IsEverRefusal request) (words_of request.words) left left' system u read
       (λ n unknown. record { system = system; pattern = p; read = record { read = read; spelled = spelled }; unknown_gate = unknown }) h

@@ -16,8 +16,9 @@ use Rattle.lotos_listing.specs.Marks.{IsMarkFault}
 use Rattle.lotos_listing.specs.declared.fault.MarkFault.{MarkFault}
 use Rattle.lotos_listing.specs.declared.fault.MarkFault.TheVariants as mark_fault
 use Rattle.lotos_device.specs.TextInput.{ReadsAll, TakesAtMost}
+use Rattle.lotos_command.specs.declared.command.EverRequest.{EverRequest}
 use Rattle.lotos_tool.specs.QuestionParts.{ReadsAccepted}
-use Rattle.lotos_tool.specs.RefusalCauses.{IsInputRefusal, IsPatternRefused, IsRefusal, IsTextFault, IsTextRefusal}
+use Rattle.lotos_tool.specs.RefusalCauses.{IsEverRefusal, IsInputRefusal, IsPatternRefused, IsRefusal, IsTextFault, IsTextRefusal}
 use Rattle.lotos_tool.specs.Rejections.{IsGateRejection, IsMarkRejection, IsPatternRejection, IsRejection, IsRejectionBy}
 use Rattle.lotos_tool.specs.Rejections.{is_input_failure, mark_rejection, pattern_rejection}
 use Rattle.lotos_tool.specs.Rejections.IsGateRejection.{gate_memory, no_gate}
@@ -100,6 +101,8 @@ pattern_rejected_for strong words (pattern.E48 n) cause none =
     no_pattern (pattern.E48 n) (λ left. record { kept = Keeps-refl left; cause = cause; no_memory = refl; never = none })
 pattern_rejected_for strong words (pattern.E50 n) cause none =
     no_pattern (pattern.E50 n) (λ left. record { kept = Keeps-refl left; cause = cause; no_memory = refl; never = none })
+pattern_rejected_for strong words (pattern.E51 n) cause none =
+    no_pattern (pattern.E51 n) (λ left. record { kept = Keeps-refl left; cause = cause; no_memory = refl; never = none })
 pattern_rejected_for strong words (pattern.E99 e) cause none = pattern_memory
 
 pub pattern_was_read : (T : Type 0) (strong : Bool) (words : List (List ℕ)) (u : Rejection) → IsPatternRejection strong words u →
@@ -161,6 +164,18 @@ input_refused strong words left left' (refusal.E45 n) h = absurd h
 input_refused strong words left left' (refusal.Mark fault) h = absurd h
 input_refused strong words left left' refusal.E47 h = h
 input_refused strong words left left' (refusal.E49 n) h = absurd h
+
+-- and of a pattern of `ever` and a text
+pub ever_input_refused : (request : EverRequest) (left left' : Option (List ℕ)) (cause : Refusal) → IsInputRefusal left left' cause →
+    IsEverRefusal request left left' cause
+ever_input_refused request left left' (refusal.Text fault position) h = h
+ever_input_refused request left left' (refusal.Check fault line column) h = h
+ever_input_refused request left left' (refusal.Pattern fault) h = absurd h
+ever_input_refused request left left' (refusal.E41 n) h = absurd h
+ever_input_refused request left left' (refusal.E45 n) h = absurd h
+ever_input_refused request left left' (refusal.Mark fault) h = absurd h
+ever_input_refused request left left' refusal.E47 h = h
+ever_input_refused request left left' (refusal.E49 n) h = absurd h
 
 pub input_means : (Means : Option (List ℕ) → Option (List ℕ) → Refusal → Type 0) (left left' : Option (List ℕ)) (u : Rejection) →
     ((cause : Refusal) → IsInputRefusal left left' cause → Means left left' cause) → IsRejectionBy IsInputRefusal left left' u →

@@ -4,13 +4,14 @@ use Rattle.std.specs.Io.KnownBytes.{Appends, Keeps}
 use Rattle.std.specs.declared.vec.Vec.{Vec}
 use Rattle.std.specs.declared.alloc.Global.{Global}
 use Rattle.lotos_check.specs.Flat.{System}
-use Rattle.lotos_pattern.specs.Patterns.{Pattern}
+use Rattle.lotos_pattern.specs.declared.ever_pattern.EverPattern.{EverPattern}
 use Rattle.lotos_listing.specs.Order.{Label}
-use Rattle.lotos_ever.specs.MatchQuestions.{IsMatchQuestionOf, IsMatchOf, ReachesMoreThanFor, MatchQuestion, IsFirstMatchOf}
+use Rattle.lotos_ever.specs.EndTests.{ReachesTooMany}
+use Rattle.lotos_ever.specs.MatchQuestions.{IsFirstMatchToOf, IsMatchQuestionOf, IsMatchToOf}
 use Rattle.lotos_ever.specs.declared.found.Halt.{Halt}
 use Rattle.lotos_ever.specs.declared.found.Halt.TheVariants as halt
 use Rattle.lotos_device.specs.ByteOutput.{AppendsBeginning}
-use Rattle.lotos_tool.specs.EverOutcome.{IsMatchWritten, IsMatchLineCut, IsNoMatch, IsTooManyStates, item_of}
+use Rattle.lotos_tool.specs.EverOutcome.{EverQuestion, IsMatchWritten, IsMatchLineCut, IsNoMatch, IsTooManyStates, item_of, pattern_of}
 use Rattle.lotos_output.specs.OutputLines.{line_of}
 use Rattle.lotos_tool.specs.QuestionParts.{ForQuestion}
 use Rattle.lotos_report.specs.declared.outcome.EverEnded.{EverEnded}
@@ -19,24 +20,24 @@ use Rattle.lotos_report.specs.declared.outcome.EverWhy.TheVariants as why
 use Rattle.lotos_command.specs.declared.command.EverRequest.{EverRequest}
 
 -- the question is about this system and this pattern
-pub record IsEverQuestionFor (system : System) (p : Pattern) (q : MatchQuestion) : Type 0 where
-  pub question : IsMatchQuestionOf system q
-  pub pattern : q.pattern ≡ p
+pub record IsEverQuestionFor (system : System) (p : EverPattern) (q : EverQuestion) : Type 0 where
+  pub question : IsMatchQuestionOf system q.matches
+  pub pattern : pattern_of q ≡ p
 
 -- the line of the first match, or `None` if the question has no match
-abbrev pub IsLineOf : EverRequest → MatchQuestion → Option (Vec ℕ Global) → Type 0
-IsLineOf request q None = (run : List Label) → IsMatchOf q run → ⊥
+abbrev pub IsLineOf : EverRequest → EverQuestion → Option (Vec ℕ Global) → Type 0
+IsLineOf request q None = (run : List Label) → IsMatchToOf q.matches q.kind run → ⊥
 IsLineOf request q (Some line) =
-    (run : List Label) × IsFirstMatchOf q run × (line.items ≡ line_of request.explain (item_of q run))
+    (run : List Label) × IsFirstMatchToOf q.matches q.kind run × (line.items ≡ line_of request.explain (item_of q run))
 
 -- the line of the first match of the pattern in the system, or `None` if there is no match
-abbrev pub HasLine : EverRequest → System → Pattern → Option (Vec ℕ Global) → Type 0
+abbrev pub HasLine : EverRequest → System → EverPattern → Option (Vec ℕ Global) → Type 0
 HasLine request system p line = ForQuestion (IsEverQuestionFor system p) (λ q. IsLineOf request q line)
 
--- why there is no line: more product states are reached than the request allows, or memory ran out
-abbrev pub HasNoLine : EverRequest → System → Pattern → Halt → Type 0
+-- why there is no line: more states are reached than the request allows, or memory ran out
+abbrev pub HasNoLine : EverRequest → System → EverPattern → Halt → Type 0
 HasNoLine request system p halt.TooManyStates =
-    ForQuestion (IsEverQuestionFor system p) (λ q. ReachesMoreThanFor q request.states)
+    ForQuestion (IsEverQuestionFor system p) (λ q. ReachesTooMany q.matches q.kind request.states)
 HasNoLine request system p halt.Memory = Unit {0}
 
 -- the line was written, or the output failed after a prefix of it
@@ -52,7 +53,7 @@ IsEndWithoutMatch got got' (Stopped why.Flush) = Keeps got got'
 IsEndWithoutMatch got got' _ = ⊥
 
 -- what each outcome of a search for a match of the pattern in the system means
-abbrev pub IsOutcomeFor : EverRequest → System → Pattern → Option (List ℕ) → Option (List ℕ) → EverEnded → Type 0
+abbrev pub IsOutcomeFor : EverRequest → System → EverPattern → Option (List ℕ) → Option (List ℕ) → EverEnded → Type 0
 IsOutcomeFor request system p got got' Matched =
     ForQuestion (IsEverQuestionFor system p) (λ q. IsMatchWritten request q got got')
 IsOutcomeFor request system p got got' NoMatch =

@@ -6,6 +6,7 @@ use Rattle.std.specs.declared.alloc.Global.{Global}
 use Rattle.lotos_text.specs.Limits.{max_text_length}
 use Rattle.lotos_check.specs.AcceptedText.{Accepted}
 use Rattle.lotos_check.specs.Flat.{System}
+use Rattle.lotos_pattern.specs.EverPatterns.{word_for_refusal}
 use Rattle.lotos_pattern.specs.Patterns.{Pattern}
 use Rattle.lotos_pattern.specs.Spelling.{PatternOf}
 use Rattle.lotos_listing.specs.Order.{Label}
@@ -15,6 +16,10 @@ use Rattle.lotos_device.specs.TextInput.{ReadsAll}
 -- the words of a pattern
 abbrev pub words_of : Vec (String Global) Global → List (List ℕ)
 words_of words = map string_bytes words.items
+
+-- the words of a pattern of `ever`, each as it would be where the end must refuse a set
+abbrev pub ever_words_of : Vec (String Global) Global → List (List ℕ)
+ever_words_of words = map word_for_refusal (words_of words)
 
 -- the mark of a line, if one is given
 abbrev pub IsMarkOf : (strong : Bool) → Option (String Global) → Option (List Label) → Type 0

@@ -7,22 +7,21 @@ ghost use Rattle.lotos_terms.specs.TableView.{IsTableOf};
 ghost use Rattle.lotos_tool.specs.EverOutcome.{AreEverParts, EverOutcome, is_ever_input_fault, is_ever_output_fault};
 ghost use Rattle.lotos_tool.specs.EverParts.{HasLine, HasNoLine, IsEndWithoutMatch, IsOutcomeFor, IsWritten};
 ghost use Rattle.lotos_output.specs.OutputLines.{Item, IsItemOf, line_of};
-ghost use Rattle.lotos_tool.specs.QuestionParts.{words_of};
-ghost use Rattle.lotos_tool.specs.RefusalCauses.{IsRefusal};
+ghost use Rattle.lotos_tool.specs.RefusalCauses.{IsEverRefusal};
 ghost use Rattle.lotos_tool.specs.Rejections.{IsRejectionBy, is_input_failure};
 
-use crate::question_parts::{read_pattern, refuse_unknown_gates};
+use crate::question_parts::{read_ever_pattern, refuse_unknown_gates};
 use crate::rejection::{Rejection, ever_end_of};
 use crate::specification_input::read_specification;
 use lotos_check::Checked;
 use lotos_command::EverRequest;
 use lotos_device::{DeviceFailed, Sink, Source};
 use lotos_ever::laws::table_has_match_question;
-use lotos_ever::{Found, Halt, find_shortest_match_with_progress};
+use lotos_ever::{Found, Halt, find_shortest_match_with_end};
 use lotos_listing::Progress;
 use lotos_normal::NormalTable;
 use lotos_output::{OutputProgress, format_line, format_sequence, write_and_flush};
-use lotos_pattern::Pattern;
+use lotos_pattern::EverPattern;
 use lotos_report::{EverEnded, EverWhy};
 use lotos_text::Name;
 use std::alloc::{AllocError, Global};
@@ -33,7 +32,8 @@ use std::alloc::{AllocError, Global};
 /// The words of the pattern are read first, then the text, whose specification is checked, and then the gates that the
 /// words name are looked up in the specification's own list. The first of these to be refused is returned with nothing
 /// written, and words that spell no pattern are refused with nothing read. The line is composed completely before its
-/// first byte is written. If no derivation matches, if more product states would be stored than the request allows, and
+/// first byte is written. If no derivation matches, if more product states would be stored than the request allows, or more
+/// normal forms are reached where all of them must be found, and
 /// if memory runs out, nothing is written. One flush follows the line, and also ends a search without a match. At most
 /// one byte more than a text may have is taken from the reader, whatever it returns. Neither the reader nor the writer
 /// may have failed before.
@@ -66,17 +66,17 @@ fn read_parts<R: Source, P: OutputProgress>(
     request: &EverRequest,
     reader: &mut R,
     progress: &mut P,
-) -> Result<(Pattern, Checked), Rejection>
+) -> Result<(EverPattern, Checked), Rejection>
     requires reader { R.has_failed reader.old ≡ false }
     ensures parts { IfOk result (λ (pattern, system).
         AreEverParts request.now (R.remaining reader.old) (R.remaining reader.new) (system_of system)
         pattern) }
-    ensures rejected { IfErr result (IsRejectionBy (IsRefusal request.now.strong (words_of request.now.words))
+    ensures rejected { IfErr result (IsRejectionBy (IsEverRefusal request.now)
         (R.remaining reader.old) (R.remaining reader.new)) }
     ensures given { R.given reader.new ≤ R.given reader.old + (max_text_length + 1) }
     ensures failed { R.has_failed reader.new ≡ is_input_failure result }
 {
-    let pattern = read_pattern(alloc, &request.words, request.strong)?;
+    let pattern = read_ever_pattern(alloc, &request.words, request.strong)?;
     let system = read_specification(alloc, reader, progress)?;
     refuse_unknown_gates(alloc, &request.words, true, &system)?;
     Ok((pattern, system))
@@ -88,7 +88,7 @@ fn write_match<W: Sink, P: OutputProgress>(
     alloc: Global,
     request: &EverRequest,
     system: Checked,
-    pattern: &Pattern,
+    pattern: &EverPattern,
     writer: &mut W,
     progress: &mut P,
 ) -> EverEnded
@@ -113,7 +113,7 @@ fn find_match_line<P: Progress>(
     alloc: Global,
     request: &EverRequest,
     system: Checked,
-    pattern: &Pattern,
+    pattern: &EverPattern,
     progress: &mut P,
 ) -> Result<Option<Vec<u8>>, Halt>
     ensures line { IfOk result (HasLine request.now (system_of system) pattern.now) }
@@ -128,7 +128,7 @@ fn find_line_in<P: Progress>(
     alloc: Global,
     request: &EverRequest,
     table: &mut NormalTable,
-    pattern: &Pattern,
+    pattern: &EverPattern,
     progress: &mut P,
 ) -> Result<Option<Vec<u8>>, Halt>
     ensures line { (system : System) → IsTableOf system table.old →
@@ -138,7 +138,7 @@ fn find_line_in<P: Progress>(
 {
     table_has_match_question();
     table.recall_sound();
-    match find_shortest_match_with_progress(alloc, table, pattern, request.states, progress)? {
+    match find_shortest_match_with_end(alloc, table, pattern, request.states, progress)? {
         Some(found) => Ok(Some(format_match(alloc, table.gates(), &found, request.explain)?)),
         None => Ok(None),
     }

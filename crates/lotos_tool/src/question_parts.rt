@@ -1,8 +1,9 @@
 //! The parts of a question that the words of a command give: the pattern, the mark, and that its gates are known.
 ghost use Rattle.std.specs.Prelude.{◌≡◌, IfErr, IfOk, OnOk, false, map, string_bytes, true};
 ghost use Rattle.lotos_check.specs.CheckedView.{system_of};
+ghost use Rattle.lotos_pattern.specs.EverPatterns.{kind_of_words};
 ghost use Rattle.lotos_pattern.specs.Spelling.{PatternOf, texts_of};
-ghost use Rattle.lotos_tool.specs.QuestionParts.{IsMarkOf, words_of};
+ghost use Rattle.lotos_tool.specs.QuestionParts.{IsMarkOf, ever_words_of, words_of};
 ghost use Rattle.lotos_tool.specs.Rejections.{IsGateRejection, IsMarkRejection, IsPatternRejection, is_input_failure};
 ghost use Rattle.lotos_tool.specs.UnknownGates.{HasNoUnknownGate};
 
@@ -10,7 +11,7 @@ use crate::rejection::Rejection;
 use crate::unknown_gates::first_unknown_gate_of;
 use lotos_check::Checked;
 use lotos_listing::Mark;
-use lotos_pattern::Pattern;
+use lotos_pattern::{EverPattern, Pattern};
 use lotos_report::Refusal;
 use std::alloc::{AllocError, Global};
 
@@ -23,6 +24,22 @@ pub fn read_pattern(alloc: Global, words: &Vec<String>, strong: bool) -> Result<
 {
     let texts = borrow_texts(alloc, words.as_slice())?;
     Ok(Pattern::read(alloc, texts.as_slice(), strong)?)
+}
+
+/// The pattern that the words of `ever` spell, which observes internal steps if `strong` is set. Words that spell none
+/// are refused with the fault of [`EverPattern::read`].
+pub fn read_ever_pattern(
+    alloc: Global,
+    words: &Vec<String>,
+    strong: bool,
+) -> Result<EverPattern, Rejection>
+    ensures pattern { IfOk result (λ q. PatternOf strong (ever_words_of words.now) q.pattern) }
+    ensures kind { IfOk result (λ q. q.kind ≡ kind_of_words (words_of words.now)) }
+    ensures rejected { IfErr result (IsPatternRejection strong (ever_words_of words.now)) }
+    ensures unread { is_input_failure result ≡ false }
+{
+    let texts = borrow_texts(alloc, words.as_slice())?;
+    Ok(EverPattern::read(alloc, texts.as_slice(), strong)?)
 }
 
 /// The mark of the line, if one is given. A line that is not one of a listing is refused with E46.

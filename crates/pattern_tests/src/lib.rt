@@ -9,6 +9,8 @@ mod compiled_tests;
 #[cfg(test)]
 mod compiled_walks;
 #[cfg(test)]
+mod demand_fault_tests;
+#[cfg(test)]
 mod ever_pattern_tests;
 #[cfg(test)]
 mod exact_tests;

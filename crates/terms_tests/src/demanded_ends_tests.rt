@@ -13,12 +13,13 @@ use std::alloc::{AllocError, Global};
 use std::process::Abort;
 use std::test::Fail;
 
-/// All kinds, each with its word.
-const KINDS: &[(&str, EndKind)] = &[
-    ("refuses", EndKind::Refuses),
-    ("livelock", EndKind::Livelock),
-    ("forever", EndKind::Forever),
-    ("never", EndKind::Never),
+/// All kinds, each with its word, and whether internal steps are observed.
+const KINDS: &[(&str, EndKind, bool)] = &[
+    ("refuses", EndKind::Refuses, false),
+    ("livelock", EndKind::Livelock, false),
+    ("forever", EndKind::Forever, false),
+    ("never", EndKind::Never, false),
+    ("never of observed internal steps", EndKind::Never, true),
 ];
 
 /// What is tested, a specification, the labels on a way from the start, the kind of end, the names of a set and whether
@@ -180,11 +181,29 @@ const ROWS: &[Row] = &[
         false,
     ),
     (
-        "the internal action is one of all labels",
+        "no label but internal steps",
         LIVELOCK,
         &["A", "B"],
         EndKind::Never,
         &[],
+        true,
+        true,
+    ),
+    (
+        "no label but those of a loop that is over, and internal steps",
+        LIVELOCK,
+        &["A", "B"],
+        EndKind::Never,
+        &["A"],
+        true,
+        true,
+    ),
+    (
+        "a label besides internal steps",
+        LIVELOCK,
+        &["A"],
+        EndKind::Never,
+        &["A"],
         true,
         false,
     ),
@@ -194,6 +213,46 @@ const ROWS: &[Row] = &[
         &["A", "i", "B", "i"],
         EndKind::Never,
         &["C", "exit"],
+        true,
+        true,
+    ),
+];
+
+/// Found by hand, with internal steps observed.
+const STRONG_ROWS: &[Row] = &[
+    (
+        "the internal action is one of all labels",
+        LIVELOCK,
+        &["A", "B"],
+        EndKind::Never,
+        &[],
+        true,
+        false,
+    ),
+    (
+        "the internal action is one of the labels other than A",
+        LIVELOCK,
+        &["A", "B"],
+        EndKind::Never,
+        &["A"],
+        true,
+        false,
+    ),
+    (
+        "the internal action by name",
+        LIVELOCK,
+        &["A", "B"],
+        EndKind::Never,
+        &["i"],
+        false,
+        false,
+    ),
+    (
+        "no label but internal steps and the last ones",
+        MEETING,
+        &["A", "i", "B"],
+        EndKind::Never,
+        &["C", "exit", "i"],
         true,
         true,
     ),
@@ -216,38 +275,47 @@ fn is_end_after(
     alloc: Global,
     text: &str,
     labels: &[&str],
-    kind: EndKind,
+    demand: (EndKind, bool),
     set: LabelSet,
 ) -> Result<bool, Fail> {
     let mut list = TermList::new_normal(alloc, text)?;
-    is_end_in(alloc, &mut list, labels, kind, set)
+    is_end_in(alloc, &mut list, labels, demand, set)
 }
 
 fn is_end_in(
     alloc: Global,
     list: &mut TermList,
     labels: &[&str],
-    kind: EndKind,
+    demand: (EndKind, bool),
     set: LabelSet,
 ) -> Result<bool, Fail> {
     let index = form_after(alloc, list, labels)?;
     let form = list.term(index)?;
     let set = pattern_set(alloc, set)?;
-    let found = list.find_ends(alloc, kind, &set, LIMIT)?;
+    let found = list.find_ends(alloc, demand.0, &set, demand.1, LIMIT)?;
     Ok(flag_of(&found, form)?)
 }
 
-#[test]
-fn ends_as_demanded(rt: HostRuntime) -> Result<(), Fail> {
-    for (subject, text, labels, kind, names, is_complement, expected) in ROWS {
+fn assert_rows(rt: &impl Abort, alloc: Global, rows: &[Row], strong: bool) -> Result<(), Fail> {
+    for (subject, text, labels, kind, names, is_complement, expected) in rows {
         let set = LabelSet {
             names: *names,
             is_complement: *is_complement,
         };
-        let found = is_end_after(rt.alloc(), text, labels, *kind, set)?;
-        assert_end(&rt, subject, found, *expected);
+        let found = is_end_after(alloc, text, labels, (*kind, strong), set)?;
+        assert_end(rt, subject, found, *expected);
     }
     Ok(())
+}
+
+#[test]
+fn ends_as_demanded(rt: HostRuntime) -> Result<(), Fail> {
+    assert_rows(&rt, rt.alloc(), ROWS, false)
+}
+
+#[test]
+fn ends_as_demanded_with_internal_steps(rt: HostRuntime) -> Result<(), Fail> {
+    assert_rows(&rt, rt.alloc(), STRONG_ROWS, true)
 }
 
 fn assert_end(rt: &impl Abort, words: &str, found: bool, expected: bool) {
@@ -264,14 +332,14 @@ const NO_LABELS: LabelSet = LabelSet {
 fn ends_by_oracle(
     alloc: Global,
     forms: &[Vec<PrintedStep>],
-    kind: EndKind,
+    demand: (EndKind, bool),
     set: LabelSet,
 ) -> Result<Vec<bool>, AllocError> {
-    match kind {
+    match demand.0 {
         EndKind::Refuses => refusing(alloc, forms, set),
         EndKind::Livelock => endless(alloc, forms, NO_LABELS),
         EndKind::Forever => endless(alloc, forms, set),
-        EndKind::Never => past(alloc, forms, set),
+        EndKind::Never => past(alloc, forms, set, demand.1),
     }
 }
 
@@ -284,8 +352,13 @@ fn endless(
     negated(alloc, found.as_slice())
 }
 
-fn past(alloc: Global, forms: &[Vec<PrintedStep>], set: LabelSet) -> Result<Vec<bool>, AllocError> {
-    let found = coming(alloc, forms, set)?;
+fn past(
+    alloc: Global,
+    forms: &[Vec<PrintedStep>],
+    set: LabelSet,
+    strong: bool,
+) -> Result<Vec<bool>, AllocError> {
+    let found = coming(alloc, forms, set, strong)?;
     negated(alloc, found.as_slice())
 }
 
@@ -294,12 +367,12 @@ fn count_wrong_ends(
     alloc: Global,
     list: &mut TermList,
     forms: &[Vec<PrintedStep>],
-    kind: EndKind,
+    demand: (EndKind, bool),
     set: LabelSet,
 ) -> Result<usize, Fail> {
     let demanded = pattern_set(alloc, set)?;
-    let found = list.find_ends(alloc, kind, &demanded, LIMIT)?;
-    let expected = ends_by_oracle(alloc, forms, kind, set)?;
+    let found = list.find_ends(alloc, demand.0, &demanded, demand.1, LIMIT)?;
+    let expected = ends_by_oracle(alloc, forms, demand, set)?;
     Ok(count_wrong(list, &found, expected.as_slice())?)
 }
 
@@ -309,10 +382,10 @@ fn assert_ends_of_kind(
     subject: &str,
     list: &mut TermList,
     forms: &[Vec<PrintedStep>],
-    kind: (&str, EndKind),
+    kind: (&str, EndKind, bool),
 ) -> Result<(), Fail> {
     for (number, set) in SETS.iter().enumerate() {
-        let wrong = count_wrong_ends(alloc, list, forms, kind.1, *set)?;
+        let wrong = count_wrong_ends(alloc, list, forms, (kind.1, kind.2), *set)?;
         assert_none(rt, subject, kind.0, number, wrong);
     }
     Ok(())
@@ -354,19 +427,25 @@ fn ends_of_each_kind_by_the_definition(rt: HostRuntime) -> Result<(), Fail> {
 }
 
 /// Whether more forms are reached than the bound, as ends of a kind are looked for.
-fn exceeds_bound(alloc: Global, text: &str, kind: EndKind, bound: usize) -> Result<bool, Fail> {
+fn exceeds_bound(
+    alloc: Global,
+    text: &str,
+    kind: EndKind,
+    strong: bool,
+    bound: usize,
+) -> Result<bool, Fail> {
     let mut list = TermList::new_normal(alloc, text)?;
     let set = pattern_set(alloc, NO_LABELS)?;
-    Ok(are_too_many(list.find_ends(alloc, kind, &set, bound))?)
+    Ok(are_too_many(list.find_ends(alloc, kind, &set, strong, bound))?)
 }
 
 #[test]
 fn at_most_as_many_forms_as_the_bound_for_each_kind(rt: HostRuntime) -> Result<(), Fail> {
     for (subject, text, count) in COUNTS {
-        for (_, kind) in KINDS {
-            let is_over = exceeds_bound(rt.alloc(), text, *kind, *count)?;
+        for (_, kind, strong) in KINDS {
+            let is_over = exceeds_bound(rt.alloc(), text, *kind, *strong, *count)?;
             assert_holds(&rt, subject, !is_over);
-            let is_over = exceeds_bound(rt.alloc(), text, *kind, count.saturating_sub(1))?;
+            let is_over = exceeds_bound(rt.alloc(), text, *kind, *strong, count.saturating_sub(1))?;
             assert_holds(&rt, subject, is_over);
         }
     }

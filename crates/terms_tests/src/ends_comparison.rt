@@ -138,7 +138,7 @@ fn count_wrong_coming(
 ) -> Result<usize, Fail> {
     let flags = set.flags(alloc, list.gates())?;
     let found = list.find_coming(alloc, &flags, LIMIT)?;
-    let expected = coming(alloc, forms, set)?;
+    let expected = coming(alloc, forms, set, true)?;
     Ok(count_wrong(list, &found, expected.as_slice())?)
 }
 

@@ -5,7 +5,7 @@ use super::runs::{
     Outcome, RUN, Run, SINGLE, Taken, WHOLE, expect, expect_broken, expect_refused_words,
     expect_unflushed, expect_unreadable,
 };
-use super::worked_texts::{MEETING, SERVER, VANISHING};
+use super::worked_texts::{LINK, MEETING, SERVER, VANISHING};
 use std::alloc::{AllocError, Global};
 use std::process::Abort;
 
@@ -268,6 +268,151 @@ const REFUSED_SETS: &[Row] = &[
     },
 ];
 
+/// Patterns whose end is about what can come after it.
+const FUTURES: &[Row] = &[
+    Row {
+        name: "internal steps that never end",
+        text: VANISHING,
+        words: &["lotosseq", "ever", "--explain", "<until> <livelock>"],
+        output: b"A B : A B\n",
+        message: b"",
+        status: 0,
+    },
+    Row {
+        name: "a label that can never come again",
+        text: VANISHING,
+        words: &["lotosseq", "ever", "--explain", "<until> <never> A"],
+        output: b"A B : A B\n",
+        message: b"",
+        status: 0,
+    },
+    Row {
+        name: "two labels that can never come again",
+        text: VANISHING,
+        words: &["lotosseq", "ever", "--explain", "<until> <never> A,B"],
+        output: b"A B : A B\n",
+        message: b"",
+        status: 0,
+    },
+    Row {
+        name: "nothing but internal steps can come",
+        text: VANISHING,
+        words: &["lotosseq", "ever", "--explain", "<until> <never> <any>"],
+        output: b"A B : A B\n",
+        message: b"",
+        status: 0,
+    },
+    Row {
+        name: "nothing but one label and internal steps can come",
+        text: VANISHING,
+        words: &["lotosseq", "ever", "--explain", "<until> <never> <not> A"],
+        output: b"A B : A B\n",
+        message: b"",
+        status: 0,
+    },
+    Row {
+        name: "internal steps can come, which are observed",
+        text: VANISHING,
+        words: &["lotosseq", "ever", "--strong", "<until> <never> <any>"],
+        output: b"",
+        message: NEVER,
+        status: 1,
+    },
+    Row {
+        name: "for ever with one label",
+        text: VANISHING,
+        words: &["lotosseq", "ever", "--explain", "<until> <forever> A"],
+        output: b"<empty> : <empty>\n",
+        message: b"",
+        status: 0,
+    },
+    Row {
+        name: "for ever with any labels",
+        text: VANISHING,
+        words: &["lotosseq", "ever", "--explain", "A <forever> <any>"],
+        output: b"A : A\n",
+        message: b"",
+        status: 0,
+    },
+    Row {
+        name: "a request without its response",
+        text: SERVER,
+        words: &[
+            "lotosseq",
+            "ever",
+            "--explain",
+            "<while> <any> REQ <forever> <not> RSP",
+        ],
+        output: b"REQ : REQ\n",
+        message: b"",
+        status: 0,
+    },
+    Row {
+        name: "a response can always still come",
+        text: SERVER,
+        words: &["lotosseq", "ever", "<until> <never> RSP"],
+        output: b"",
+        message: NEVER,
+        status: 1,
+    },
+    Row {
+        name: "no internal steps for ever",
+        text: SERVER,
+        words: &["lotosseq", "ever", "<until> <livelock>"],
+        output: b"",
+        message: NEVER,
+        status: 1,
+    },
+    Row {
+        name: "frames are lost for ever",
+        text: LINK,
+        words: &["lotosseq", "ever", "--explain", "<until> <livelock>"],
+        output: b"PUT : PUT\n",
+        message: b"",
+        status: 0,
+    },
+    Row {
+        name: "a message can always still be put",
+        text: LINK,
+        words: &["lotosseq", "ever", "<until> <never> PUT"],
+        output: b"",
+        message: NEVER,
+        status: 1,
+    },
+    Row {
+        name: "past its last label",
+        text: MEETING,
+        words: &["lotosseq", "ever", "--explain", "<until> <never> C"],
+        output: b"A B C : A i B i C\n",
+        message: b"",
+        status: 0,
+    },
+    Row {
+        name: "never at first",
+        text: MEETING,
+        words: &["lotosseq", "ever", "<never> C"],
+        output: b"",
+        message: NEVER,
+        status: 1,
+    },
+    Row {
+        name: "a label that comes in no state",
+        text: SERVER,
+        words: &["lotosseq", "ever", "--states=3", "<never> EXIT"],
+        output: b"<empty>\n",
+        message: b"",
+        status: 0,
+    },
+    Row {
+        name: "a state too many to be found",
+        text: SERVER,
+        words: &["lotosseq", "ever", "--states=2", "<never> EXIT"],
+        output: b"",
+        message: b"lotosseq: stopped: more than 2 states\n",
+        status: 4,
+    },
+];
+
 /// Searches with a bound on the states.
 const BOUNDS: &[Row] = &[
     Row {
@@ -413,6 +558,11 @@ fn sets_that_the_end_refuses(rt: HostRuntime) {
 }
 
 #[test]
+fn ends_about_what_can_come_after(rt: HostRuntime) {
+    expect_rows(&rt, rt.alloc(), FUTURES);
+}
+
+#[test]
 fn bounds_on_the_states(rt: HostRuntime) {
     expect_rows(&rt, rt.alloc(), BOUNDS);
 }
@@ -459,6 +609,26 @@ const PATTERNS: &[(&[&str], &[u8])] = &[
     (
         &["lotosseq", "ever", "<refuses>", "<not>"],
         b"lotosseq: E50 word 2 needs a label after it\n",
+    ),
+    (
+        &["lotosseq", "ever", "A", "<never>"],
+        b"lotosseq: E50 word 2 needs a label after it\n",
+    ),
+    (
+        &["lotosseq", "ever", "<until>", "<forever>", "<never>"],
+        b"lotosseq: E50 word 2 needs a label after it\n",
+    ),
+    (
+        &["lotosseq", "ever", "<never>", "A", "B"],
+        b"lotosseq: E43 word 3 follows an end element\n",
+    ),
+    (
+        &["lotosseq", "ever", "<livelock>", "<never>"],
+        b"lotosseq: E43 word 2 follows an end element\n",
+    ),
+    (
+        &["lotosseq", "ever", "<forever>", "i"],
+        b"lotosseq: E45 word 2 is i, which cannot be observed\n",
     ),
     (
         &["lotosseq", "ever", "<refuses>", "A", "B"],

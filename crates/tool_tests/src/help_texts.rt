@@ -241,7 +241,12 @@ Arguments:
                            if nothing can follow.
             <refuses> SET  no label, if the end refuses the set. `A <refuses> B` matches `A`, if a
                            state can be reached then where B is not possible. SET may be `<any>`.
-            <until> <deadlock>, <until> <refuses> SET
+            <livelock>     no label, if internal steps that never end begin at the end.
+            <forever> SET  no label, if steps that never end begin there, each internal or with a
+                           label of the set. SET may be `<any>`.
+            <never> SET    no label, if no label of the set can come any more, whatever happens.
+                           `<until> <never> B` tells whether `B` can become impossible.
+            <until> <deadlock>, <until> <refuses> SET, <until> <never> SET and so on
                            any number of labels, if the end is such.
          \x20
           Elements next to each other match labels next to each other: `A B` does not match
@@ -265,6 +270,9 @@ Options:
           reached before a match is found, the search stops with status 4. Each takes some
           150 to 600 bytes of memory. For example, for `a; b; stop` and the pattern `A B` the
           search stops with `--states 1`.
+         \x20
+          With `<livelock>`, `<forever>` and `<never>` all states of the specification that can
+          be reached are found first. If they are more, the search stops too.
          \x20
           [default: 1000000]
 

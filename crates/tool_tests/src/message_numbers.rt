@@ -50,6 +50,11 @@ const ROWS: &[Row] = &[
         last: &["<not>"],
         message: b"lotosseq: E50 word 301 needs a label after it\n",
     },
+    Row {
+        count: 150,
+        last: &["<never>"],
+        message: b"lotosseq: E51 word 301 is answered by ever alone\n",
+    },
 ];
 
 #[test]

@@ -339,6 +339,22 @@ const SETS: &[(&[&str], &[u8])] = &[
         &["<while>", "<not>", "<any>"],
         b"lotosseq: E50 word 2 needs a label after it\n",
     ),
+    (
+        &["<never>", "A"],
+        b"lotosseq: E51 word 1 is answered by ever alone\n",
+    ),
+    (
+        &["A", "<until>", "<LiveLock>"],
+        b"lotosseq: E51 word 3 is answered by ever alone\n",
+    ),
+    (
+        &["<forever>"],
+        b"lotosseq: E51 word 1 is answered by ever alone\n",
+    ),
+    (
+        &["<while>", "<never>", "A"],
+        b"lotosseq: E48 word 1 needs a label or <any> after it\n",
+    ),
 ];
 
 /// Expects that a search for the pattern of these words is refused before anything is read.

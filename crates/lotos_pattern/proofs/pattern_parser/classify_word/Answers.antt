@@ -13,4 +13,5 @@ returns-in-None c =
       while = λ reads. let equal = c.if-eq_ignore_ascii_case-4.ensures.test.1 reads in let z : ⊥ = cc in z;
       deadlock = λ reads. let equal = c.if-eq_ignore_ascii_case-5.ensures.test.1 reads in let z : ⊥ = cc in z;
       refuses = λ reads. let equal = c.if-eq_ignore_ascii_case-6.ensures.test.1 reads in let z : ⊥ = cc in z;
+      future = c.if-is_future.ensures;
     }

@@ -1,7 +1,7 @@
 use Rattle.std.proofs.Common.{◌≡◌, ◌+◌, arith, length}
 use Rattle.std.proofs.lemmas.List.{length-map}
 use Rattle.lotos_pattern.specs.Spelling.{IsNot, complement, texts_of}
-use Rattle.lotos_pattern.proofs.SpellingFaults.{angle_names_none, fault_not_alone, fault_not_internal, fault_not_none, nothing_names_none, numbered}
+use Rattle.lotos_pattern.proofs.SpellingFaults.{angle_names_none, fault_not_alone, fault_not_internal, fault_not_none, future_names_none, nothing_names_none, numbered}
 use Rattle.lotos_pattern.proofs.Words.{word_at}
 use Rattle.lotos_pattern.proofs.pattern_parser.parse_complement.Goals as goal
 
@@ -69,6 +69,13 @@ returns-in-Refuses-clause-fault c =
     fault_not_none c.args.strong (texts_of c.args.words.now) c.args.index _ (numbered _ _ IsNot c.requires.complement) _
     (word_at c.args.words.now (c.args.index + 1) _ (omega arith))
     c.requires.complement.such (angle_names_none _ _ _ is)
+
+pub returns-in-Future-clause-fault : goal.returns-in-Future-clause-fault
+returns-in-Future-clause-fault c =
+    let is = rw c.in-Future.is at c.in_ok-labels.ensures in
+    fault_not_none c.args.strong (texts_of c.args.words.now) c.args.index _ (numbered _ _ IsNot c.requires.complement) _
+    (word_at c.args.words.now (c.args.index + 1) _ (omega arith))
+    c.requires.complement.such (future_names_none _ _ is)
 
 pub returns-in-Unknown-clause-fault : goal.returns-in-Unknown-clause-fault
 returns-in-Unknown-clause-fault c =

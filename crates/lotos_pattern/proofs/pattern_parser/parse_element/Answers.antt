@@ -2,7 +2,7 @@ use Rattle.std.proofs.Common.{◌≡◌, ◌+◌, arith, inl, subst}
 use Rattle.std.proofs.lemmas.Result.{err_from_is_err_and}
 use Rattle.lotos_pattern.specs.Spelling.{Spelling, all, deadlock, end, named, one_of, some, texts_of}
 use Rattle.lotos_pattern.specs.WordKinds.{ParsesAt}
-use Rattle.lotos_pattern.proofs.SpellingFaults.{fault_internal, fault_nothing}
+use Rattle.lotos_pattern.proofs.SpellingFaults.{fault_future, fault_internal, fault_nothing}
 use Rattle.lotos_pattern.proofs.Growth.{spelled_too, spelled_by_one, spelled_by_two}
 use Rattle.lotos_pattern.proofs.Words.{word_at}
 use Rattle.lotos_pattern.proofs.pattern_parser.parse_element.Goals as goal
@@ -54,3 +54,8 @@ returns-in_err-refused-in-Refuses-clause-fault c =
 pub returns-in_ok-refused-in-Refuses-clause-element : goal.returns-in_ok-refused-in-Refuses-clause-element
 returns-in_ok-refused-in-Refuses-clause-element c =
     spelled_too (texts_of c.args.words.now) c.args.index _ (λ own. end) c.in_ok-refused-in-Refuses.ensures.set
+
+pub returns-in-Future-clause-fault : goal.returns-in-Future-clause-fault
+returns-in-Future-clause-fault c begins =
+    let is = rw c.in-Future.is at c.in_ok-labels.ensures in
+    fault_future c.args.strong (texts_of c.args.words.now) c.args.index _ (word_at c.args.words.now c.args.index _ c.requires) is (inl begins)

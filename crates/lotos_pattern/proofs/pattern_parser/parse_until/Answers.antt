@@ -2,7 +2,7 @@ use Rattle.std.proofs.Common.{◌≡◌, ◌+◌, arith, inl, length}
 use Rattle.std.proofs.lemmas.List.{length-map}
 use Rattle.std.proofs.lemmas.Result.{err_from_is_err_and}
 use Rattle.lotos_pattern.specs.Spelling.{IsUntil, Spelling, deadlock, named, texts_of, until_end, until_set}
-use Rattle.lotos_pattern.proofs.SpellingFaults.{any_ends_none, awaits_after_until, fault_internal, fault_until_alone, fault_until_none, nothing_ends_none, numbered, until_ends_none, while_ends_none}
+use Rattle.lotos_pattern.proofs.SpellingFaults.{any_ends_none, awaits_after_until, fault_future, fault_internal, fault_until_alone, fault_until_none, nothing_ends_none, numbered, until_ends_none, while_ends_none}
 use Rattle.lotos_pattern.proofs.Growth.{complement_spelled, spelled_after, spelled_by_two}
 use Rattle.lotos_pattern.proofs.Words.{word_at}
 use Rattle.lotos_pattern.proofs.pattern_parser.parse_until.Goals as goal
@@ -79,3 +79,9 @@ pub returns-in_ok-refused-in-Refuses-clause-element : goal.returns-in_ok-refused
 returns-in_ok-refused-in-Refuses-clause-element c =
     spelled_after (texts_of c.args.words.now) c.args.index _ (numbered _ _ IsUntil c.requires.until) (Spelling c.args.strong _) _ _
     (λ own. until_end c.requires.until.such) c.in_ok-refused-in-Refuses.ensures.set
+
+pub returns-in-Future-clause-fault : goal.returns-in-Future-clause-fault
+returns-in-Future-clause-fault c begins =
+    let is = rw c.in-Future.is at c.in_ok-labels.ensures in
+    fault_future c.args.strong (texts_of c.args.words.now) (c.args.index + 1) _ (word_at c.args.words.now (c.args.index + 1) _ (omega arith)) is
+    (awaits_after_until c.args.strong (texts_of c.args.words.now) c.args.index _ (numbered _ _ IsUntil c.requires.until) c.requires.until.such begins)

@@ -2,7 +2,7 @@ use Rattle.std.proofs.Common.{◌≡◌, arith, inr, length}
 use Rattle.std.proofs.lemmas.List.{length-map}
 use Rattle.std.proofs.lemmas.Result.{err_from_is_err_and}
 use Rattle.lotos_pattern.specs.Spelling.{WideSetSpelling, all, named, some, texts_of}
-use Rattle.lotos_pattern.proofs.SpellingFaults.{deadlock_begins_no_set, fault_internal, no_set_here, nothing_begins_no_set, refuses_begins_no_set, until_begins_no_set}
+use Rattle.lotos_pattern.proofs.SpellingFaults.{deadlock_begins_no_set, fault_internal, future_begins_no_set, no_set_here, nothing_begins_no_set, refuses_begins_no_set, until_begins_no_set}
 use Rattle.lotos_pattern.proofs.SpellingFaults.{while_begins_no_set}
 use Rattle.lotos_pattern.proofs.Growth.{complement_spelled, spelled_too, spelled_by_one}
 use Rattle.lotos_pattern.proofs.Words.{word_at}
@@ -59,6 +59,11 @@ pub returns-in-Refuses-clause-set : goal.returns-in-Refuses-clause-set
 returns-in-Refuses-clause-set c =
     let is = rw c.in-Refuses.is at c.in_ok-labels.ensures in
     no_set_here c.args.strong (texts_of c.args.words.now) c.args.index _ (word_at c.args.words.now c.args.index _ (omega arith)) (refuses_begins_no_set _ _ is)
+
+pub returns-in-Future-clause-set : goal.returns-in-Future-clause-set
+returns-in-Future-clause-set c =
+    let is = rw c.in-Future.is at c.in_ok-labels.ensures in
+    no_set_here c.args.strong (texts_of c.args.words.now) c.args.index _ (word_at c.args.words.now c.args.index _ (omega arith)) (future_begins_no_set _ _ is)
 
 pub returns-in-Unknown-clause-set : goal.returns-in-Unknown-clause-set
 returns-in-Unknown-clause-set c =

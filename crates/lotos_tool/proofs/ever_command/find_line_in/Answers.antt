@@ -1,9 +1,9 @@
 use Rattle.std.proofs.Common.{ap, refl, subst, sym, ◌∙◌}
 use Rattle.std.specs.Prelude.{Err}
 use Rattle.std.proofs.lemmas.Result.{err_from_is_err_and}
-use Rattle.lotos_ever.specs.MatchQuestions.{IsAnswer, IsFound, match_question_of}
+use Rattle.lotos_ever.specs.MatchQuestions.{IsAnswerTo, IsFoundTo, match_question_of}
 use Rattle.lotos_tool.specs.EverParts.{IsEverQuestionFor}
-use Rattle.lotos_tool.specs.EverOutcome.{item_of}
+use Rattle.lotos_tool.specs.EverOutcome.{EverQuestion, item_of}
 use Rattle.lotos_output.specs.OutputLines.{IsItemOf}
 use Rattle.lotos_tool.proofs.MatchOutcomes.{handed_on, out_of_memory, shown_now}
 use Rattle.lotos_tool.proofs.ever_command.find_line_in.Goals as goal
@@ -12,9 +12,9 @@ pub returns-in_err-found-clause-none : goal.returns-in_err-found-clause-none
 returns-in_err-found-clause-none g c = λ system is.
     let halt = err_from_is_err_and c.from_residual.result c.from_residual.ensures.1 in
     let p = c.args.pattern.now in
-    let q = match_question_of c.args.table.now p in
+    let q : EverQuestion = record { matches = match_question_of c.args.table.now p.pattern; kind = p.kind } in
     let asked : IsEverQuestionFor system p q = record {
-      question = c.table_has_match_question.ensures system c.args.table.now p is c.recall_sound.ensures.sound;
+      question = c.table_has_match_question.ensures system c.args.table.now p.pattern is c.recall_sound.ensures.sound;
       pattern = refl;
     } in
     handed_on _ c.in_err-found.field-0.0 c.args.request.now system p q (halt.1 ∙ ap (λ v. Err v) halt.2) asked c.in_err-found.ensures.too_many_states
@@ -22,10 +22,10 @@ returns-in_err-found-clause-none g c = λ system is.
 pub format_match-requires : goal.format_match-requires
 format_match-requires g c =
     let p = c.args.pattern.now in
-    let q = match_question_of c.args.table.now p in
-    let found : IsFound q c.in-Some.found = subst (IsAnswer q) c.in-Some.is c.in_ok-found.ensures.answer in
+    let q : EverQuestion = record { matches = match_question_of c.args.table.now p.pattern; kind = p.kind } in
+    let found : IsFoundTo q.matches q.kind c.in-Some.found = subst (IsAnswerTo q.matches q.kind) c.in-Some.is c.in_ok-found.ensures.answer in
     let item = item_of q found.run in
-    let shown = shown_now c.args.table.now c.find_shortest_match_with_progress.new.table p c.in-Some.found c.in_ok-found.ensures.grows found in
+    let shown = shown_now c.args.table.now c.find_shortest_match_with_end.new.table p.pattern p.kind c.in-Some.found c.in_ok-found.ensures.grows found in
     record {
       printed = (
         item,
@@ -43,23 +43,23 @@ returns-in_err-format_match-in-Some-clause-none g c = λ system is.
 pub returns-in_ok-format_match-in-Some-clause-line : goal.returns-in_ok-format_match-in-Some-clause-line
 returns-in_ok-format_match-in-Some-clause-line g c = λ system is.
     let p = c.args.pattern.now in
-    let q = match_question_of c.args.table.now p in
-    let found : IsFound q c.in-Some.found = subst (IsAnswer q) c.in-Some.is c.in_ok-found.ensures.answer in
+    let q : EverQuestion = record { matches = match_question_of c.args.table.now p.pattern; kind = p.kind } in
+    let found : IsFoundTo q.matches q.kind c.in-Some.found = subst (IsAnswerTo q.matches q.kind) c.in-Some.is c.in_ok-found.ensures.answer in
     let asked : IsEverQuestionFor system p q = record {
-      question = c.table_has_match_question.ensures system c.args.table.now p is c.recall_sound.ensures.sound;
+      question = c.table_has_match_question.ensures system c.args.table.now p.pattern is c.recall_sound.ensures.sound;
       pattern = refl;
     } in
     let item = item_of q found.run in
     let shown = subst (λ names. IsItemOf names c.in-Some.found.sequence.items c.in-Some.found.word.items item) (sym c.gates.ensures)
-    (shown_now c.args.table.now c.find_shortest_match_with_progress.new.table p c.in-Some.found c.in_ok-found.ensures.grows found) in
+    (shown_now c.args.table.now c.find_shortest_match_with_end.new.table p.pattern p.kind c.in-Some.found c.in_ok-found.ensures.grows found) in
     (q, asked, (found.run, found.first, c.in_ok-format_match-in-Some.ensures item shown))
 
 pub returns-in-None-clause-line : goal.returns-in-None-clause-line
 returns-in-None-clause-line g c = λ system is.
     let p = c.args.pattern.now in
-    let q = match_question_of c.args.table.now p in
+    let q : EverQuestion = record { matches = match_question_of c.args.table.now p.pattern; kind = p.kind } in
     let asked : IsEverQuestionFor system p q = record {
-      question = c.table_has_match_question.ensures system c.args.table.now p is c.recall_sound.ensures.sound;
+      question = c.table_has_match_question.ensures system c.args.table.now p.pattern is c.recall_sound.ensures.sound;
       pattern = refl;
     } in
-    (q, asked, subst (IsAnswer q) c.in-None.is c.in_ok-found.ensures.answer)
+    (q, asked, subst (IsAnswerTo q.matches q.kind) c.in-None.is c.in_ok-found.ensures.answer)
