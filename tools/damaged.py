@@ -184,6 +184,7 @@ WORDS = [
     "search --length 3 <until> <refuses> A,B",
     "search --depth 4 --strong --explain <while> <any> <refuses> <not> i",
     "search --depth 3 A <refuses> <any>",
+    "search --depth 3 A <until> <never> B",
     "search --length=1 --depth=1 A",
     "search --length 256 A",
     "search --depth 1 -- A",
@@ -206,10 +207,10 @@ WORDS = [
 OTHERS = (
     "search check after help --help -h --depth --length --limit --terms --after --explain --strong --known -- - --depth=1 --depth= 0 1 3 4 255 256 -1 "
     "+2 007 99999999999999999999 1e3 0x1 1000000 1000001 1000000000 1000000001 A B a exit EXIT i I <any> <until> <while> "
-    "<deadlock> <refuses> <ANY> <empty> <foo> A-B A_1 1A _A <any <any>> <not> A,B A,A i,A A, ,A A,,B , A,<any> "
+    "<deadlock> <refuses> <livelock> <forever> <never> <ANY> <empty> <foo> A-B A_1 1A _A <any <any>> <not> A,B A,A i,A A, ,A A,,B , A,<any> "
     "\u00e4 \u017f \u212a A\xa0B A\xa0\xa0B i\xa0A A\xa0:\xa0A : <empty>\xa0:\xa0i"
 ).split(" ") + [""]
-ELEMENTS = "A B a exit EXIT i I C A,B b,exit,b <any> <not> <until> <while> <deadlock> <refuses> <ANY> <Not> <Until> <WHILE>".split(" ")
+ELEMENTS = "A B a exit EXIT i I C A,B b,exit,b <any> <not> <until> <while> <deadlock> <refuses> <ANY> <Not> <Until> <WHILE> <Never>".split(" ")
 
 
 def row_of(words):
