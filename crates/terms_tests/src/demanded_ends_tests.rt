@@ -259,7 +259,7 @@ const STRONG_ROWS: &[Row] = &[
 ];
 
 /// The set as patterns have it.
-fn pattern_set(alloc: Global, set: LabelSet) -> Result<lotos_pattern::LabelSet, AllocError> {
+pub fn pattern_set(alloc: Global, set: LabelSet) -> Result<lotos_pattern::LabelSet, AllocError> {
     let mut labels = Vec::new(alloc);
     for name in set.names {
         labels.push(String::from_str(alloc, name)?)?;
@@ -323,7 +323,7 @@ fn assert_end(rt: &impl Abort, words: &str, found: bool, expected: bool) {
 }
 
 /// The labels of no set.
-const NO_LABELS: LabelSet = LabelSet {
+pub const NO_LABELS: LabelSet = LabelSet {
     names: &[],
     is_complement: false,
 };

@@ -17,6 +17,13 @@ pub fn names_of(alloc: Global, checked: &Checked) -> Result<Vec<String>, AllocEr
     Ok(names)
 }
 
+/// The texts of names.
+pub fn texts_of(alloc: Global, names: &[Name]) -> Result<Vec<String>, AllocError> {
+    let mut texts = Vec::new(alloc);
+    add_names(alloc, &mut texts, names)?;
+    Ok(texts)
+}
+
 fn add_names(alloc: Global, into: &mut Vec<String>, names: &[Name]) -> Result<(), AllocError> {
     for name in names {
         add_name(alloc, into, name)?;

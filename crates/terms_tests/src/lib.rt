@@ -28,6 +28,10 @@ mod label_set;
 #[cfg(test)]
 mod large_terms;
 #[cfg(test)]
+mod lasso_tests;
+#[cfg(test)]
+mod lasso_walk;
+#[cfg(test)]
 mod normal_step_tests;
 #[cfg(test)]
 mod operator_tests;
