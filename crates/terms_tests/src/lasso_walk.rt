@@ -5,8 +5,8 @@ use lotos_ends::Lasso;
 use lotos_terms::Label;
 use std::alloc::{AllocError, Global};
 
-/// Whether steps with the labels of the row and then twice with those of the loop begin at the form, each internal or with
-/// a label of the set, and whether the loop has a label.
+/// Whether steps with the labels of the row and then twice with those of the loop begin at the form, each internal or
+/// with a label of the set, and whether the loop has a label.
 pub fn is_lasso(
     alloc: Global,
     forms: &[Vec<PrintedStep>],
