@@ -32,7 +32,7 @@ fn followed(
 ) -> Result<Vec<bool>, AllocError> {
     let mut now = at;
     for label in labels {
-        now = followed_once(alloc, forms, now.as_slice(), set, *label)?;
+        now = followed_once(alloc, forms, now.as_slice(), set, label)?;
     }
     Ok(now)
 }
@@ -42,22 +42,26 @@ fn followed_once(
     forms: &[Vec<PrintedStep>],
     at: &[bool],
     set: LabelSet,
-    label: Label,
+    label: &Label,
 ) -> Result<Vec<bool>, AllocError> {
     let mut next = vec![in alloc; false; forms.len()]?;
     for (steps, is_here) in forms.iter().zip(at) {
-        if *is_here {
-            mark_targets(steps.as_slice(), set, label, next.as_mut_slice());
-        }
+        mark_targets(steps.as_slice(), *is_here, set, label, next.as_mut_slice());
     }
     Ok(next)
 }
 
-/// Marks the forms to which steps with the label lead, if the label is internal or in the set.
-fn mark_targets(steps: &[PrintedStep], set: LabelSet, label: Label, next: &mut [bool]) {
+/// Marks the forms to which steps with the label lead, if the walk is here and the label is internal or in the set.
+fn mark_targets(
+    steps: &[PrintedStep],
+    is_here: bool,
+    set: LabelSet,
+    label: &Label,
+    next: &mut [bool],
+) {
     for step in steps {
         let text = step.text.as_str();
-        if step.label == label && (text == "i" || set.contains(text)) {
+        if is_here && step.label == *label && (text == "i" || set.contains(text)) {
             mark(next, step.to);
         }
     }
