@@ -47,6 +47,26 @@ abbrev pub run_text : (explain : Bool) → List Label → List ℕ
 run_text false run = []
 run_text true run = codes " : " ++ sequence_text run
 
+-- the labels of a row as text, with a blank after it, if there are any
+abbrev pub row_text : List Label → List ℕ
+row_text [] = []
+row_text (l ∷ rest) = sequence_text (l ∷ rest) ++ codes " "
+
+-- steps that go round, as text: ` <forever> `, the labels of a row, and in brackets those of a loop
+abbrev pub round_text : (row loop : List Label) → List ℕ
+round_text row loop = codes " <forever> " ++ row_text row ++ codes "[" ++ sequence_text loop ++ codes "]"
+
+-- what follows the run in the line of a match: nothing, or with `explain` steps that go round, if there are such
+abbrev pub round_text_if : (explain : Bool) → Option (List Label × List Label) → List ℕ
+round_text_if false round = []
+round_text_if true None = []
+round_text_if true (Some (row, loop)) = round_text row loop
+
+-- the line of a match, ended by a line feed
+abbrev pub match_line : (explain : Bool) → Item → Option (List Label × List Label) → List ℕ
+match_line explain item round =
+    sequence_text item.sequence ++ run_text explain item.run ++ round_text_if explain round ++ 10 ∷ []
+
 -- the line of an item, ended by a line feed
 abbrev pub line_of : (explain : Bool) → Item → List ℕ
 line_of explain item = sequence_text item.sequence ++ run_text explain item.run ++ 10 ∷ []

@@ -3,7 +3,8 @@ ghost use Rattle.std.specs.Prelude.{◌≡◌, ◌∷◌, [], ◌++◌, IfOk, Li
 ghost use Rattle.lotos_check.specs.CheckedView.{process_of};
 ghost use Rattle.lotos_listing.specs.Order.{Label as Text};
 ghost use Rattle.lotos_listing.specs.Question.{ArePrinted};
-ghost use Rattle.lotos_output.specs.OutputLines.{IsTextOf, functionality_text, next_lines, process_line, run_text, sequence_text};
+ghost use Rattle.lotos_output.specs.OutputLines.{IsTextOf, functionality_text, next_lines, process_line, round_text, row_text, run_text};
+ghost use Rattle.lotos_output.specs.OutputLines.{sequence_text};
 
 use itoa::Buffer;
 use lotos_check::Process;
@@ -65,12 +66,28 @@ pub fn format_line(
     ensures { IfOk result (λ line. (w : List Text) → ArePrinted gates.now run.now w →
         line.items ≡ text.now ++ run_text explain w ++ 10 ∷ []) }
 {
+    let mut line = format_explained(alloc, gates, text, run, explain)?;
+    line.push(b'\n')?;
+    Ok(line)
+}
+
+/// What a line begins with: the text, with `explain` ` : ` and the run.
+pub fn format_explained(
+    alloc: Global,
+    gates: &[Name],
+    text: &str,
+    run: &[Label],
+    explain: bool,
+) -> Result<Vec<u8>, AllocError>
+    requires { (w : List Text) × ArePrinted gates.now run.now w }
+    ensures { IfOk result (λ line. (w : List Text) → ArePrinted gates.now run.now w →
+        line.items ≡ text.now ++ run_text explain w) }
+{
     let mut line = Vec::with_capacity(alloc, text.len() + 1)?;
     line.extend_from_slice(text.as_bytes())?;
     if explain {
         append_run(alloc, gates, run, &mut line)?;
     }
-    line.push(b'\n')?;
     Ok(line)
 }
 
@@ -88,6 +105,50 @@ fn append_run(
     let text = format_sequence(alloc, gates, run)?;
     line.extend_from_slice(b" : ")?;
     line.extend_from_slice(text.as_bytes())
+}
+
+/// Appends steps that go round: ` <forever> `, the labels of a row and a blank, if there are any, and in brackets those
+/// of a loop. The gates have these names.
+pub fn append_round(
+    alloc: Global,
+    gates: &[Name],
+    row: &[Label],
+    turn: &[Label],
+    line: &mut Vec<u8>,
+) -> Result<(), AllocError>
+    requires row { (r : List Text) × ArePrinted gates.now row.now r }
+    requires turn { (s : List Text) × ArePrinted gates.now turn.now s }
+    ensures { OnOk result ((r s : List Text) → ArePrinted gates.now row.now r → ArePrinted gates.now turn.now s →
+        line.new.items ≡ line.old.items ++ round_text r s) }
+{
+    line.extend_from_slice(b" <forever> ")?;
+    append_row(alloc, gates, row, line)?;
+    let text = format_sequence(alloc, gates, turn)?;
+    line.push(b'[')?;
+    line.extend_from_slice(text.as_bytes())?;
+    line.push(b']')?;
+    Ok(())
+}
+
+/// Appends the labels of a row and a blank, if there are any labels.
+fn append_row(
+    alloc: Global,
+    gates: &[Name],
+    row: &[Label],
+    line: &mut Vec<u8>,
+) -> Result<(), AllocError>
+    requires { (r : List Text) × ArePrinted gates.now row.now r }
+    ensures { OnOk result ((r : List Text) → ArePrinted gates.now row.now r →
+        line.new.items ≡ line.old.items ++ row_text r) }
+{
+    match format_labels(alloc, gates, row)? {
+        None => Ok(()),
+        Some(text) => {
+            line.extend_from_slice(text.as_bytes())?;
+            line.push(b' ')?;
+            Ok(())
+        }
+    }
 }
 
 /// The lines of what can come after a sequence: these labels, and then `<deadlock>` if it can end in one (`dead`). The
