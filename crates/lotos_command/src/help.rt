@@ -275,7 +275,11 @@ pub(crate) const EVER_EXPLAIN_LONG_HELP: &str = "Writes the run of the derivatio
 
 The line is then the sequence, ` : ` and a run: the labels of the derivation, internal
 steps included. For example, `i; i; a; stop` with `--explain A` gives
-  A : i i A";
+  A : i i A
+
+If the pattern ends with `<livelock>` or `<forever> SET`, the line goes on with steps that
+never end: ` <forever> `, the labels of some steps, and in brackets those of a loop, which
+can be repeated for ever. `A : A <forever> i [B C]` means A, i, B, C, B, C and so on.";
 
 pub(crate) const EVER_STRONG_LONG_HELP: &str = "Makes the internal action `i` a label like others
 

@@ -34,13 +34,13 @@ told_was_read request system p got got' (Stopped cause) h = refl
 pub line_told : (request : EverRequest) (system : System) (p : EverPattern) (line : Vec ℕ Global) (got got' : Option (List ℕ)) (ended : EverEnded) →
     HasLine request system p (Some line) → IsWritten line.items got got' ended → IsOutcomeFor request system p got got' ended
 line_told request system p line got got' Matched has h =
-    (has.0, has.1, record { run = has.2.0; first = has.2.1; written = subst (Appends got got') has.2.2 h })
+    (has.0, has.1, record { line = line.items; of_match = has.2; written = h })
 line_told request system p line got got' NoMatch has h = absurd h
 line_told request system p line got got' (Refused cause) has h = absurd h
 line_told request system p line got got' (Stopped why.TooManyStates) has h = absurd h
 line_told request system p line got got' (Stopped why.Memory) has h = absurd h
 line_told request system p line got got' (Stopped why.Write) has h =
-    (has.0, has.1, record { run = has.2.0; first = has.2.1; written = subst (AppendsBeginning got got') has.2.2 h })
+    (has.0, has.1, record { line = line.items; of_match = has.2; written = h })
 line_told request system p line got got' (Stopped why.Flush) has h = absurd h
 
 -- the outcome if there is no match

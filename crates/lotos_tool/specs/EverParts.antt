@@ -4,15 +4,17 @@ use Rattle.std.specs.Io.KnownBytes.{Appends, Keeps}
 use Rattle.std.specs.declared.vec.Vec.{Vec}
 use Rattle.std.specs.declared.alloc.Global.{Global}
 use Rattle.lotos_check.specs.Flat.{System}
+use Rattle.lotos_check.specs.NameLists.{Name}
 use Rattle.lotos_pattern.specs.declared.ever_pattern.EverPattern.{EverPattern}
 use Rattle.lotos_listing.specs.Order.{Label}
+use Rattle.lotos_listing.specs.Question.{ArePrinted}
+use Rattle.lotos_ends.specs.declared.lasso.Lasso.{Lasso}
 use Rattle.lotos_ever.specs.EndTests.{ReachesTooMany}
-use Rattle.lotos_ever.specs.MatchQuestions.{IsFirstMatchToOf, IsMatchQuestionOf, IsMatchToOf}
+use Rattle.lotos_ever.specs.MatchQuestions.{IsMatchQuestionOf, IsMatchToOf}
 use Rattle.lotos_ever.specs.declared.found.Halt.{Halt}
 use Rattle.lotos_ever.specs.declared.found.Halt.TheVariants as halt
 use Rattle.lotos_device.specs.ByteOutput.{AppendsBeginning}
-use Rattle.lotos_tool.specs.EverOutcome.{EverQuestion, IsMatchWritten, IsMatchLineCut, IsNoMatch, IsTooManyStates, item_of, pattern_of}
-use Rattle.lotos_output.specs.OutputLines.{line_of}
+use Rattle.lotos_tool.specs.EverOutcome.{EverQuestion, IsMatchLine, IsMatchWritten, IsMatchLineCut, IsNoMatch, IsTooManyStates, pattern_of}
 use Rattle.lotos_tool.specs.QuestionParts.{ForQuestion}
 use Rattle.lotos_report.specs.declared.outcome.EverEnded.{EverEnded}
 use Rattle.lotos_report.specs.declared.outcome.EverEnded.TheVariants.{Matched, NoMatch, Refused, Stopped}
@@ -27,8 +29,15 @@ pub record IsEverQuestionFor (system : System) (p : EverPattern) (q : EverQuesti
 -- the line of the first match, or `None` if the question has no match
 abbrev pub IsLineOf : EverRequest → EverQuestion → Option (Vec ℕ Global) → Type 0
 IsLineOf request q None = (run : List Label) → IsMatchToOf q.matches q.kind run → ⊥
-IsLineOf request q (Some line) =
-    (run : List Label) × IsFirstMatchToOf q.matches q.kind run × (line.items ≡ line_of request.explain (item_of q run))
+IsLineOf request q (Some line) = IsMatchLine request q line.items
+
+-- the labels of a lasso have these printed texts, and where there is none there are no texts
+abbrev pub IsRoundOf : List Name → Option Lasso → Option (List Label × List Label) → Type 0
+IsRoundOf names None None = Unit {0}
+IsRoundOf names None (Some round) = ⊥
+IsRoundOf names (Some lasso) None = ⊥
+IsRoundOf names (Some lasso) (Some (row, loop)) =
+    ArePrinted names lasso.row.items row × ArePrinted names lasso.turn.items loop
 
 -- the line of the first match of the pattern in the system, or `None` if there is no match
 abbrev pub HasLine : EverRequest → System → EverPattern → Option (Vec ℕ Global) → Type 0

@@ -5,8 +5,9 @@ ghost use Rattle.lotos_check.specs.CheckedView.{system_of};
 ghost use Rattle.lotos_check.specs.Flat.{System};
 ghost use Rattle.lotos_terms.specs.TableView.{IsTableOf};
 ghost use Rattle.lotos_tool.specs.EverOutcome.{AreEverParts, EverOutcome, is_ever_input_fault, is_ever_output_fault};
-ghost use Rattle.lotos_tool.specs.EverParts.{HasLine, HasNoLine, IsEndWithoutMatch, IsOutcomeFor, IsWritten};
-ghost use Rattle.lotos_output.specs.OutputLines.{Item, IsItemOf, line_of};
+ghost use Rattle.lotos_tool.specs.EverParts.{HasLine, HasNoLine, IsEndWithoutMatch, IsOutcomeFor, IsRoundOf, IsWritten};
+ghost use Rattle.lotos_listing.specs.Order.{Label as Text};
+ghost use Rattle.lotos_output.specs.OutputLines.{Item, IsItemOf, match_line, round_text_if};
 ghost use Rattle.lotos_tool.specs.RefusalCauses.{IsEverRefusal};
 ghost use Rattle.lotos_tool.specs.Rejections.{IsRejectionBy, is_input_failure};
 
@@ -16,11 +17,14 @@ use crate::specification_input::read_specification;
 use lotos_check::Checked;
 use lotos_command::EverRequest;
 use lotos_device::{DeviceFailed, Sink, Source};
+use lotos_ends::Lasso;
 use lotos_ever::laws::table_has_match_question;
-use lotos_ever::{Found, Halt, find_shortest_match_with_end};
+use lotos_ever::{EndedMatch, Halt, find_shortest_match_with_end};
 use lotos_listing::Progress;
 use lotos_normal::NormalTable;
-use lotos_output::{OutputProgress, format_line, format_sequence, write_and_flush};
+use lotos_output::{
+    OutputProgress, append_round, format_explained, format_sequence, write_and_flush,
+};
 use lotos_pattern::EverPattern;
 use lotos_report::{EverEnded, EverWhy};
 use lotos_text::Name;
@@ -139,26 +143,59 @@ fn find_line_in<P: Progress>(
     table_has_match_question();
     table.recall_sound();
     match find_shortest_match_with_end(alloc, table, pattern, request.states, progress)? {
-        Some(found) => Ok(Some(format_match(alloc, table.gates(), &found, request.explain)?)),
+        Some(ended) => Ok(Some(format_match(alloc, table.gates(), &ended, request.explain)?)),
         None => Ok(None),
     }
 }
 
-/// The line of a match: its sequence, with `explain` its run, and a line feed. The gates have these names.
+/// The line of a match: its sequence, with `explain` its run and the steps that go round where it ends, if there are
+/// such, and a line feed. The gates have these names.
 fn format_match(
     alloc: Global,
     gates: &[Name],
-    found: &Found,
+    ended: &EndedMatch,
     explain: bool,
 ) -> Result<Vec<u8>, AllocError>
     requires printed { (item : Item) ×
-        IsItemOf gates.now found.now.sequence.items found.now.word.items item }
-    ensures { IfOk result (λ line. (item : Item) →
-        IsItemOf gates.now found.now.sequence.items found.now.word.items item →
-        line.items ≡ line_of explain item) }
+        IsItemOf gates.now ended.now.found.sequence.items ended.now.found.word.items item }
+    requires round { (round : Option (List Text × List Text)) × IsRoundOf gates.now ended.now.lasso round }
+    ensures { IfOk result (λ line. (item : Item) (round : Option (List Text × List Text)) →
+        IsItemOf gates.now ended.now.found.sequence.items ended.now.found.word.items item →
+        IsRoundOf gates.now ended.now.lasso round → line.items ≡ match_line explain item round) }
 {
-    let text = format_sequence(alloc, gates, found.sequence.as_slice())?;
-    format_line(alloc, gates, text.as_str(), found.word.as_slice(), explain)
+    let text = format_sequence(alloc, gates, ended.found.sequence.as_slice())?;
+    let run = ended.found.word.as_slice();
+    let mut line = format_explained(alloc, gates, text.as_str(), run, explain)?;
+    if explain {
+        append_lasso(alloc, gates, &ended.lasso, &mut line)?;
+    }
+    line.push(b'\n')?;
+    Ok(line)
+}
+
+/// Appends the steps that go round, if there are such.
+fn append_lasso(
+    alloc: Global,
+    gates: &[Name],
+    lasso: &Option<Lasso>,
+    line: &mut Vec<u8>,
+) -> Result<(), AllocError>
+    requires { (round : Option (List Text × List Text)) × IsRoundOf gates.now lasso.now round }
+    ensures { OnOk result ((round : Option (List Text × List Text)) → IsRoundOf gates.now lasso.now round →
+        line.new.items ≡ line.old.items ++ round_text_if true round) }
+{
+    match lasso {
+        None => Ok(()),
+        Some(lasso) => {
+            append_round(
+                alloc,
+                gates,
+                lasso.row.as_slice(),
+                lasso.turn.as_slice(),
+                line,
+            )
+        }
+    }
 }
 
 /// Writes the line of a match and flushes the output. Returns how the command ends.

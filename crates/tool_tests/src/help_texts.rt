@@ -282,6 +282,10 @@ Options:
           The line is then the sequence, ` : ` and a run: the labels of the derivation, internal
           steps included. For example, `i; i; a; stop` with `--explain A` gives
             A : i i A
+         \x20
+          If the pattern ends with `<livelock>` or `<forever> SET`, the line goes on with steps that
+          never end: ` <forever> `, the labels of some steps, and in brackets those of a loop, which
+          can be repeated for ever. `A : A <forever> i [B C]` means A, i, B, C, B, C and so on.
 
       --strong
           Makes the internal action `i` a label like others
