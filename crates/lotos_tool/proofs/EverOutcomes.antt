@@ -1,6 +1,5 @@
 -- The outcome of `ever` for the request and the text, from that for a system and a pattern.
-use Rattle.std.proofs.Common.{◌≡◌, ℕ, Bool, List, None, Option, Some, false, refl, sym, subst}
-use Rattle.std.specs.Io.KnownBytes.{Appends}
+use Rattle.std.proofs.Common.{◌≡◌, ℕ, List, None, Option, Some, false, refl, sym, subst}
 use Rattle.std.proofs.KnownBytes.{Keeps-refl}
 use Rattle.std.specs.declared.vec.Vec.{Vec}
 use Rattle.std.specs.declared.alloc.Global.{Global}
@@ -8,7 +7,6 @@ use Rattle.lotos_check.specs.Flat.{System}
 use Rattle.lotos_pattern.specs.Patterns.{Pattern}
 use Rattle.lotos_pattern.specs.declared.ever_pattern.EverPattern.{EverPattern}
 use Rattle.lotos_pattern.specs.Spelling.{PatternOf}
-use Rattle.lotos_device.specs.ByteOutput.{AppendsBeginning}
 use Rattle.lotos_tool.specs.EverOutcome.{AreEverParts, EverOutcome, EverQuestion, IsEverQuestionOfText, is_ever_input_fault}
 use Rattle.lotos_tool.specs.EverParts.{HasLine, IsEndWithoutMatch, IsEverQuestionFor, IsOutcomeFor, IsWritten}
 use Rattle.lotos_tool.specs.QuestionParts.{ReadsAccepted, ever_words_of, words_of}
