@@ -68,7 +68,8 @@ pub same_processes : (whole : DefinitionView) (s r : System) → IsDistinct whol
 same_processes whole s r distinct h k =
     one_processes (processes_of whole) (λ v i. visible_distinct whole distinct v (inr i)) s.processes r.processes h.processes k.processes
 
-same_system : (f g : List Name) (b c : Flat) (ps qs : List FlatProcess) → f ≡ g → b ≡ c → ps ≡ qs →
+-- systems with the same parts are the same
+pub same_system : (f g : List Name) (b c : Flat) (ps qs : List FlatProcess) → f ≡ g → b ≡ c → ps ≡ qs →
     ◌≡◌ {A = System} (record { formals = f; start = b; processes = ps }) (record { formals = g; start = c; processes = qs })
 same_system f g b c ps qs e h k = rw (e, h, k) refl
 

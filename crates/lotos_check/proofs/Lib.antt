@@ -36,5 +36,6 @@ pub mod CalledProcesses
 pub mod DuplicateNames
 pub mod UsedGates
 pub mod RankedCalls
+pub mod HiddenGates
 pub mod CheckedInvariants
 pub mod AcceptedTexts

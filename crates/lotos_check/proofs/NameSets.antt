@@ -10,8 +10,7 @@ use Rattle.std.proofs.lemmas.List.Filters.{dedup_is}
 use Rattle.std.proofs.lemmas.List.Kept.{Contains-dedup, Contains-from_dedup, IsStrictlySortedBy-dedup}
 use Rattle.std.proofs.lemmas.List.Sorted.{Contains-permutation, IsPermutation-sym}
 use Rattle.std.proofs.lemmas.Slice.Eq.{bytes_eq-Decides}
-use Rattle.lotos_text.specs.declared.ast.Placed.{Placed}
-use Rattle.lotos_check.specs.NameLists.{Name, In, texts, IsAscendingNames, none, one, more, IsSetOf}
+use Rattle.lotos_check.specs.NameLists.{Name, In, IsAscendingNames, none, one, more}
 use Rattle.lotos_check.proofs.ListIndices.{contains_in, in_contains}
 use Rattle.lotos_check.proofs.NameOrder.{below_from_less}
 
@@ -37,11 +36,3 @@ sorted_names old sorted new moved orders filtered =
             (Contains-dedup nat_list_eq_equiv equal sorted n (Contains-permutation old sorted n moved (in_contains old n i))))),
       ),
     )
-
--- the names of a list, sorted and without repeats, are its set
-pub sorted_set : (old sorted new : List Name) (list : List Placed) → old ≡ texts list → IsPermutation old sorted →
-    IsSorted (slice_cmp nat_cmp) sorted →
-    IsFiltered (DiffersFromLast bytes_eq) [] sorted new → IsSetOf new list
-sorted_set old sorted new list all moved orders filtered =
-    let set = sorted_names old sorted new moved orders filtered in
-    record { ascends = set.0; same = λ n. subst (λ names. In n new ↔ In n names) all (set.1 n) }

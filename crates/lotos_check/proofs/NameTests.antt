@@ -1,8 +1,9 @@
 -- Whether something is among the keys of a set.
-use Rattle.std.proofs.Common.{◌≡◌, ◌⊎◌, ◌∙◌, List, [], ◌∷◌, map, refl, sym, inl, inr, Bool, true, false}
+use Rattle.std.proofs.Common.{◌≡◌, ◌⊎◌, ◌∙◌, List, [], ◌∷◌, map, refl, sym, subst, inl, inr, Bool, true, false}
 use Rattle.std.specs.Prelude.{not}
 use Rattle.std.specs.List.{list_any}
 use Rattle.std.specs.Str.{bytes_eq}
+use Rattle.std.proofs.lemmas.List.{map-id}
 use Rattle.std.proofs.lemmas.Slice.Eq.{bytes_eq-Decides}
 use Rattle.lotos_check.specs.NameLists.{Name, In}
 
@@ -40,6 +41,17 @@ name_found now = in_if_any now bytes_eq (λ x y. (bytes_eq-Decides x y).0) (λ x
 pub name_missing : {K : Type 0} (now : K → Name) (n : Name) (ks : List K) → list_any (λ k. bytes_eq n (now k)) ks ≡ false →
     In n (map now ks) → ⊥
 name_missing now = out_if_none now bytes_eq (λ x y. (bytes_eq-Decides x y).0) (λ x y. (bytes_eq-Decides x y).1)
+
+-- the same of the names of a list themselves, compared from the other side
+pub listed : (n : Name) (ms : List Name) → list_any (λ m. bytes_eq m n) ms ≡ true → In n ms
+listed n ms e =
+    let same = in_if_any (λ m. m) (λ x y. bytes_eq y x) (λ x y h. sym ((bytes_eq-Decides y x).0 h)) (λ x y h. (bytes_eq-Decides y x).1 (sym h)) in
+    subst (In n) (map-id ms) (same n ms e)
+
+pub not_listed : (n : Name) (ms : List Name) → list_any (λ m. bytes_eq m n) ms ≡ false → In n ms → ⊥
+not_listed n ms e i =
+    let others = out_if_none (λ m. m) (λ x y. bytes_eq y x) (λ x y h. sym ((bytes_eq-Decides y x).0 h)) (λ x y h. (bytes_eq-Decides y x).1 (sym h)) in
+    others n ms e (subst (In n) (sym (map-id ms)) i)
 
 -- a name is in a list, or is not
 pub in_or_not : (n : Name) (ms : List Name) → In n ms ⊎ (In n ms → ⊥)

@@ -9,6 +9,7 @@ pub mod Bodies
 pub mod UsedGates
 pub mod FlatOf
 pub mod Acceptance
+pub mod HiddenGates
 pub mod CheckedInvariant
 pub mod CheckedView
 pub mod FaultOffsets

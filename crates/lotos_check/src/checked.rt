@@ -1,13 +1,15 @@
 //! Checked specifications.
-ghost use Rattle.std.specs.Prelude.{◌≡◌, ◌<◌, Some, length, map, slice_get};
+ghost use Rattle.std.specs.Prelude.{◌≡◌, ◌<◌, IfOk, Some, length, map, slice_get};
 ghost use Rattle.lotos_check.specs.FlatOf.{flat_of, process_of};
 ghost use Rattle.lotos_check.specs.CheckedInvariant.{IsCheckedSystem};
 
+use crate::name_lists::{copy_as_set, remove_names};
 use crate::resolved::{Code, Process};
 use lotos_text::Name;
+use std::alloc::{AllocError, Global};
 
-/// A specification that meets the static rules. Its processes are numbered from 0 in the order of their definitions,
-/// each followed at once by its inner ones.
+/// A specification that meets the static rules, perhaps with gates hidden around its behaviour. Its processes are
+/// numbered from 0 in the order of their definitions, each followed at once by its inner ones.
 #[derive(Debug, Drop)]
 pub struct Checked {
     pub(crate) gates: Vec<Name>,
@@ -21,6 +23,7 @@ pub struct Checked {
 
 impl Checked {
     ghost use Rattle.lotos_check.specs.CheckedView.{ranks_of, system_of};
+    ghost use Rattle.lotos_check.specs.HiddenGates.{IsHiddenIn};
 
     /// The formal gates of the specification, in their order.
     pub fn gates(&self) -> &[Name]
@@ -42,6 +45,30 @@ impl Checked {
         ensures kept { ∥ IsCheckedSystem (system_of self.now) (ranks_of self.now) ∥₁ }
     {
         &self.start
+    }
+
+    /// The specification with these gates hidden around its behaviour, so they are no formal gates of it any more.
+    /// Names may repeat. A name that is no formal gate is hidden too, and never occurs. Fails if an allocation fails.
+    pub fn with_hidden(self, alloc: Global, gates: &[Name]) -> Result<Checked, AllocError>
+        ensures system { IfOk result (λ c. IsHiddenIn gates.now (system_of self) (system_of c)) }
+        ensures ranks { IfOk result (λ c. ranks_of c ≡ ranks_of self) }
+    {
+        let hidden = copy_as_set(alloc, gates)?;
+        let mut formals = self.gates;
+        remove_names(&mut formals, gates);
+        let start = Box::new(
+            alloc,
+            Code::Hide {
+                gates: hidden,
+                body: self.start,
+            },
+        )?;
+        Ok(Checked {
+            gates: formals,
+            start,
+            processes: self.processes,
+            ranks: self.ranks,
+        })
     }
 
     /// The rank of the process with this number. Every unguarded call in its body goes to a process of smaller rank.

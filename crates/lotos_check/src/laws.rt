@@ -1,5 +1,5 @@
 //! Laws of the definitions, each as the contract of an empty function.
-ghost use Rattle.std.specs.Prelude.{◌≡◌, ◌<◌, ℕ, List, Some, length, slice_get};
+ghost use Rattle.std.specs.Prelude.{◌≡◌, ◌<◌, ◌↔◌, ℕ, List, Some, length, slice_get};
 ghost use Rattle.lotos_text.specs.AstView.{DefinitionView, body_of};
 ghost use Rattle.lotos_check.specs.NameLists.{In, Name};
 ghost use Rattle.lotos_check.specs.Scope.{IsDistinctScope, Binds, Scope, ScopedDefinition, all_definitions};
@@ -8,6 +8,7 @@ ghost use Rattle.lotos_check.specs.Bodies.{GoesToNamed, ContainsCall, IsBodyOf, 
 ghost use Rattle.lotos_check.specs.UsedGates.{UsesOnly};
 ghost use Rattle.lotos_check.specs.Acceptance.{AreRanks, IsAccepted, IsStaticFault, IsNotAccepted};
 ghost use Rattle.lotos_check.specs.Flat.{Flat, FlatProcess, IsFlat, Resolves, System};
+ghost use Rattle.lotos_check.specs.HiddenGates.{IsHiddenIn};
 ghost use Rattle.lotos_check.specs.Guard.{Calls, IsRanking, IsUnguardedSet};
 ghost use Rattle.lotos_check.specs.declared.fault.CheckFault.{CheckFault};
 
@@ -64,6 +65,17 @@ pub fn distinct_formals()
     ensures processes { (whole : DefinitionView) (s : System) → IsAccepted whole s →
         (p : ℕ) (process : FlatProcess) → slice_get s.processes p ≡ Some process →
         AreDistinctNames process.formals }
+{}
+
+/// A system with these gates hidden around its behaviour is one system.
+pub fn hidden_system_is_unique()
+    ensures { (gates : List Name) (s h k : System) → IsHiddenIn gates s h → IsHiddenIn gates s k → h ≡ k }
+{}
+
+/// The formal gates of a system with hidden gates are those of the system that are not hidden.
+pub fn formals_are_not_hidden()
+    ensures { (gates : List Name) (s h : System) → IsHiddenIn gates s h → (n : Name) →
+        In n h.formals ↔ (In n s.formals × (In n gates → ⊥)) }
 {}
 
 /// Given ranks of a flat system's processes, both processes of an unguarded call have one, and that of the called one

@@ -7,7 +7,7 @@
 //! processes numbered and its calls by number, or the first [`CheckFault`]: a name that is declared twice; a name that is
 //! not declared, or a call with another number of gates; a functionality that is not the declared one; recursion that is
 //! not guarded. [`add_definitions`] lists the definitions of an AST. The definitions that the contracts cite are in
-//! `specs/`, the laws over them in [`laws`].
+//! `specs/`, the laws over them in [`laws`]. [`Checked::with_hidden`] hides gates of a checked specification.
 #![tactic(auto)]
 
 mod accepted_text;

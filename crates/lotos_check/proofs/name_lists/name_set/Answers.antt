@@ -1,7 +1,12 @@
-use Rattle.lotos_check.proofs.NameSets.{sorted_set}
+use Rattle.std.proofs.Common.{◌↔◌, subst}
+use Rattle.lotos_check.specs.NameLists.{In}
 use Rattle.lotos_check.proofs.name_lists.name_set.Goals as goal
 
 pub returns : goal.returns
 returns c =
-    sorted_set c.in_ok-set.set.items c.sort_unstable.new.self.items c.dedup.new.self.items c.args.placed.now
-    c.in_ok-set.ensures c.sort_unstable.ensures.permutation c.sort_unstable.ensures.sorted c.dedup.ensures.filtered
+    let set = c.make_set.new.names.items in
+    let same = c.make_set.ensures.same in
+    record {
+      ascends = c.make_set.ensures.ascends;
+      same = λ n. subst (λ names. In n set ↔ In n names) c.in_ok-set.ensures (same n);
+    }

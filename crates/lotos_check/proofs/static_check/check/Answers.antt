@@ -7,6 +7,7 @@ use Rattle.lotos_check.specs.Scope.{definitions_in, all_definitions}
 use Rattle.lotos_check.specs.Flat.{IsFlat}
 use Rattle.lotos_check.specs.Acceptance.{IsAccepted, IsStaticFault, IsNotAccepted}
 use Rattle.lotos_check.specs.FaultOffsets.{IsOffsetWithin}
+use Rattle.lotos_check.specs.HiddenGates.{as_given}
 use Rattle.lotos_check.specs.Resolution.{AddsBodies}
 use Rattle.lotos_check.specs.CheckedView.{flat_of, process_of}
 use Rattle.lotos_check.specs.declared.fault.CheckFault.TheVariants.{E27}
@@ -128,7 +129,9 @@ pub invariant_of-result : goal.invariant_of-result
 invariant_of-result c = record {
   kept = merely (record {
     whole = definition_view c.args.specification.now.whole;
+    flat = _;
     accepted = accepted (goal.at.invariant_of-result c).In-Guarded;
+    hides = as_given;
     ranked = rw (c.in-Guarded.is, c.as_slice-5.ensures.value) at c.in_ok-ranks.ensures;
   });
 }
