@@ -14,6 +14,8 @@ mod gate_scope_tests;
 #[cfg(test)]
 mod guardedness_tests;
 #[cfg(test)]
+mod hidden_gates_tests;
+#[cfg(test)]
 mod mistakes;
 #[cfg(test)]
 mod names;
