@@ -106,6 +106,7 @@ impl CompiledPattern {
 
     /// The place after one more label, given by its number; `None` if no sequence that the pattern matches goes on like
     /// this. What was asked before is looked up.
+    #[inline(always)]
     pub fn step(
         &mut self,
         place: PlaceNumber,
@@ -142,6 +143,7 @@ impl CompiledPattern {
     }
 
     /// The place after one more label, which is computed and stored.
+    #[inline(never)]
     fn compute_step(
         &mut self,
         place: PlaceNumber,
