@@ -9,7 +9,7 @@ use Rattle.lotos_terms.specs.TableView.{IsPrintedAs}
 use Rattle.lotos_terms.proofs.PrintedLabels.{one_text}
 use Rattle.lotos_listing.specs.Order.{Label}
 use Rattle.lotos_listing.specs.Question.{ArePrinted, none_printed, more_printed}
-use Rattle.lotos_output.specs.OutputLines.{sequence_text}
+use Rattle.lotos_output.specs.OutputLines.{IsLeft, sequence_text}
 
 -- the labels from an index on: the one at the index, and those after it
 pub left_from : (labels : List TermLabel) (i : ℕ) (k : TermLabel) → i < length labels → k ≡ get_or labels i k → drop i labels ≡ k ∷ drop (i + 1) labels
@@ -36,42 +36,44 @@ none_spelled names labels text without written s all =
     let e = nothing_shown names s (subst (λ ls. ArePrinted names ls s) without all) in
     written ∙ sym (ap sequence_text e)
 
--- the text so far, and a blank and the printed text of each label that is left, make up the text of the sequence
-abbrev pub IsLeft : List Name → List TermLabel → List ℕ → List Label → Type 0
-IsLeft names rest text s = (left : List Label) × ArePrinted names rest left × (text ++ flat_map (λ m. 32 ∷ m) left ≡ sequence_text s)
-
 -- the first label is written
 pub left_at_first : (names : List Name) (labels rest : List TermLabel) (first : TermLabel) (shown text : List ℕ) → labels ≡ first ∷ rest →
-    IsPrintedAs names first shown → text ≡ shown → (s : List Label) → ArePrinted names labels s → IsLeft names rest text s
+    IsPrintedAs names first shown → text ≡ shown → (s : List Label) → ArePrinted names labels s → IsLeft names rest text (sequence_text s)
 left_at_first names labels rest first shown text e h written s all =
     let cut = cut_first names first rest s (subst (λ ls. ArePrinted names ls s) e all) in
     let same = written ∙ one_text names first shown cut.first h cut.printed in
     (cut.others, cut.all, ap (λ x. x ++ flat_map (λ m. 32 ∷ m) cut.others) same ∙ sym (ap sequence_text cut.joined))
 
 -- one more label is written
-pub left_behind : (names : List Name) (rest later : List TermLabel) (label : TermLabel) (text shown text' : List ℕ) (s : List Label) →
-    rest ≡ label ∷ later → IsPrintedAs names label shown → text' ≡ (text ++ 32 ∷ []) ++ shown → IsLeft names rest text s → IsLeft names later text' s
-left_behind names rest later label text shown text' s e h written (left, all, whole) =
+pub left_behind : (names : List Name) (rest later : List TermLabel) (label : TermLabel) (text shown text' whole : List ℕ) →
+    rest ≡ label ∷ later → IsPrintedAs names label shown → text' ≡ (text ++ 32 ∷ []) ++ shown → IsLeft names rest text whole →
+    IsLeft names later text' whole
+left_behind names rest later label text shown text' whole e h written (left, all, made) =
     let cut = cut_first names label later left (subst (λ ls. ArePrinted names ls left) e all) in
     let same = one_text names label shown cut.first h cut.printed in
-    let whole' : text ++ flat_map (λ m. 32 ∷ m) (cut.first ∷ cut.others) ≡ sequence_text s =
-    subst (λ x. text ++ flat_map (λ m. 32 ∷ m) x ≡ sequence_text s) cut.joined whole in
+    let made' : text ++ flat_map (λ m. 32 ∷ m) (cut.first ∷ cut.others) ≡ whole =
+    subst (λ x. text ++ flat_map (λ m. 32 ∷ m) x ≡ whole) cut.joined made in
     let grown : text' ≡ text ++ (32 ∷ cut.first) = written ∙ append_assoc text (32 ∷ []) shown ∙ ap (λ x. text ++ (32 ∷ x)) same in
     let others = flat_map (λ m. 32 ∷ m) cut.others in
-    (cut.others, cut.all, ap (λ x. x ++ others) grown ∙ append_assoc text (32 ∷ cut.first) others ∙ whole')
+    (cut.others, cut.all, ap (λ x. x ++ others) grown ∙ append_assoc text (32 ∷ cut.first) others ∙ made')
 
 -- a label that is left has a printed text
-pub left_shown : (names : List Name) (rest later : List TermLabel) (label : TermLabel) (text : List ℕ) (s : List Label) → rest ≡ label ∷ later →
-    IsLeft names rest text s → (t : List ℕ) × IsPrintedAs names label t
-left_shown names rest later label text s e (left, all, whole) =
+pub left_shown : (names : List Name) (rest later : List TermLabel) (label : TermLabel) (text whole : List ℕ) → rest ≡ label ∷ later →
+    IsLeft names rest text whole → (t : List ℕ) × IsPrintedAs names label t
+left_shown names rest later label text whole e (left, all, made) =
     let cut = cut_first names label later left (subst (λ ls. ArePrinted names ls left) e all) in (cut.first, cut.printed)
 
--- if no label is left, the text is that of the sequence
-pub left_none : (names : List Name) (rest : List TermLabel) (i : ℕ) (text : List ℕ) (s : List Label) → length rest ≤ i →
-    IsLeft names (drop i rest) text s → text ≡ sequence_text s
-left_none names rest i text s passed (left, all, whole) =
+-- if no label is left, the text is the whole
+pub left_none : (names : List Name) (rest : List TermLabel) (i : ℕ) (text whole : List ℕ) → length rest ≤ i → IsLeft names (drop i rest) text whole →
+    text ≡ whole
+left_none names rest i text whole passed (left, all, made) =
     let e = nothing_shown names left (subst (λ ls. ArePrinted names ls left) (drop_of_length-le rest {i = i} passed) all) in
-    sym (append-nil text) ∙ subst (λ x. text ++ flat_map (λ m. 32 ∷ m) x ≡ sequence_text s) e whole
+    sym (append-nil text) ∙ subst (λ x. text ++ flat_map (λ m. 32 ∷ m) x ≡ whole) e made
+
+-- what is made of the text so far and of each label that is left is the whole
+pub left_joined : (names : List Name) (rest : List TermLabel) (text whole made : List ℕ) → IsLeft names rest text whole →
+    ((s : List Label) → ArePrinted names rest s → made ≡ text ++ flat_map (λ m. 32 ∷ m) s) → made ≡ whole
+left_joined names rest text whole made (left, all, is) joined = joined left all ∙ is
 
 -- ---- a line for each label
 

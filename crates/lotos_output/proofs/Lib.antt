@@ -1,1 +1,2 @@
 pub mod FormattedLines
+pub mod SharedTexts

@@ -1,6 +1,6 @@
 -- The lines of a listing and of a match, and those of the processes of a system.
-use Rattle.std.specs.Prelude.{◌≡◌, ℕ, ◌<◌, Bool, true, false, List, [], ◌∷◌, ◌++◌, Option, None, Some, codes}
-use Rattle.std.specs.Prelude.{decimal, length, map}
+use Rattle.std.specs.Prelude.{◌≡◌, ℕ, ◌+◌, ◌<◌, Bool, true, false, List, [], ◌∷◌, ◌++◌, Option, None, Some, codes}
+use Rattle.std.specs.Prelude.{decimal, drop, length, map}
 use Rattle.std.specs.Prelude.{string_bytes}
 use Rattle.std.specs.List.{flat_map}
 use Rattle.std.specs.declared.string.String.{String}
@@ -31,6 +31,21 @@ sequences items = map (λ item. item.sequence) items
 abbrev pub sequence_text : List Label → List ℕ
 sequence_text [] = codes "<empty>"
 sequence_text (l ∷ rest) = l ++ flat_map (λ m. 32 ∷ m) rest
+
+-- the text is that of the sequence of these labels, or any if there are none
+pub record HasText (names : List Name) (labels : List TermLabel) (text : List ℕ) : Type 0 where
+  pub sequence : List Label
+  pub printed : ArePrinted names labels sequence
+  pub spelled : 0 < length labels → text ≡ sequence_text sequence
+
+-- both lists have the label at the index
+pub record IsLabelOfBoth (known labels : List TermLabel) (index : ℕ) (label : TermLabel) : Type 0 where
+  pub before : drop index known ≡ label ∷ drop (index + 1) known
+  pub now : drop index labels ≡ label ∷ drop (index + 1) labels
+
+-- the text so far, and a blank and the printed text of each label that is left, make up the whole
+abbrev pub IsLeft : List Name → List TermLabel → (text whole : List ℕ) → Type 0
+IsLeft names rest text whole = (left : List Label) × ArePrinted names rest left × (text ++ flat_map (λ m. 32 ∷ m) left ≡ whole)
 
 -- the text of labels, if there are any
 abbrev pub IsTextOf : List Label → Option (String Global) → Type 0

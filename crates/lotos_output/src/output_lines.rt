@@ -1,10 +1,11 @@
 //! Sequences and processes as text.
-ghost use Rattle.std.specs.Prelude.{◌≡◌, ◌∷◌, [], ◌++◌, IfOk, List, OnOk, flat_map, map, string_bytes, true};
+ghost use Rattle.std.specs.Prelude.{◌≡◌, ◌≤◌, ◌∷◌, [], ◌++◌, IfOk, IfSome, IsUtf8, List, OnOk, drop, flat_map, length, map, string_bytes, take, true};
 ghost use Rattle.lotos_check.specs.CheckedView.{process_of};
 ghost use Rattle.lotos_listing.specs.Order.{Label as Text};
 ghost use Rattle.lotos_listing.specs.Question.{ArePrinted};
-ghost use Rattle.lotos_output.specs.OutputLines.{IsTextOf, functionality_text, next_lines, process_line, round_text, row_text, run_text};
-ghost use Rattle.lotos_output.specs.OutputLines.{sequence_text};
+ghost use Rattle.lotos_store.specs.declared.label.Label.{Label as TermLabel};
+ghost use Rattle.lotos_output.specs.OutputLines.{HasText, IsLabelOfBoth, IsLeft, IsTextOf, functionality_text, next_lines};
+ghost use Rattle.lotos_output.specs.OutputLines.{process_line, round_text, row_text, run_text, sequence_text};
 
 use itoa::Buffer;
 use lotos_check::Process;
@@ -34,12 +35,89 @@ pub fn format_sequence(
     let capacity = rest.len().saturating_mul(each).saturating_add(shown.len());
     let mut bytes = Vec::with_capacity(alloc, capacity)?;
     append_text(&mut bytes, shown)?;
-    for label in rest {
+    append_labels(gates, rest, bytes)
+}
+
+/// As [`format_sequence`], for a sequence that may begin as another one, whose labels (`known`) and text are given: what
+/// both begin with is copied. Without labels the text may be any.
+pub fn format_sequence_after(
+    alloc: Global,
+    gates: &[Name],
+    known: &[Label],
+    text: &str,
+    labels: &[Label],
+) -> Result<String, AllocError>
+    requires printed { (s : List Text) × ArePrinted gates.now labels.now s }
+    requires known { HasText gates.now known.now text.now }
+    ensures { IfOk result (λ text. (s : List Text) → ArePrinted gates.now labels.now s →
+        string_bytes text ≡ sequence_text s) }
+{
+    let Some(first) = label_of_both(known, labels, 0) else {
+        return format_sequence(alloc, gates, labels);
+    };
+    let (count, end) = part_of_both(gates, first, known, labels, text);
+    let begun = &text.as_bytes()[..end];
+    let left = labels.len() - count;
+    let capacity = left.saturating_mul(SHORT_TEXT + 1).saturating_add(end);
+    let mut bytes = Vec::with_capacity(alloc, capacity.max(text.len()))?;
+    bytes.extend_from_slice(begun)?;
+    append_labels(gates, &labels[count..], bytes)
+}
+
+/// The label of both lists at this index, if it is the same.
+fn label_of_both(known: &[Label], labels: &[Label], index: usize) -> Option<Label>
+    ensures { IfSome result (IsLabelOfBoth known.now labels.now index) }
+{
+    equal_labels();
+    let label = labels.get(index)?;
+    let other = known.get(index)?;
+    if *label == *other { Some(*label) } else { None }
+}
+
+/// The number of labels that both lists begin with, the first of which is given, and the length of their text.
+fn part_of_both(
+    gates: &[Name],
+    first: Label,
+    known: &[Label],
+    labels: &[Label],
+    text: &str,
+) -> (usize, usize)
+    requires first { IsLabelOfBoth known.now labels.now 0 first }
+    requires printed { (s : List Text) × ArePrinted gates.now labels.now s }
+    requires known { HasText gates.now known.now text.now }
+    ensures count { result.0 ≤ length labels.now }
+    ensures end { result.1 ≤ length text.now }
+    ensures utf8 { IsUtf8 (take result.1 text.now) }
+    ensures left { (s : List Text) → ArePrinted gates.now labels.now s →
+        IsLeft gates.now (drop result.0 labels.now) (take result.1 text.now) (sequence_text s) }
+{
+    let mut end = label_text(gates, first).len();
+    let mut count = 1;
+    while let Some(label) = label_of_both(known, labels, count) {
+        end += 1 + label_text(gates, label).len();
+        count += 1;
+    }
+    (count, end)
+}
+
+/// Appends a blank and the text of each label, and returns all as text.
+fn append_labels(gates: &[Name], labels: &[Label], mut bytes: Vec<u8>) -> Result<String, AllocError>
+    requires utf8 { IsUtf8 bytes.items }
+    requires printed { (s : List Text) × ArePrinted gates.now labels.now s }
+    ensures { IfOk result (λ text. (s : List Text) → ArePrinted gates.now labels.now s →
+        string_bytes text ≡ bytes.items ++ flat_map (λ m. 32 ∷ m) s) }
+{
+    for label in labels {
         bytes.push(b' ')?;
         append_text(&mut bytes, label_text(gates, *label))?;
     }
     Ok(String::from_utf8(bytes).unwrap())
 }
+
+/// Labels that compare as equal are the same label.
+fn equal_labels()
+    ensures same { (k j : TermLabel) → ⟦<Label as PartialEq>⟧.eq k j ≡ true → k ≡ j }
+{}
 
 /// Appends a label's text. A short one is copied byte by byte: that takes less time than a call for the whole.
 fn append_text(bytes: &mut Vec<u8>, text: &str) -> Result<(), AllocError>

@@ -1,39 +1,22 @@
-use Rattle.std.proofs.Common.{◌≡◌, ◌+◌, ◌++◌, ◌∷◌, [], ◌∙◌, IsUtf8, ap, arith, drop, rules, string_bytes, subst, sym}
+use Rattle.std.proofs.Common.{◌∙◌, ◌++◌, IsUtf8, ap, refl, rules, subst, sym}
 use Rattle.std.proofs.lemmas.Result.{IfOk-weaker}
-use Rattle.std.proofs.lemmas.Str.{IsUtf8-append, IsUtf8-from_ascii}
-use Rattle.std.proofs.lemmas.Str.Ascii.{IsAscii-cons, IsAscii-nil}
-use Rattle.lotos_output.proofs.FormattedLines.{left_at_first, left_behind, left_from, left_none, left_shown, none_spelled}
+use Rattle.lotos_output.proofs.FormattedLines.{left_at_first, left_joined, none_spelled}
 use Rattle.lotos_output.proofs.output_lines.format_sequence.Goals as goal
 
-pub loop-label-init : goal.loop-label-init
-loop-label-init c =
-    let written = c.in_ok-append_text.ensures ∙ ap (λ b. b ++ c.label_text-shown.result.now) c.in_ok-bytes.ensures.items in
-    record {
-      utf8 = subst IsUtf8 (sym written) c.label_text-shown.utf8;
-      left = left_at_first _ _ _ _ _ _ (search rules) c.label_text-shown.ensures written;
-    }
+pub append_labels-requires-clause-utf8 : goal.append_labels-requires-clause-utf8
+append_labels-requires-clause-utf8 c =
+    subst IsUtf8 (sym (c.in_ok-append_text.ensures ∙ ap (λ b. b ++ c.label_text-shown.result.now) c.in_ok-bytes.ensures.items)) c.label_text-shown.utf8
 
-pub label_text-requires : goal.label_text-requires
-label_text-requires c = left_shown _ _ (drop (c.loop-label.label-index + 1) c.in-Some.rest.now) _ _ _
-    (left_from c.in-Some.rest.now c.loop-label.label-index c.label-item.result c.loop-label-test.true c.label-item.is)
-    (c.loop-label.invariant.left c.requires.0 c.requires.1)
-
-pub loop-label-preserved : goal.loop-label-preserved
-loop-label-preserved c =
-    let grown : c.append_text-in-loop-label.new.bytes.items ≡ (c.loop-label.bytes.items ++ 32 ∷ []) ++ c.label_text.result.now =
-    c.in_ok-append_text-2.ensures ∙ ap (λ b. b ++ c.label_text.result.now) c.in_ok-push.ensures.items in
-    let blank : IsUtf8 (32 ∷ []) = IsUtf8-from_ascii _ (IsAscii-cons 32 [] (omega arith) IsAscii-nil) in
-    record {
-      utf8 = subst IsUtf8 (sym grown) (IsUtf8-append _ _ (IsUtf8-append _ _ c.loop-label.invariant.utf8 blank) c.label_text.utf8);
-      left = λ s all. left_behind _ _ _ _ _ _ _ s
-          (left_from c.in-Some.rest.now c.loop-label.label-index c.label-item.result c.loop-label-test.true c.label-item.is)
-          c.label_text.ensures grown (c.loop-label.invariant.left s all);
-    }
+pub append_labels-requires-clause-printed : goal.append_labels-requires-clause-printed
+append_labels-requires-clause-printed c =
+    let (s, all) = c.requires in
+    let (left, printed, is) = left_at_first _ _ _ _ _ _ (search rules) c.label_text-shown.ensures refl s all in (left, printed)
 
 pub returns : goal.returns
 returns c =
-    let same : string_bytes c.unwrap.result ≡ c.loop-label.bytes.items = search (rules, c.from_utf8.ensures.ok, c.unwrap.ensures) in
-    λ s all. same ∙ left_none _ c.in-Some.rest.now c.loop-label.label-index _ s c.loop-label-test.false (c.loop-label.invariant.left s all)
+    let written = c.in_ok-append_text.ensures ∙ ap (λ b. b ++ c.label_text-shown.result.now) c.in_ok-bytes.ensures.items in
+    IfOk-weaker c.append_labels.result _ _ (λ text joined s all.
+    left_joined _ _ _ _ _ (left_at_first _ _ _ _ _ _ (search rules) c.label_text-shown.ensures written s all) joined) c.append_labels.ensures
 
 pub returns-in_default : goal.returns-in_default
 returns-in_default c = IfOk-weaker c.from_str.result _ _ (λ text h. none_spelled _ _ _ (search rules) h) c.from_str.ensures.ok
