@@ -1,7 +1,11 @@
 -- What the parts of the output of a listing return.
-use Rattle.std.specs.Prelude.{◌≡◌, ℕ, ◌<◌, ◌^◌, ◌==◌, Bool, true, false, List, Option, None, Some, ⊤, string_bytes}
+use Rattle.std.specs.Prelude.{◌≡◌, ℕ, ◌<◌, ◌^◌, ◌==◌, Bool, true, false, List, [], Option, None, Some, ⊤, string_bytes}
+use Rattle.std.specs.declared.string.String.{String}
+use Rattle.std.specs.declared.alloc.Global.{Global}
+use Rattle.lotos_check.specs.NameLists.{Name}
+use Rattle.lotos_store.specs.declared.label.Label.{Label as TermLabel}
 use Rattle.lotos_listing.specs.Order.{Label}
-use Rattle.lotos_output.specs.OutputLines.{sequence_text}
+use Rattle.lotos_output.specs.OutputLines.{HasText, sequence_text}
 use Rattle.lotos_tool.specs.ListingQuestions.{IsFirstStop, IsOneSetTooMany, IsOversizedPrefix, ListingQuestion}
 use Rattle.lotos_report.specs.declared.outcome.Why.{Why}
 use Rattle.lotos_report.specs.declared.outcome.Why.TheVariants as why
@@ -35,3 +39,8 @@ is_at_limit lines (Some limit) = limit == lines
 abbrev pub IsSmall : Option ℕ → Type 0
 IsSmall None = ⊤
 IsSmall (Some limit) = limit < 2 ^ 32
+
+-- the text of the last line is that of the sequence of these labels; without a line there are none
+abbrev pub HasLastText : List Name → List TermLabel → Option (String Global) → Type 0
+HasLastText names labels None = labels ≡ []
+HasLastText names labels (Some text) = HasText names labels (string_bytes text)

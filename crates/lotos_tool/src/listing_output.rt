@@ -5,9 +5,11 @@ ghost use Rattle.lotos_listing.specs.Order.{Label as Text};
 ghost use Rattle.lotos_listing.specs.Question.{ArePrinted};
 ghost use Rattle.lotos_listing.specs.ListingSteps.{running};
 ghost use Rattle.lotos_tool.specs.ListingQuestions.{IsHalt, names_of};
-ghost use Rattle.lotos_output.specs.OutputLines.{Item, IsItemOf, line_of, sequence_text};
+ghost use Rattle.lotos_output.specs.OutputLines.{HasText, Item, IsItemOf, line_of, sequence_text};
 ghost use Rattle.lotos_tool.specs.ListingOutcome.{ListingOutcome};
-ghost use Rattle.lotos_tool.specs.ListingParts.{IsHaltCause, IsOversizedCause, IsSmall, is_at_limit};
+ghost use Rattle.lotos_check.specs.NameLists.{Name as GateName};
+ghost use Rattle.lotos_store.specs.declared.label.Label.{Label as TermLabel};
+ghost use Rattle.lotos_tool.specs.ListingParts.{HasLastText, IsHaltCause, IsOversizedCause, IsSmall, is_at_limit};
 ghost use Rattle.lotos_device.specs.ByteOutput.{AppendsPart};
 ghost use Rattle.lotos_output.specs.WriteFaults.{is_output_fault, is_write_fault};
 
@@ -16,7 +18,10 @@ use crate::listing_search::{ListingSearch, items_decrease_remaining};
 use lotos_device::{DeviceFailed, Sink, write_bytes};
 use lotos_listing::Found;
 use lotos_listing::laws::strict_order;
-use lotos_output::{OutputProgress, flush_complete, flush_stopped, format_line, format_sequence};
+use lotos_output::{
+    OutputProgress, flush_complete, flush_stopped, format_line, format_sequence,
+    format_sequence_after,
+};
 use lotos_report::{Ended, Why};
 use lotos_terms::Label;
 use lotos_text::Name;
@@ -52,6 +57,7 @@ pub fn write_listing<S: ListingSearch, W: Sink, P: OutputProgress>(
     items_decrease_remaining();
     strict_order();
     let mut last = None;
+    let mut labels = Vec::new(alloc);
     let mut lines: u64 = 0;
     loop {
         let found = match search.next_item(progress) {
@@ -63,10 +69,20 @@ pub fn write_listing<S: ListingSearch, W: Sink, P: OutputProgress>(
             }
         };
         progress.before_line();
-        match write_item(alloc, search, &found, options.explain, writer) {
+        let known = labels.as_slice();
+        match write_item(
+            alloc,
+            search,
+            &found,
+            known,
+            text_of_last(&last),
+            options.explain,
+            writer,
+        ) {
             Ok(text) => last = Some(text),
             Err(why) => return Ended::Stopped { last, why },
         }
+        labels = found.sequence;
         lines = lines.saturating_add(1);
         if is_at_limit(lines, options.limit) {
             let why = flush_stopped(writer, Why::Limit);
@@ -75,17 +91,32 @@ pub fn write_listing<S: ListingSearch, W: Sink, P: OutputProgress>(
     }
 }
 
-/// Writes an item's line and returns the text of its sequence. The line and the text are composed before the first byte
-/// is written. Fails with `Why::Memory`, with nothing written, or `Why::Write`.
+/// The text of the last sequence, or an empty one.
+fn text_of_last(last: &Option<String>) -> &str
+    ensures { (names : List GateName) (labels : List TermLabel) →
+        HasLastText names labels last.now → HasText names labels result.now }
+{
+    match last {
+        Some(text) => text.as_str(),
+        None => "",
+    }
+}
+
+/// Writes an item's line and returns the text of its sequence, given the labels and the text of the one before. The line
+/// and the text are composed before the first byte is written. Fails with `Why::Memory`, with nothing written, or
+/// `Why::Write`.
 fn write_item<S: ListingSearch, W: Sink>(
     alloc: Global,
     search: &S,
     found: &Found,
+    known: &[Label],
+    text: &str,
     explain: bool,
     writer: &mut W,
 ) -> Result<String, Why>
     requires printed { (item : Item) ×
         IsItemOf (names_of (S.state search.now).question) found.now.sequence.items found.now.word.items item }
+    requires known { HasText (names_of (S.state search.now).question) known.now text.now }
     requires unfailed { W.has_failed writer.old ≡ false }
     ensures whole { OnOk result ((item : Item) →
         IsItemOf (names_of (S.state search.now).question) found.now.sequence.items found.now.word.items item →
@@ -102,7 +133,8 @@ fn write_item<S: ListingSearch, W: Sink>(
     ensures failed { W.has_failed writer.new ≡ is_write_fault result }
 {
     let gates = search.gates();
-    let Ok(text) = format_sequence(alloc, gates, found.sequence.as_slice()) else {
+    let sequence = found.sequence.as_slice();
+    let Ok(text) = format_sequence_after(alloc, gates, known, text, sequence) else {
         return Err(Why::Memory);
     };
     let Ok(line) = format_line(alloc, gates, text.as_str(), found.word.as_slice(), explain) else {

@@ -1,13 +1,15 @@
-use Rattle.std.proofs.Common.{◌≡◌, ◌∙◌, Err, ap, false, refl, rules, true}
-use Rattle.lotos_tool.specs.ListingParts.{is_at_limit}
+use Rattle.std.proofs.Common.{◌≡◌, ◌∙◌, Err, ap, false, refl, rules, subst, sym, true}
+use Rattle.lotos_tool.specs.ListingParts.{HasLastText, is_at_limit}
+use Rattle.lotos_tool.specs.ListingQuestions.{ListingQuestion, names_of}
 use Rattle.lotos_tool.proofs.Calls.{halt_failed, told_end, told_halt, returned_item}
-use Rattle.lotos_tool.proofs.ListingProgress.{below_limit, ends_finished, ends_halted, ends_limited, ends_unwritten, item_of, its_labels_now, none_below, progress_more, progress_none, within_more}
+use Rattle.lotos_tool.proofs.ListingProgress.{below_limit, ends_finished, ends_halted, ends_limited, ends_unwritten, item_of, its_labels_now, none_below, progress_more, progress_none, text_kept, within_more}
 use Rattle.lotos_tool.proofs.listing_output.write_listing.Goals as goal
 
 pub loop-found-init : goal.loop-found-init
 loop-found-init g c = record {
   items = _;
   progress = progress_none _ _ _ _;
+  last = c.new-labels.ensures.items;
   below = none_below _ c.requires.limit;
   question = refl;
   stage = c.requires.begun;
@@ -44,6 +46,14 @@ write_item-requires-clause-printed g c =
     let returned = returned_item (g.S.ListingSearch.state c.loop-found.search) (g.S.ListingSearch.state c.next_item.new.self) _ _ inv.stage c.in-Ok-Some.field-0-is c.in-Ok-Some.ensures.next_returns in
     its_labels_now (g.S.ListingSearch.state c.loop-found.search) (g.S.ListingSearch.state c.next_item.new.self) c.in-Ok-Some.found c.next_item.ensures.same returned.0
 
+pub write_item-requires-clause-known : goal.write_item-requires-clause-known
+write_item-requires-clause-known g c =
+    let inv = c.loop-found.invariant in
+    let names = names_of (g.S.ListingSearch.state c.next_item.new.self).question in
+    let same = sym (c.next_item.ensures.same ∙ inv.question) in
+    let last = subst (λ (q : ListingQuestion). HasLastText (names_of q) c.loop-found.labels.items c.loop-found.last) same inv.last in
+    c.text_of_last.ensures names _ (subst (λ ls. HasLastText names ls c.loop-found.last) (sym c.as_slice-known.ensures.value) last)
+
 pub returns-in-Err-write_item-clause-ends : goal.returns-in-Err-write_item-clause-ends
 returns-in-Err-write_item-clause-ends g c =
     let inv = c.loop-found.invariant in
@@ -72,6 +82,8 @@ loop-found-preserved g c =
     record {
       items = _;
       progress = more;
+      last = text_kept (g.S.ListingSearch.state c.loop-found.search) (g.S.ListingSearch.state c.next_item.new.self) c.in-Ok-Some.found c.in-Ok.text _
+          c.next_item.ensures.same inv.question returned.0 c.in-Ok.ensures.text;
       below = below_limit _ _ _ at more.count (within_more inv.items (item_of _ _ _ _ returned.0) c.args.options.limit inv.below) c.is_at_limit.ensures.small;
       question = c.next_item.ensures.same ∙ inv.question;
       stage = returned.1;

@@ -3,11 +3,13 @@ use Rattle.lotos_listing.specs.ListingSteps.{running}
 use Rattle.lotos_listing.specs.Remaining.{remaining}
 use Rattle.lotos_tool.specs.ListingQuestions.{most_of, names_of}
 use Rattle.lotos_tool.specs.ListingOutcome.{IsBelowLimit}
+use Rattle.lotos_tool.specs.ListingParts.{HasLastText}
 use Rattle.lotos_output.specs.OutputLines.{Item}
 use Rattle.lotos_tool.proofs.ListingProgress.{Progress}
 use Rattle.lotos_tool.proofs.listing_output.write_listing.Given as goal
 
--- the lines of some items were written, fewer than the limit; the search goes on, and the writer has not failed
+-- the lines of some items were written, fewer than the limit, and the labels are those of the last; the search goes on,
+-- and the writer has not failed
 abbrev pub invariant-loop-found : goal.invariant-loop-found
 invariant-loop-found g l =
     let begun = g.S.ListingSearch.state l.fn.search in
@@ -16,6 +18,7 @@ invariant-loop-found g l =
       items : List Item;
       progress : Progress l.fn.options begun.question begun.cursor (g.W.Sink.written l.fn.writer) (g.W.Sink.written l.writer)
           now.cursor l.lines l.last items;
+      last : HasLastText (names_of begun.question) l.labels.items l.last;
       below : IsBelowLimit (length items) l.fn.options.limit;
       question : now.question ≡ begun.question;
       stage : now.stage ≡ running;
