@@ -1,7 +1,7 @@
 //! The output of the commands: lines, and the flush after them.
 //!
-//! [`format_sequence`], [`format_sequence_after`], [`format_line`], [`format_explained`], [`append_round`],
-//! [`format_next`], [`format_labels`] and
+//! [`format_sequence`], [`format_sequence_after`], [`complete_line`], [`append_run`], [`append_round`], [`format_next`],
+//! [`format_labels`] and
 //! [`format_processes`] compose the text of a sequence and the lines of each command. [`flush_complete`], [`flush_stopped`] and [`write_and_flush`] end the output
 //! with one flush, and tell whether it failed. An [`OutputProgress`] is told of each line before it is written.
 #![tactic(auto)]
@@ -12,7 +12,7 @@ mod output_progress;
 
 pub use output_flush::{flush_complete, flush_stopped, write_and_flush};
 pub use output_lines::{
-    append_round, format_explained, format_labels, format_line, format_next, format_processes,
+    append_round, append_run, complete_line, format_labels, format_next, format_processes,
     format_sequence, format_sequence_after,
 };
 pub use output_progress::OutputProgress;

@@ -1,5 +1,6 @@
 //! Sequences and processes as text.
 ghost use Rattle.std.specs.Prelude.{◌≡◌, ◌≤◌, ◌∷◌, [], ◌++◌, IfOk, IfSome, IsUtf8, List, OnOk, drop, flat_map, length, map, string_bytes, take, true};
+ghost use Rattle.std.specs.String.Boundary.{IsSplitPoint};
 ghost use Rattle.lotos_check.specs.CheckedView.{process_of};
 ghost use Rattle.lotos_listing.specs.Order.{Label as Text};
 ghost use Rattle.lotos_listing.specs.Question.{ArePrinted};
@@ -30,9 +31,9 @@ pub fn format_sequence(
         return String::from_str(alloc, "<empty>");
     };
     let shown = label_text(gates, *first);
-    // Enough if no label is longer than the first, nor than what is short.
+    // Enough for the text and a line feed if no label is longer than the first, nor than what is short.
     let each = shown.len().min(SHORT_TEXT) + 1;
-    let capacity = rest.len().saturating_mul(each).saturating_add(shown.len());
+    let capacity = rest.len().saturating_mul(each).saturating_add(shown.len() + 1);
     let mut bytes = Vec::with_capacity(alloc, capacity)?;
     append_text(&mut bytes, shown)?;
     append_labels(gates, rest, bytes)
@@ -58,8 +59,10 @@ pub fn format_sequence_after(
     let (count, end) = part_of_both(gates, first, known, labels, text);
     let begun = &text.as_bytes()[..end];
     let left = labels.len() - count;
+    // Enough for the text and a line feed if no label is longer than what is short, or the text is no longer than the
+    // one that is known.
     let capacity = left.saturating_mul(SHORT_TEXT + 1).saturating_add(end);
-    let mut bytes = Vec::with_capacity(alloc, capacity.max(text.len()))?;
+    let mut bytes = Vec::with_capacity(alloc, capacity.max(text.len()).saturating_add(1))?;
     bytes.extend_from_slice(begun)?;
     append_labels(gates, &labels[count..], bytes)
 }
@@ -132,57 +135,40 @@ fn append_text(bytes: &mut Vec<u8>, text: &str) -> Result<(), AllocError>
     Ok(())
 }
 
-/// The line of a sequence with this text: the text, with `explain` ` : ` and the run, and a line feed.
-pub fn format_line(
+/// Completes the line of a sequence whose text it has: appends, with `explain`, ` : ` and the run, and a line feed. The
+/// line can be cut after the text again.
+pub fn complete_line(
     alloc: Global,
     gates: &[Name],
-    text: &str,
     run: &[Label],
     explain: bool,
-) -> Result<Vec<u8>, AllocError>
+    line: &mut String,
+) -> Result<(), AllocError>
     requires { (w : List Text) × ArePrinted gates.now run.now w }
-    ensures { IfOk result (λ line. (w : List Text) → ArePrinted gates.now run.now w →
-        line.items ≡ text.now ++ run_text explain w ++ 10 ∷ []) }
+    ensures whole { OnOk result ((w : List Text) → ArePrinted gates.now run.now w →
+        string_bytes line.new ≡ string_bytes line.old ++ run_text explain w ++ 10 ∷ []) }
+    ensures cut { OnOk result (IsSplitPoint (string_bytes line.new) (length (string_bytes line.old))) }
 {
-    let mut line = format_explained(alloc, gates, text, run, explain)?;
-    line.push(b'\n')?;
-    Ok(line)
-}
-
-/// What a line begins with: the text, with `explain` ` : ` and the run.
-pub fn format_explained(
-    alloc: Global,
-    gates: &[Name],
-    text: &str,
-    run: &[Label],
-    explain: bool,
-) -> Result<Vec<u8>, AllocError>
-    requires { (w : List Text) × ArePrinted gates.now run.now w }
-    ensures { IfOk result (λ line. (w : List Text) → ArePrinted gates.now run.now w →
-        line.items ≡ text.now ++ run_text explain w) }
-{
-    let mut line = Vec::with_capacity(alloc, text.len() + 1)?;
-    line.extend_from_slice(text.as_bytes())?;
     if explain {
-        append_run(alloc, gates, run, &mut line)?;
+        append_run(alloc, gates, run, line)?;
     }
-    Ok(line)
+    line.push('\n')
 }
 
-/// Appends ` : ` and the run.
-fn append_run(
+/// Appends ` : ` and the run. The gates have these names.
+pub fn append_run(
     alloc: Global,
     gates: &[Name],
     run: &[Label],
-    line: &mut Vec<u8>,
+    line: &mut String,
 ) -> Result<(), AllocError>
     requires { (w : List Text) × ArePrinted gates.now run.now w }
     ensures { OnOk result ((w : List Text) → ArePrinted gates.now run.now w →
-        line.new.items ≡ line.old.items ++ run_text true w) }
+        string_bytes line.new ≡ string_bytes line.old ++ run_text true w) }
 {
     let text = format_sequence(alloc, gates, run)?;
-    line.extend_from_slice(b" : ")?;
-    line.extend_from_slice(text.as_bytes())
+    line.push_str(" : ")?;
+    line.push_str(text.as_str())
 }
 
 /// Appends steps that go round: ` <forever> `, the labels of a row and a blank, if there are any, and in brackets those
@@ -192,20 +178,19 @@ pub fn append_round(
     gates: &[Name],
     row: &[Label],
     turn: &[Label],
-    line: &mut Vec<u8>,
+    line: &mut String,
 ) -> Result<(), AllocError>
     requires row { (r : List Text) × ArePrinted gates.now row.now r }
     requires turn { (s : List Text) × ArePrinted gates.now turn.now s }
     ensures { OnOk result ((r s : List Text) → ArePrinted gates.now row.now r → ArePrinted gates.now turn.now s →
-        line.new.items ≡ line.old.items ++ round_text r s) }
+        string_bytes line.new ≡ string_bytes line.old ++ round_text r s) }
 {
-    line.extend_from_slice(b" <forever> ")?;
+    line.push_str(" <forever> ")?;
     append_row(alloc, gates, row, line)?;
     let text = format_sequence(alloc, gates, turn)?;
-    line.push(b'[')?;
-    line.extend_from_slice(text.as_bytes())?;
-    line.push(b']')?;
-    Ok(())
+    line.push_str("[")?;
+    line.push_str(text.as_str())?;
+    line.push_str("]")
 }
 
 /// Appends the labels of a row and a blank, if there are any labels.
@@ -213,18 +198,17 @@ fn append_row(
     alloc: Global,
     gates: &[Name],
     row: &[Label],
-    line: &mut Vec<u8>,
+    line: &mut String,
 ) -> Result<(), AllocError>
     requires { (r : List Text) × ArePrinted gates.now row.now r }
     ensures { OnOk result ((r : List Text) → ArePrinted gates.now row.now r →
-        line.new.items ≡ line.old.items ++ row_text r) }
+        string_bytes line.new ≡ string_bytes line.old ++ row_text r) }
 {
     match format_labels(alloc, gates, row)? {
         None => Ok(()),
         Some(text) => {
-            line.extend_from_slice(text.as_bytes())?;
-            line.push(b' ')?;
-            Ok(())
+            line.push_str(text.as_str())?;
+            line.push_str(" ")
         }
     }
 }

@@ -1,5 +1,5 @@
 //! The command `ever`, from the text to the line of the first of the shortest matches.
-ghost use Rattle.std.specs.Prelude.{◌≡◌, ◌+◌, ◌++◌, ◌≤◌, IfErr, IfOk, List, OnOk, Option, false, true};
+ghost use Rattle.std.specs.Prelude.{◌≡◌, ◌+◌, ◌++◌, ◌≤◌, IfErr, IfOk, List, OnOk, Option, false, string_bytes, true};
 ghost use Rattle.lotos_text.specs.Limits.{max_text_length};
 ghost use Rattle.lotos_check.specs.CheckedView.{system_of};
 ghost use Rattle.lotos_check.specs.Flat.{System};
@@ -22,9 +22,7 @@ use lotos_ever::laws::table_has_match_question;
 use lotos_ever::{EndedMatch, Halt, find_shortest_match_with_end};
 use lotos_listing::Progress;
 use lotos_normal::NormalTable;
-use lotos_output::{
-    OutputProgress, append_round, format_explained, format_sequence, write_and_flush,
-};
+use lotos_output::{OutputProgress, append_round, append_run, format_sequence, write_and_flush};
 use lotos_pattern::EverPattern;
 use lotos_report::{EverEnded, EverWhy};
 use lotos_text::Name;
@@ -163,14 +161,13 @@ fn format_match(
         IsItemOf gates.now ended.now.found.sequence.items ended.now.found.word.items item →
         IsRoundOf gates.now ended.now.lasso round → line.items ≡ match_line explain item round) }
 {
-    let text = format_sequence(alloc, gates, ended.found.sequence.as_slice())?;
-    let run = ended.found.word.as_slice();
-    let mut line = format_explained(alloc, gates, text.as_str(), run, explain)?;
+    let mut line = format_sequence(alloc, gates, ended.found.sequence.as_slice())?;
     if explain {
+        append_run(alloc, gates, ended.found.word.as_slice(), &mut line)?;
         append_lasso(alloc, gates, &ended.lasso, &mut line)?;
     }
-    line.push(b'\n')?;
-    Ok(line)
+    line.push('\n')?;
+    Ok(line.into_bytes())
 }
 
 /// Appends the steps that go round, if there are such.
@@ -178,11 +175,11 @@ fn append_lasso(
     alloc: Global,
     gates: &[Name],
     lasso: &Option<Lasso>,
-    line: &mut Vec<u8>,
+    line: &mut String,
 ) -> Result<(), AllocError>
     requires { (round : Option (List Text × List Text)) × IsRoundOf gates.now lasso.now round }
     ensures { OnOk result ((round : Option (List Text × List Text)) → IsRoundOf gates.now lasso.now round →
-        line.new.items ≡ line.old.items ++ round_text_if true round) }
+        string_bytes line.new ≡ string_bytes line.old ++ round_text_if true round) }
 {
     match lasso {
         None => Ok(()),

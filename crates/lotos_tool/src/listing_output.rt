@@ -19,7 +19,7 @@ use lotos_device::{DeviceFailed, Sink, write_bytes};
 use lotos_listing::Found;
 use lotos_listing::laws::strict_order;
 use lotos_output::{
-    OutputProgress, flush_complete, flush_stopped, format_line, format_sequence,
+    OutputProgress, complete_line, flush_complete, flush_stopped, format_sequence,
     format_sequence_after,
 };
 use lotos_report::{Ended, Why};
@@ -134,14 +134,18 @@ fn write_item<S: ListingSearch, W: Sink>(
 {
     let gates = search.gates();
     let sequence = found.sequence.as_slice();
-    let Ok(text) = format_sequence_after(alloc, gates, known, text, sequence) else {
+    let Ok(mut line) = format_sequence_after(alloc, gates, known, text, sequence) else {
         return Err(Why::Memory);
     };
-    let Ok(line) = format_line(alloc, gates, text.as_str(), found.word.as_slice(), explain) else {
+    let end = line.len();
+    let Ok(()) = complete_line(alloc, gates, found.word.as_slice(), explain, &mut line) else {
         return Err(Why::Memory);
     };
-    match write_bytes(writer, line.as_slice()) {
-        Ok(()) => Ok(text),
+    match write_bytes(writer, line.as_bytes()) {
+        Ok(()) => {
+            line.truncate(end);
+            Ok(line)
+        }
         Err(DeviceFailed) => Err(Why::Write),
     }
 }
