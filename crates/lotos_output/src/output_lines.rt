@@ -33,7 +33,10 @@ pub fn format_sequence(
     let shown = label_text(gates, *first);
     // Enough for the text and a line feed if no label is longer than the first, nor than what is short.
     let each = shown.len().min(SHORT_TEXT) + 1;
-    let capacity = rest.len().saturating_mul(each).saturating_add(shown.len() + 1);
+    let capacity = rest
+        .len()
+        .saturating_mul(each)
+        .saturating_add(shown.len() + 1);
     let mut bytes = Vec::with_capacity(alloc, capacity)?;
     append_text(&mut bytes, shown)?;
     append_labels(gates, rest, bytes)

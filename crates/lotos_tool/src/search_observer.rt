@@ -56,6 +56,7 @@ impl<'w, 'm, E: Write> SearchObserver<'w, 'm, E> {
 }
 
 impl<E: Write> Progress for SearchObserver<'_, '_, E> {
+    #[inline(always)]
     fn visit(&mut self, length: usize) {
         if self.observed.reports_progress {
             self.progress.visit(length);
@@ -86,6 +87,7 @@ impl<E: Write> OutputProgress for SearchObserver<'_, '_, E> {
         }
     }
 
+    #[inline(always)]
     fn before_line(&mut self) {
         if self.observed.reports_progress {
             self.progress.before_line();
