@@ -193,7 +193,8 @@ pub fn append_round(
     let text = format_sequence(alloc, gates, turn)?;
     line.push_str("[")?;
     line.push_str(text.as_str())?;
-    line.push_str("]")
+    line.push_str("]")?;
+    Ok(())
 }
 
 /// Appends the labels of a row and a blank, if there are any labels.

@@ -113,7 +113,7 @@ fn report_processes<W: Sink, E: Write>(
     status
 }
 
-/// Writes a line for each warning about an accepted specification; none if memory runs out.
+/// Writes a line for each warning about an accepted specification, or one that says that there is no memory for them.
 fn warn<E: Write>(
     alloc: Global,
     text: &[u8],
@@ -123,8 +123,11 @@ fn warn<E: Write>(
 )
     requires { IsAccepted (definition_view specification.now.whole) (system_of system.now) }
 {
-    if let Ok(list) = warnings(alloc, specification, system) {
-        write_warnings(err, text, list.as_slice());
+    match warnings(alloc, specification, system) {
+        Ok(list) => write_warnings(err, text, list.as_slice()),
+        Err(_) => {
+            let _ = writeln!(err, "There is no memory to say more.");
+        }
     }
 }
 
