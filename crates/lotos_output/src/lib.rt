@@ -1,9 +1,9 @@
 //! The output of the commands: lines, and the flush after them.
 //!
 //! [`format_sequence`], [`format_sequence_after`], [`complete_line`], [`append_run`], [`append_round`], [`format_next`],
-//! [`format_labels`] and
-//! [`format_processes`] compose the text of a sequence and the lines of each command. [`flush_complete`], [`flush_stopped`] and [`write_and_flush`] end the output
-//! with one flush, and tell whether it failed. An [`OutputProgress`] is told of each line before it is written.
+//! [`format_labels`] and [`format_processes`] compose the text of a sequence and the lines of each command.
+//! [`flush_complete`], [`flush_stopped`] and [`write_and_flush`] end the output with one flush, and tell whether it
+//! failed. An [`OutputProgress`] is told of each line before it is written.
 #![tactic(auto)]
 
 mod output_flush;
