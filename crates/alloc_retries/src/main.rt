@@ -9,6 +9,7 @@ mod ast_lines;
 mod check_calls;
 mod compiled_calls;
 mod cover_calls;
+mod end_calls;
 mod front_end;
 mod item_search;
 mod lexing_calls;
@@ -51,6 +52,7 @@ fn all(rt: &impl Print, heap: &mut Heap) -> Result<(), Stop> {
     mark_calls::rows(rt, heap)?;
     search_calls::rows(rt, heap)?;
     match_calls::rows(rt, heap)?;
+    end_calls::rows(rt, heap)?;
     set_calls::rows(rt, heap)?;
     cover_calls::rows(rt, heap)?;
     request_calls::rows(rt, heap)?;

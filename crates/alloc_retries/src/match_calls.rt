@@ -130,7 +130,7 @@ pub fn write_match(line: &mut Line, table: &NormalTable, found: &Found) -> Resul
 }
 
 /// Writes that more states were found than the bound.
-fn write_bound(line: &mut Line, states: usize) -> Result<(), Stop> {
+pub fn write_bound(line: &mut Line, states: usize) -> Result<(), Stop> {
     put(line, "more than ")?;
     put_number(line, states)?;
     put(line, " states")

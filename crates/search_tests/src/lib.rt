@@ -1,5 +1,6 @@
 //! Tests of searches through public items: tables of listings, marks, small specifications against two oracles, first
-//! matches, sets of normal forms, covers against a third oracle, what observers are told, and the examples of `uses`.
+//! matches, sets of normal forms, covers against a third oracle, matches against a fourth, what observers are told, and
+//! the examples of `uses`.
 //!
 //! They are a crate of their own, because a crate with tests inside is proved twice, and one crate, because each that
 //! runs tests is linked with all libraries below.
@@ -20,6 +21,14 @@ mod cover_tests;
 #[cfg(test)]
 mod derivation_oracle;
 #[cfg(test)]
+mod end_oracle;
+#[cfg(test)]
+mod ended_match_comparison;
+#[cfg(test)]
+mod ended_match_run;
+#[cfg(test)]
+mod ended_match_tests;
+#[cfg(test)]
 mod fault_position_tests;
 #[cfg(test)]
 mod graph;
@@ -28,6 +37,8 @@ mod graph_question;
 #[cfg(test)]
 mod item_search;
 #[cfg(test)]
+mod lasso_walk;
+#[cfg(test)]
 mod length_oracle;
 #[cfg(test)]
 mod listing_run;
@@ -35,6 +46,8 @@ mod listing_run;
 mod listing_tables;
 #[cfg(test)]
 mod mark_tests;
+#[cfg(test)]
+mod match_oracle;
 #[cfg(test)]
 mod match_tests;
 #[cfg(test)]

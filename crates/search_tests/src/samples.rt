@@ -1,4 +1,5 @@
 //! Small specifications, each by its functionality and its behaviour, and patterns for them.
+use lotos_pattern::EndKind;
 
 /// The words of a pattern.
 pub type Words = &'static [&'static str];
@@ -110,6 +111,22 @@ pub const RECURSIONS: &[&str] = &[
     "noexit behaviour P[a] ||| Q[b] where process P [x] : noexit := x; P[x] endproc process Q [y] : noexit := i; y; Q[y] endproc",
 ];
 
+/// Loops, of which some can be left, or come after a row of steps.
+pub const LOOPS: &[&str] = &[
+    "exit behaviour a; P where process P : exit := i; P [] exit endproc",
+    "noexit behaviour hide c in P[a,b,c] where process P [x,y,z] : noexit := x; (z; P[x,y,z] [] y; Q[z]) endproc process Q [z] : noexit := z; Q[z] endproc",
+    "noexit behaviour P[a,b,c] where process P [x,y,z] : noexit := x; (y; P[x,y,z] [] i; z; P[x,y,z]) endproc",
+    "noexit behaviour a; b; P[c] where process P [x] : noexit := x; P[x] endproc",
+    "noexit behaviour P[a,b,c] where process P [x,y,z] : noexit := x; P[x,y,z] [] y; z; x; Q[z] endproc process Q [z] : noexit := z; z; Q[z] endproc",
+    "noexit behaviour P[a,b,c] where process P [x,y,z] : noexit := x; Q[x,y,z] [] i; stop endproc process Q [x,y,z] : noexit := y; Q[x,y,z] [] z; P[x,y,z] [] i; R[x] endproc process R [x] : noexit := x; R[x] endproc",
+    "noexit behaviour i; i; P[a,b] [] a; i; P[b,a] where process P [x,y] : noexit := x; x; stop [] y; P[x,y] endproc",
+    "noexit behaviour hide c in (P[a,b] ||| P[c,b]) where process P [x,y] : noexit := x; P[x,y] [] y; stop endproc",
+    "noexit behaviour P[a,b] |[a]| Q[a,c] where process P [x,y] : noexit := x; y; P[x,y] endproc process Q [x,y] : noexit := x; Q[x,y] [] y; stop endproc",
+    "noexit behaviour P[a,b] |[a]| a; a; stop where process P [x,y] : noexit := x; P[x,y] [] y; i; P[x,y] endproc",
+    "exit behaviour (P[a] [> b; exit) >> i; c; exit where process P [x] : exit := x; P[x] [] i; exit endproc",
+    "noexit behaviour hide b in P[a,b] where process P [x,y] : noexit := x; P[y,x] [] y; stop endproc",
+];
+
 /// Patterns without repetition.
 pub const FIRST_PATTERNS: &[Words] = &[
     &[],
@@ -164,4 +181,46 @@ pub const THIRD_PATTERNS: &[Words] = &[
     &["<while>", "i,A", "B"],
     &["<until>", "<not>", "i", "<deadlock>"],
     &["<until>", "<refuses>", "i,A"],
+];
+
+/// Patterns that demand something of what can come after the end, each with the kind of its demand.
+pub const END_PATTERNS: &[(Words, EndKind)] = &[
+    (&["<livelock>"], EndKind::Livelock),
+    (&["<until>", "<livelock>"], EndKind::Livelock),
+    (
+        &["<while>", "<not>", "B", "A", "<livelock>"],
+        EndKind::Livelock,
+    ),
+    (&["<forever>", "A"], EndKind::Forever),
+    (&["<until>", "<forever>", "A"], EndKind::Forever),
+    (&["<until>", "<forever>", "B,C"], EndKind::Forever),
+    (
+        &["<while>", "<any>", "B", "<forever>", "<not>", "B"],
+        EndKind::Forever,
+    ),
+    (&["<any>", "<forever>", "<any>"], EndKind::Forever),
+    (&["<until>", "<never>", "A"], EndKind::Never),
+    (&["<until>", "<never>", "<not>", "A"], EndKind::Never),
+    (
+        &["<while>", "B", "<any>", "<never>", "B,exit"],
+        EndKind::Never,
+    ),
+    (&["<until>", "<never>", "<any>"], EndKind::Never),
+    (
+        &["<while>", "<any>", "A", "A", "<never>", "B"],
+        EndKind::Never,
+    ),
+];
+
+/// The same with `i`, for searches in which internal steps are observed.
+pub const STRONG_END_PATTERNS: &[(Words, EndKind)] = &[
+    (&["<while>", "i", "<livelock>"], EndKind::Livelock),
+    (
+        &["<while>", "<any>", "i", "<forever>", "A"],
+        EndKind::Forever,
+    ),
+    (&["<until>", "<forever>", "<not>", "i,B"], EndKind::Forever),
+    (&["<until>", "<never>", "i"], EndKind::Never),
+    (&["<until>", "i", "<never>", "i,A"], EndKind::Never),
+    (&["<until>", "<never>", "<not>", "i"], EndKind::Never),
 ];
