@@ -45,7 +45,8 @@ pub record IsLabelOfBoth (known labels : List TermLabel) (index : ℕ) (label : 
 
 -- the text so far, and a blank and the printed text of each label that is left, make up the whole
 abbrev pub IsLeft : List Name → List TermLabel → (text whole : List ℕ) → Type 0
-IsLeft names rest text whole = (left : List Label) × ArePrinted names rest left × (text ++ flat_map (λ m. 32 ∷ m) left ≡ whole)
+IsLeft names rest text whole =
+    (left : List Label) × ArePrinted names rest left × (text ++ flat_map (λ m. 32 ∷ m) left ≡ whole)
 
 -- the text of labels, if there are any
 abbrev pub IsTextOf : List Label → Option (String Global) → Type 0

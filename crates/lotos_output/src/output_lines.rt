@@ -185,7 +185,8 @@ pub fn append_round(
 ) -> Result<(), AllocError>
     requires row { (r : List Text) × ArePrinted gates.now row.now r }
     requires turn { (s : List Text) × ArePrinted gates.now turn.now s }
-    ensures { OnOk result ((r s : List Text) → ArePrinted gates.now row.now r → ArePrinted gates.now turn.now s →
+    ensures { OnOk result ((r s : List Text) →
+        ArePrinted gates.now row.now r → ArePrinted gates.now turn.now s →
         string_bytes line.new ≡ string_bytes line.old ++ round_text r s) }
 {
     line.push_str(" <forever> ")?;

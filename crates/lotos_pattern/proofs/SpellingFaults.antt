@@ -3,9 +3,12 @@ use Rattle.std.proofs.Common.{◌≡◌, ℕ, ◌+◌, ◌<◌, Bool, false, Lis
 use Rattle.std.specs.Prelude.{slice_get}
 use Rattle.std.proofs.lemmas.List.{drop_all, length-drop, take-append-drop, length-append}
 use Rattle.lotos_pattern.specs.Patterns.{Element, IsDemanded, IsJoin, LabelSet, OnlyLastDemandsRefusal, Pattern, last_refusal}
-use Rattle.lotos_pattern.specs.Spelling.{EqualsIgnoringCase, IsAny, IsDeadlock, IsFuture, IsNot, IsRefuses, IsUntil, IsWhile, PatternOf, RefusalSpelling, SetSpelling}
-use Rattle.lotos_pattern.specs.Spelling.{Spelling, Text, WideSetSpelling, all, complement, deadlock, end, named, one_of, refused, some, until_end, until_set, while_set}
-use Rattle.lotos_pattern.specs.PatternFaults.{AwaitsEnd, AwaitsSet, BeginsElement, BeginsNoElement, BeginsNoSet, EndsNoComplement, EndsNoUntil, HasNoSetAfter, HasWord}
+use Rattle.lotos_pattern.specs.Spelling.{EqualsIgnoringCase, IsAny, IsDeadlock, IsFuture, IsNot, IsRefuses, IsUntil, IsWhile, PatternOf}
+use Rattle.lotos_pattern.specs.Spelling.{RefusalSpelling, SetSpelling}
+use Rattle.lotos_pattern.specs.Spelling.{Spelling, Text, WideSetSpelling, all, complement, deadlock, end, named, one_of, refused, some, until_end}
+use Rattle.lotos_pattern.specs.Spelling.{until_set, while_set}
+use Rattle.lotos_pattern.specs.PatternFaults.{AwaitsEnd, AwaitsSet, BeginsElement, BeginsNoElement, BeginsNoSet, EndsNoComplement, EndsNoUntil}
+use Rattle.lotos_pattern.specs.PatternFaults.{HasNoSetAfter, HasWord}
 use Rattle.lotos_pattern.specs.PatternFaults.{IsAfterPattern, IsCause, IsLabels, NamesInternal, SpellsNone}
 use Rattle.lotos_pattern.specs.WordKinds.{IsAppendFault, IsEndFaultAt, IsFaultAt, IsSetFaultAt}
 use Rattle.lotos_pattern.specs.declared.fault.PatternFault.{PatternFault}
@@ -110,9 +113,12 @@ module _ (strong : Bool) where
   no_angle word tail more is differ (end_head (refuses_head i h)) = apart word _ _ i is differ.refuses
 
   no_future : (word : Text) (more : List Text) → IsFuture word → ElementHead (word ∷ more) → ⊥
-  no_future word more (inl is) = no_angle word _ more is (record { complement = refl; any = refl; until = refl; while = refl; deadlock = refl; refuses = refl })
-  no_future word more (inr (inl is)) = no_angle word _ more is (record { complement = refl; any = refl; until = refl; while = refl; deadlock = refl; refuses = refl })
-  no_future word more (inr (inr is)) = no_angle word _ more is (record { complement = refl; any = refl; until = refl; while = refl; deadlock = refl; refuses = refl })
+  no_future word more (inl is) = no_angle word _ more is
+      (record { complement = refl; any = refl; until = refl; while = refl; deadlock = refl; refuses = refl })
+  no_future word more (inr (inl is)) = no_angle word _ more is
+      (record { complement = refl; any = refl; until = refl; while = refl; deadlock = refl; refuses = refl })
+  no_future word more (inr (inr is)) = no_angle word _ more is
+      (record { complement = refl; any = refl; until = refl; while = refl; deadlock = refl; refuses = refl })
 
   -- what goes on with an element after `<until>`, and with a set after `<not>`
   data UntilTail : List Text → Type 0 where

@@ -2,7 +2,8 @@
 use Rattle.std.specs.Prelude.{◌≡◌, ◌⊎◌, ℕ, ◌+◌, ◌<◌, Bool, true, false, List, Some, Contains, length, slice_get, take}
 use Rattle.lotos_pattern.specs.PatternLabels.{Label, internal}
 use Rattle.lotos_pattern.specs.Patterns.{DemandsRefusal, Pattern}
-use Rattle.lotos_pattern.specs.Spelling.{IsAny, IsDeadlock, IsFuture, IsNot, IsRefuses, IsUntil, IsWhile, NamesLabels, PatternOf, Text}
+use Rattle.lotos_pattern.specs.Spelling.{IsAny, IsDeadlock, IsFuture, IsNot, IsRefuses, IsUntil, IsWhile}
+use Rattle.lotos_pattern.specs.Spelling.{NamesLabels, PatternOf, Text}
 use Rattle.lotos_pattern.specs.declared.fault.PatternFault.{PatternFault}
 use Rattle.lotos_pattern.specs.declared.fault.PatternFault.TheVariants.{E41, E42, E43, E44, E45, E48, E50, E51, E99}
 

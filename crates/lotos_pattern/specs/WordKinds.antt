@@ -2,8 +2,8 @@
 use Rattle.std.specs.Prelude.{◌≡◌, ◌≢◌, ℕ, ◌+◌, ◌<◌, ◌≤◌, Bool, false, List, [], ◌∷◌, ◌++◌, Some, length, map, slice_get, take}
 use Rattle.std.specs.String.{string_bytes}
 use Rattle.lotos_pattern.specs.Patterns.{Element, IsDemanded, LabelSet, last_refusal}
-use Rattle.lotos_pattern.specs.Spelling.{IsAny, IsDeadlock, IsFuture, IsNot, IsRefuses, IsUntil, IsWhile, NamesLabels, RefusalSpelling, SetSpelling}
-use Rattle.lotos_pattern.specs.Spelling.{Spelling, Text, WideSetSpelling}
+use Rattle.lotos_pattern.specs.Spelling.{IsAny, IsDeadlock, IsFuture, IsNot, IsRefuses, IsUntil, IsWhile, NamesLabels}
+use Rattle.lotos_pattern.specs.Spelling.{RefusalSpelling, SetSpelling, Spelling, Text, WideSetSpelling}
 use Rattle.lotos_pattern.specs.PatternFaults.{AwaitsEnd, AwaitsSet, BeginsElement, BeginsNoElement, IsCause, NamesInternal, SpellsNone}
 use Rattle.lotos_pattern.specs.declared.fault.PatternFault.{PatternFault}
 use Rattle.lotos_pattern.specs.declared.fault.PatternFault.TheVariants.{E41, E42, E43, E44, E45, E48, E50, E51, E99}

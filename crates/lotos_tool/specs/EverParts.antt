@@ -14,7 +14,8 @@ use Rattle.lotos_ever.specs.MatchQuestions.{IsMatchQuestionOf, IsMatchToOf}
 use Rattle.lotos_ever.specs.declared.found.Halt.{Halt}
 use Rattle.lotos_ever.specs.declared.found.Halt.TheVariants as halt
 use Rattle.lotos_device.specs.ByteOutput.{AppendsBeginning}
-use Rattle.lotos_tool.specs.EverOutcome.{EverQuestion, IsMatchLine, IsMatchWritten, IsMatchLineCut, IsNoMatch, IsTooManyStates, pattern_of}
+use Rattle.lotos_tool.specs.EverOutcome.{EverQuestion, IsMatchLine, IsMatchWritten, IsMatchLineCut, IsNoMatch}
+use Rattle.lotos_tool.specs.EverOutcome.{IsTooManyStates, pattern_of}
 use Rattle.lotos_tool.specs.QuestionParts.{ForQuestion}
 use Rattle.lotos_report.specs.declared.outcome.EverEnded.{EverEnded}
 use Rattle.lotos_report.specs.declared.outcome.EverEnded.TheVariants.{Matched, NoMatch, Refused, Stopped}

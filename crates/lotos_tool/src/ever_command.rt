@@ -34,11 +34,10 @@ use std::alloc::{AllocError, Global};
 /// The words of the pattern are read first, then the text, whose specification is checked, and then the gates that the
 /// words name are looked up in the specification's own list. The first of these to be refused is returned with nothing
 /// written, and words that spell no pattern are refused with nothing read. The line is composed completely before its
-/// first byte is written. If no derivation matches, if more product states would be stored than the request allows, or more
-/// normal forms are reached where all of them must be found, and
-/// if memory runs out, nothing is written. One flush follows the line, and also ends a search without a match. At most
-/// one byte more than a text may have is taken from the reader, whatever it returns. Neither the reader nor the writer
-/// may have failed before.
+/// first byte is written. Nothing is written if no derivation matches, if more product states would be stored than the
+/// request allows, if more normal forms are reached where all of them must be found, or if memory runs out. One flush
+/// follows the line, and also ends a search without a match. At most one byte more than a text may have is taken from
+/// the reader, whatever it returns. Neither the reader nor the writer may have failed before.
 /// The observer is told when the text is accepted, of each product state that the search stores, and of the line before
 /// it is written; `NoProgress` is one that does nothing.
 pub fn ever<R: Source, W: Sink, P: OutputProgress>(

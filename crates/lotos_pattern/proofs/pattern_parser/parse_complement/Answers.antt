@@ -1,7 +1,8 @@
 use Rattle.std.proofs.Common.{◌≡◌, ◌+◌, arith, length}
 use Rattle.std.proofs.lemmas.List.{length-map}
 use Rattle.lotos_pattern.specs.Spelling.{IsNot, complement, texts_of}
-use Rattle.lotos_pattern.proofs.SpellingFaults.{angle_names_none, fault_not_alone, fault_not_internal, fault_not_none, future_names_none, nothing_names_none, numbered}
+use Rattle.lotos_pattern.proofs.SpellingFaults.{angle_names_none, fault_not_alone, fault_not_internal, fault_not_none, future_names_none}
+use Rattle.lotos_pattern.proofs.SpellingFaults.{nothing_names_none, numbered}
 use Rattle.lotos_pattern.proofs.Words.{word_at}
 use Rattle.lotos_pattern.proofs.pattern_parser.parse_complement.Goals as goal
 

@@ -2,7 +2,8 @@ use Rattle.std.proofs.Common.{◌≡◌, ◌+◌, arith, inl, length}
 use Rattle.std.proofs.lemmas.List.{length-map}
 use Rattle.std.proofs.lemmas.Result.{err_from_is_err_and}
 use Rattle.lotos_pattern.specs.Spelling.{IsUntil, Spelling, deadlock, named, texts_of, until_end, until_set}
-use Rattle.lotos_pattern.proofs.SpellingFaults.{any_ends_none, awaits_after_until, fault_future, fault_internal, fault_until_alone, fault_until_none, nothing_ends_none, numbered, until_ends_none, while_ends_none}
+use Rattle.lotos_pattern.proofs.SpellingFaults.{any_ends_none, awaits_after_until, fault_future, fault_internal, fault_until_alone, fault_until_none}
+use Rattle.lotos_pattern.proofs.SpellingFaults.{nothing_ends_none, numbered, until_ends_none, while_ends_none}
 use Rattle.lotos_pattern.proofs.Growth.{complement_spelled, spelled_after, spelled_by_two}
 use Rattle.lotos_pattern.proofs.Words.{word_at}
 use Rattle.lotos_pattern.proofs.pattern_parser.parse_until.Goals as goal

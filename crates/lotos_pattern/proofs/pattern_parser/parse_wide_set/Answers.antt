@@ -2,7 +2,8 @@ use Rattle.std.proofs.Common.{◌≡◌, arith, inr, length}
 use Rattle.std.proofs.lemmas.List.{length-map}
 use Rattle.std.proofs.lemmas.Result.{err_from_is_err_and}
 use Rattle.lotos_pattern.specs.Spelling.{WideSetSpelling, all, named, some, texts_of}
-use Rattle.lotos_pattern.proofs.SpellingFaults.{deadlock_begins_no_set, fault_internal, future_begins_no_set, no_set_here, nothing_begins_no_set, refuses_begins_no_set, until_begins_no_set}
+use Rattle.lotos_pattern.proofs.SpellingFaults.{deadlock_begins_no_set, fault_internal, future_begins_no_set, no_set_here, nothing_begins_no_set}
+use Rattle.lotos_pattern.proofs.SpellingFaults.{refuses_begins_no_set, until_begins_no_set}
 use Rattle.lotos_pattern.proofs.SpellingFaults.{while_begins_no_set}
 use Rattle.lotos_pattern.proofs.Growth.{complement_spelled, spelled_too, spelled_by_one}
 use Rattle.lotos_pattern.proofs.Words.{word_at}

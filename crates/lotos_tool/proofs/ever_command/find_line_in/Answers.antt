@@ -31,7 +31,8 @@ format_match-requires g c =
       printed = (
         item,
         subst (λ names. IsItemOf names c.in-Some.ended.found.sequence.items c.in-Some.ended.found.word.items item) (sym c.gates.ensures)
-            (shown_now c.args.table.now c.find_shortest_match_with_end.new.table p.pattern p.kind c.in-Some.ended.found c.in_ok-ended.ensures.grows ended.found),
+            (shown_now c.args.table.now c.find_shortest_match_with_end.new.table p.pattern p.kind c.in-Some.ended.found
+            c.in_ok-ended.ensures.grows ended.found),
       );
       round = (round.0, subst (λ names. IsRoundOf names c.in-Some.ended.lasso round.0) (sym (c.gates.ensures ∙ names)) round.1);
     }

@@ -2,7 +2,8 @@ use Rattle.std.proofs.Common.{◌≡◌, ◌∙◌, Err, ap, false, refl, rules,
 use Rattle.lotos_tool.specs.ListingParts.{HasLastText, is_at_limit}
 use Rattle.lotos_tool.specs.ListingQuestions.{ListingQuestion, names_of}
 use Rattle.lotos_tool.proofs.Calls.{halt_failed, told_end, told_halt, returned_item}
-use Rattle.lotos_tool.proofs.ListingProgress.{below_limit, ends_finished, ends_halted, ends_limited, ends_unwritten, item_of, its_labels_now, none_below, progress_more, progress_none, text_kept, within_more}
+use Rattle.lotos_tool.proofs.ListingProgress.{below_limit, ends_finished, ends_halted, ends_limited, ends_unwritten, item_of, its_labels_now}
+use Rattle.lotos_tool.proofs.ListingProgress.{none_below, progress_more, progress_none, text_kept, within_more}
 use Rattle.lotos_tool.proofs.listing_output.write_listing.Goals as goal
 
 pub loop-found-init : goal.loop-found-init

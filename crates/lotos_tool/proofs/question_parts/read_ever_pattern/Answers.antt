@@ -21,5 +21,6 @@ returns-in_err-read-clause-rejected c =
     let same : texts_of c.as_slice-2.result.now ≡ words_of c.args.words.now =
     ap texts_of c.as_slice-2.ensures.value ∙ c.in_ok-texts.ensures ∙ ap (map string_bytes) c.as_slice.ensures.value in
     passed_on (IsPatternRejection c.args.strong (ever_words_of c.args.words.now)) r.result (pattern_rejection fault) r.ensures.1
-    (pattern_rejected_for c.args.strong (ever_words_of c.args.words.now) fault (subst (λ words. IsCause c.args.strong (map word_for_refusal words) fault) same c.in_err-read.ensures.cause)
+    (pattern_rejected_for c.args.strong (ever_words_of c.args.words.now) fault
+    (subst (λ words. IsCause c.args.strong (map word_for_refusal words) fault) same c.in_err-read.ensures.cause)
     (subst (λ words. SpellsNone c.args.strong (map word_for_refusal words) fault) same c.in_err-read.ensures.nothing))
