@@ -9,7 +9,7 @@ import glob
 import os
 import re
 
-TOP = os.path.dirname(os.path.dirname(os.path.realpath(__file__)))
+TOP = os.path.dirname(os.path.dirname(os.path.dirname(os.path.realpath(__file__))))
 # What no file defines: words of the language, of the command line and of texts, other programs, and what they define.
 WORDS = set(
     "specification behaviour process where endproc endspec in exit noexit stop hide i f c "
