@@ -19,7 +19,7 @@ build: ## proves and builds the program if a source has changed
 try: ## runs the tests without a proof, in minutes
 	tools/try-tests
 
-test: ## runs the gate, tools/edits-fit and rt ci
+test: ## runs the gate, tools/edits-fit, tools/mains-alike and rt ci
 	.ci/run
 
 edits: ## tries every edit that makes code wrong, not only those of the gate

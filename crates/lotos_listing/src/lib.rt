@@ -31,5 +31,5 @@ pub use observed_label::is_observed;
 pub use order::compare;
 pub use place_step::place_after;
 pub use prefix_walk::{PrefixTree, next_hit};
-pub use progress::{NoProgress, Progress};
+pub use progress::{NoProgress, Progress, Searched};
 pub use stage::Stage;

@@ -1,7 +1,7 @@
 //! Patterns compiled against a list of labels.
-ghost use Rattle.std.specs.Prelude.{◌≡◌, ◌<◌, IfOk, IfSome, List, length, map, string_bytes};
+ghost use Rattle.std.specs.Prelude.{◌≡◌, ◌⊎◌, ◌<◌, ◌≤◌, ℕ, IfOk, IfSome, List, length, map, string_bytes};
 ghost use Rattle.lotos_pattern.specs.PatternLabels.{Label};
-ghost use Rattle.lotos_pattern.specs.NfaStates.{IsPlaceValue, Place as PlaceOf};
+ghost use Rattle.lotos_pattern.specs.NfaStates.{HasState, IsPlaceValue, Place as PlaceOf};
 ghost use Rattle.lotos_pattern.specs.Places.{Accepts, IsPlaceOf};
 ghost use Rattle.lotos_pattern.specs.CompiledPatterns.{ArePlaces, IsFirstPlace, IsLabelAt, IsPlaceAfter, IsPlaceAt, KeepsPlaces, LeadsTo};
 
@@ -132,6 +132,20 @@ impl CompiledPattern {
             IsPlaceOf self.now.pattern r from → Accepts self.now.pattern r result }
     {
         self.ends[place.number()]
+    }
+
+    /// How many elements of the pattern can be done, the first ones: the most that are done at a place that has come up.
+    pub fn most_done(&self) -> usize
+        ensures most { (n k : ℕ) (place : PlaceOf) → IsPlaceAt self.now n place → k < 257 → HasState place k →
+            k ≤ result }
+        ensures attained { (result ≡ 0) ⊎ ((n : ℕ) × (place : PlaceOf) × IsPlaceAt self.now n place ×
+            HasState place result) }
+    {
+        let mut most = 0;
+        for number in 0..self.places.len() {
+            most = self.places.get_index(number).unwrap().last_state(most);
+        }
+        most
     }
 
     /// The place that the label leads to, if it is known; an inner `None` if it leads to none.

@@ -2,7 +2,10 @@
 
 use std::marker::Model;
 
-/// The number of words of a place: enough for the 257 states from 0 to 256 elements done.
+/// The number of states that a pattern can have: from 0 to 256 elements done.
+const STATES: usize = 257;
+
+/// The number of words of a place: enough for all states.
 const WORDS: usize = 5;
 
 /// The number of states in a word.
@@ -96,6 +99,28 @@ impl Place {
             return None;
         }
         Some(state + rest.trailing_zeros() as usize)
+    }
+
+    /// Whether the set has the state.
+    fn has(&self, state: usize) -> bool
+        ensures { MatchBool result (HasState self.now state) (HasState self.now state → ⊥) }
+    {
+        self.first_state_from(state) == Some(state)
+    }
+
+    /// The last state of the set, of those that a pattern can have, or `least` if the set has none after it.
+    pub(crate) fn last_state(&self, least: usize) -> usize
+        ensures least { least ≤ result }
+        ensures last { (k : ℕ) → k < 257 → HasState self.now k → k ≤ result }
+        ensures attained { (result ≡ least) ⊎ HasState self.now result }
+    {
+        let mut last = least;
+        for state in least..STATES {
+            if self.has(state) {
+                last = state;
+            }
+        }
+        last
     }
 
     /// Whether there is a state from this one on.
