@@ -388,7 +388,7 @@ const NO_LINES: &[&str] = &[
     "i",
     "I",
     "A i",
-    "<EMPTY>",
+    "<EMPT>",
     "<empty> A",
     "<any>",
     "A-B",
