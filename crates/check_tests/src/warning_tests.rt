@@ -159,16 +159,6 @@ const PROCESSES: &[Row] = &[
         "",
     ),
     (
-        "a process that only itself calls is called",
-        "specification S : noexit behaviour stop where process P : noexit := i; P endproc endspec",
-        "",
-    ),
-    (
-        "a process that only one that is not called calls",
-        "specification S : noexit behaviour stop where process P : noexit := Q endproc process Q : noexit := stop endproc endspec",
-        "54 process P is never called\n",
-    ),
-    (
         "of two processes of one name the inner one is called",
         "specification S : noexit behaviour Q where process P : noexit := stop endproc process Q : noexit := P where process P : noexit := stop endproc endproc endspec",
         "51 process P is never called\n",
@@ -202,6 +192,80 @@ const PROCESSES: &[Row] = &[
         "several warnings in the order of the text",
         "specification S [a, b] : noexit behaviour P[a] |[a]| stop where process P [x] : noexit := x; (stop |[x]| x; stop) endproc process Q [y] : noexit := stop endproc endspec",
         "20 gate B of S is not used\n49 gate A of `|[..]|` is never offered on the right\n101 gate X of `|[..]|` is never offered on the left\n130 process Q is never called\n133 gate Y of Q is not used\n",
+    ),
+];
+
+/// Processes that the behaviour of the specification reaches, and processes that it does not reach.
+const REACHED_PROCESSES: &[Row] = &[
+    (
+        "a process that only itself calls",
+        "specification S : noexit behaviour stop where process P : noexit := i; P endproc endspec",
+        "54 process P is never reached from the behaviour of the specification\n",
+    ),
+    (
+        "a process that calls itself and is called",
+        "specification S : noexit behaviour P where process P : noexit := i; P endproc endspec",
+        "",
+    ),
+    (
+        "a process that only one that is not called calls",
+        "specification S : noexit behaviour stop where process P : noexit := Q endproc process Q : noexit := stop endproc endspec",
+        "54 process P is never called\n86 process Q is never reached from the behaviour of the specification\n",
+    ),
+    (
+        "two processes that call each other",
+        "specification S : noexit behaviour stop where process P : noexit := i; Q endproc process Q : noexit := i; P endproc endspec",
+        "54 process P is never reached from the behaviour of the specification\n89 process Q is never reached from the behaviour of the specification\n",
+    ),
+    (
+        "two processes that call each other, one of which is called",
+        "specification S : noexit behaviour i; Q where process P : noexit := i; Q endproc process Q : noexit := i; P endproc endspec",
+        "",
+    ),
+    (
+        "a process that is reached only through others, which are defined after it",
+        "specification S : noexit behaviour R where process P : noexit := stop endproc process Q : noexit := P endproc process R : noexit := i; Q endproc endspec",
+        "",
+    ),
+    (
+        "a process that calls one that is reached",
+        "specification S : noexit behaviour P where process P : noexit := stop endproc process Q : noexit := i; (P [] Q) endproc endspec",
+        "86 process Q is never reached from the behaviour of the specification\n",
+    ),
+    (
+        "an inner process that only its own process calls, which is not called",
+        "specification S : noexit behaviour stop where process P : noexit := Q where process Q : noexit := stop endproc endproc endspec",
+        "54 process P is never called\n84 process Q is never reached from the behaviour of the specification\n",
+    ),
+    (
+        "an inner process and its own that call each other",
+        "specification S : noexit behaviour stop where process P : noexit := i; Q where process Q : noexit := i; P endproc endproc endspec",
+        "54 process P is never reached from the behaviour of the specification\n87 process Q is never reached from the behaviour of the specification\n",
+    ),
+    (
+        "an inner process of one that is reached",
+        "specification S : noexit behaviour P where process P : noexit := i; Q where process Q : noexit := i; P endproc endproc endspec",
+        "",
+    ),
+    (
+        "of two processes of one name the outer one calls itself",
+        "specification S : noexit behaviour Q where process P : noexit := i; P endproc process Q : noexit := P where process P : noexit := stop endproc endproc endspec",
+        "51 process P is never reached from the behaviour of the specification\n",
+    ),
+    (
+        "of two processes of one name the inner one calls itself",
+        "specification S : noexit behaviour P ||| Q where process P : noexit := i; P endproc process Q : noexit := stop where process P : noexit := i; P endproc endproc endspec",
+        "125 process P is never reached from the behaviour of the specification\n",
+    ),
+    (
+        "after a behaviour that never terminates",
+        "specification S : noexit behaviour P >> Q where process P : exit := i; P endproc process Q : noexit := i; Q endproc endspec",
+        "",
+    ),
+    (
+        "reached under each operator of a process",
+        "specification S : noexit behaviour P where process P : noexit := (i; A [] B) ||| (hide h in h; C) ||| (D >> E) ||| (F [> G) endproc process A : noexit := i; A endproc process B : noexit := i; B endproc process C : noexit := i; C endproc process D : exit := exit endproc process E : noexit := i; E endproc process F : noexit := i; F endproc process G : noexit := i; G endproc process H : noexit := i; H endproc endspec",
+        "383 process H is never reached from the behaviour of the specification\n",
     ),
 ];
 
@@ -283,6 +347,11 @@ fn warns_about_lists_of_compositions(rt: HostRuntime) -> Result<(), Fail> {
 #[test]
 fn warns_about_processes_that_are_not_called(rt: HostRuntime) -> Result<(), Fail> {
     Ok(assert_rows(&rt, rt.alloc(), PROCESSES)?)
+}
+
+#[test]
+fn warns_about_processes_that_are_not_reached(rt: HostRuntime) -> Result<(), Fail> {
+    Ok(assert_rows(&rt, rt.alloc(), REACHED_PROCESSES)?)
 }
 
 /// A piece of text with each of the numbers after it, the pieces separated.

@@ -1,9 +1,11 @@
 -- The calls of a behaviour, from those of its parts.
-use Rattle.std.proofs.Common.{◌≡◌, ◌↔◌, ◌⊎◌, ℕ, List, ◌∷◌, Option, refl, sym, subst, inl, inr}
+use Rattle.std.proofs.Common.{◌≡◌, ◌↔◌, ◌⊎◌, ◌≤◌, ℕ, List, ◌∷◌, Option, Some, slice_get, length, arith, refl, sym, subst, inl, inr}
+use Rattle.std.proofs.lemmas.Option.{slice_get_within}
 use Rattle.lotos_check.specs.NameLists.{Name}
 use Rattle.lotos_check.specs.Flat.{Flat, stop, exit, prefix, choice, par, hide, enable, disable, call, FlatProcess}
 use Rattle.lotos_check.specs.Bodies.{ContainsCall, itself, under_prefix, left_choice, right_choice, left_par, right_par, under_hide, left_enable, right_enable, left_disable, right_disable}
-use Rattle.lotos_warn.specs.Additions.{Adds, ContainsCallOf, IsCalledByAny}
+use Rattle.lotos_check.proofs.ListIndices.{one_item}
+use Rattle.lotos_warn.specs.Additions.{Adds, ContainsCallOf, IsCalledByAny, IsCalledByNumber}
 use Rattle.lotos_warn.proofs.Additions.{adds_as, adds_both, adds_nothing}
 
 from_stop : (k : ℕ) → ContainsCallOf stop k → ⊥
@@ -93,3 +95,15 @@ any_split p ps k = (
   (λ (q, i, c). elim i [ inl e ↦ inl (subst (λ r. ContainsCallOf r.body k) (sym e) c) | inr j ↦ inr (q, j, c) ]),
   (λ h. elim h [ inl c ↦ (p, inl refl, c) | inr (q, j, c) ↦ (q, inr j, c) ]),
 )
+
+-- a process that the one with this number calls is called by its body
+pub number_calls : (processes : List FlatProcess) (caller : ℕ) (p : FlatProcess) → slice_get processes caller ≡ Some p → (k : ℕ) →
+    ContainsCallOf p.body k ↔ IsCalledByNumber processes caller k
+number_calls processes caller p at k = (
+  (λ c. record { process = p; located = at; calls = c }),
+  (λ h. subst (λ q. ContainsCallOf q.body k) (one_item processes caller h.process p h.located at) h.calls),
+)
+
+-- a number without a process calls none
+pub number_calls_none : (processes : List FlatProcess) (caller : ℕ) → length processes ≤ caller → (k : ℕ) → IsCalledByNumber processes caller k → ⊥
+number_calls_none processes caller past k h = let within = slice_get_within processes caller h.process h.located in omega arith

@@ -1,33 +1,33 @@
 -- The calls of a flat system are those of the specification by name.
-use Rattle.std.proofs.Common.{◌≡◌, ◌↔◌, ◌⊎◌, ℕ, List, [], ◌++◌, refl, subst, inl, inr}
+use Rattle.std.proofs.Common.{◌≡◌, ◌↔◌, ◌⊎◌, ℕ, List, ◌++◌, refl, subst, inl, inr}
 use Rattle.lotos_text.specs.AstView as t
 use Rattle.lotos_text.specs.AstView.{BehaviourView, DefinitionView, formals_of, body_of}
 use Rattle.lotos_text.specs.declared.ast.Placed.{Placed}
 use Rattle.lotos_check.specs.NameLists.{Name, In, texts}
-use Rattle.lotos_check.specs.Scope.{Scope, ScopedDefinition, Binds, IsDistinctScope, within, processes_of, all_definitions}
+use Rattle.lotos_check.specs.Scope.{Scope, ScopedDefinition, Binds, IsDistinctScope, processes_of, all_definitions}
 use Rattle.lotos_check.specs.Subexpressions as parts
 use Rattle.lotos_check.specs.Subexpressions.{IsSubexpression, in_prefix, in_choice_left, in_choice_right, in_par_left, in_par_right, in_hide, in_enable_left, in_enable_right, in_disable_left, in_disable_right}
-use Rattle.lotos_check.specs.StaticFaults.{Occurs}
 use Rattle.lotos_check.specs.Flat.{Flat, FlatProcess, System, Pairwise, IsProcess, Resolves, of_stop, of_exit, of_prefix, of_choice, of_par, of_par_all, of_hide, of_enable, of_disable, of_call}
 use Rattle.lotos_check.specs.Bodies.{ContainsCall, itself, under_prefix, left_choice, right_choice, left_par, right_par, under_hide, left_enable, right_enable, left_disable, right_disable, IsBodyOf, of_whole, of_process, GoesToNamed}
 use Rattle.lotos_check.specs.Acceptance.{IsAccepted}
 use Rattle.lotos_check.proofs.FlatSystemUnique.{paired_at}
 use Rattle.lotos_check.proofs.ListIndices.{get_in, in_get}
-use Rattle.lotos_check.proofs.Pairs.{pair_of_first}
+use Rattle.lotos_check.proofs.Pairs.{pair_of_first, pair_of_second}
 use Rattle.lotos_check.proofs.ScopedDefinitions.{visible_distinct}
-use Rattle.lotos_warn.specs.Additions.{ContainsCallOf, IsCalledByAny, IsCalledIn}
+use Rattle.lotos_warn.specs.Warnings.{IsCalled, IsCalledIn, IsReached, at_once, later, scoped_whole}
+use Rattle.lotos_warn.specs.Additions.{ContainsCallOf, IsCalledByAny, IsCalledByBody, IsReachedIn, by_start, by_process}
 
 body_called : (system : System) (k : ℕ) (b : Flat) → IsBodyOf system b → ContainsCallOf b k → ContainsCallOf system.start k ⊎ IsCalledByAny system.processes k
 body_called system k b of_whole c = inl c
 body_called system k b (of_process p process e) c = inr (process, get_in system.processes p process e, c)
 
-any_called : (system : System) (k : ℕ) → IsCalledByAny system.processes k → IsCalledIn system k
+any_called : (system : System) (k : ℕ) → IsCalledByAny system.processes k → IsCalledByBody system k
 any_called system k (process, i, c) =
     let p = in_get system.processes process i in
     record { body = process.body; located = of_process p.0 process p.1; calls = c }
 
 -- a process is called in the behaviour or by one of the processes
-pub called_in : (system : System) (k : ℕ) → (ContainsCallOf system.start k ⊎ IsCalledByAny system.processes k) ↔ IsCalledIn system k
+pub called_in : (system : System) (k : ℕ) → (ContainsCallOf system.start k ⊎ IsCalledByAny system.processes k) ↔ IsCalledByBody system k
 called_in system k = (
   (λ h. elim h [ inl c ↦ record { body = system.start; located = of_whole; calls = c } | inr c ↦ any_called system k c ]),
   (λ h. body_called system k h.body h.located h.calls),
@@ -76,59 +76,87 @@ process_at vs ps pairs v i =
     let r = pair_of_first vs ps pairs at.0 v at.1 in
     (r.0, get_in ps at.0 r.0 r.1, r.2)
 
--- a call anywhere that is bound to the process
-pub record IsCalledByName (spec : DefinitionView) (k : ℕ) : Type 0 where
-  pub scope : Scope
-  pub in_scope : List Name
-  pub callee : Placed
-  pub actuals : List Placed
-  pub definition : DefinitionView
-  pub occurs : Occurs spec scope in_scope (t.call callee actuals)
-  pub means : Binds scope callee.name k definition
-
 -- the laws of the static check
 module _ (one : (scope : Scope) → IsDistinctScope scope → BindsOnce scope)
     (named : (spec : DefinitionView) (s : System) → IsAccepted spec s → (v : ScopedDefinition) → In v (all_definitions spec) →
     (b : Flat) → Resolves v.scope (body_of v.definition) b → (k : ℕ) (gates : List Name) → ContainsCall b k gates → GoesToNamed s v k gates)
     (spec : DefinitionView) (s : System) (a : IsAccepted spec s) where
-  abbrev top : ScopedDefinition
-  top = record { scope = within spec 0 []; definition = spec }
-
-  by_name : (k : ℕ) (v : ScopedDefinition) → In v (all_definitions spec) → (b : Flat) → Resolves v.scope (body_of v.definition) b → ContainsCallOf b k → IsCalledByName spec k
-  by_name k v i b r c =
+  -- a call by number in the body of a definition comes from one by name
+  named_call : (k : ℕ) (v : ScopedDefinition) → In v (all_definitions spec) → (b : Flat) → Resolves v.scope (body_of v.definition) b →
+      ContainsCallOf b k → IsCalledIn v k
+  named_call k v i b r c =
       let n = (named spec s a v i b r k c.0 c.1).named in
       record {
-        scope = v.scope;
         in_scope = n.there;
         callee = n.called;
         actuals = n.actuals;
         definition = n.definition;
-        occurs = record { definition = v.definition; located = i; inside = n.inside };
+        inside = n.inside;
         means = n.means;
       }
 
-  process_by_name : (k : ℕ) (b : Flat) → IsBodyOf s b → ContainsCallOf b k → IsCalledByName spec k
-  process_by_name k b of_whole c = by_name k top (inl refl) s.start a.flat.start c
+  -- and a call by name is one by number
+  numbered_call : (k : ℕ) (v : ScopedDefinition) → In v (all_definitions spec) → (b : Flat) → Resolves v.scope (body_of v.definition) b →
+      IsCalledIn v k → ContainsCallOf b k
+  numbered_call k v i b r h =
+      number_called v.scope (one v.scope (visible_distinct spec a.typed.distinct v i)) (texts (formals_of v.definition)) (body_of v.definition) b
+      h.in_scope h.callee h.actuals k h.definition r h.inside h.means
+
+  occurrence : (k : ℕ) (v : ScopedDefinition) → In v (all_definitions spec) → IsCalledIn v k → IsCalled spec k
+  occurrence k v i h = record {
+    scope = v.scope;
+    in_scope = h.in_scope;
+    callee = h.callee;
+    actuals = h.actuals;
+    definition = h.definition;
+    occurs = record { definition = v.definition; located = i; inside = h.inside };
+    means = h.means;
+  }
+
+  process_by_name : (k : ℕ) (b : Flat) → IsBodyOf s b → ContainsCallOf b k → IsCalled spec k
+  process_by_name k b of_whole c = occurrence k (scoped_whole spec) (inl refl) (named_call k (scoped_whole spec) (inl refl) s.start a.flat.start c)
   process_by_name k b (of_process p process e) c =
       let at = paired_at (processes_of spec) s.processes a.flat.processes p process e in
-      by_name k at.0 (inr at.1) process.body at.2.body c
+      occurrence k at.0 (inr at.1) (named_call k at.0 (inr at.1) process.body at.2.body c)
 
-  by_number : (k : ℕ) (v : ScopedDefinition) → In v (all_definitions spec) → (there : List Name) (callee : Placed) (actuals : List Placed) (d : DefinitionView) →
-      IsSubexpression (texts (formals_of v.definition)) (body_of v.definition) there (t.call callee actuals) → Binds v.scope callee.name k d →
-      ContainsCallOf s.start k ⊎ IsCalledByAny s.processes k
-  by_number k v i there callee actuals d inside means =
-      let once = one v.scope (visible_distinct spec a.typed.distinct v i) in
-      let found = (λ (c : Flat) (r : Resolves v.scope (body_of v.definition) c).
-      number_called v.scope once (texts (formals_of v.definition)) (body_of v.definition) c there callee actuals k d r inside means) in
+  by_number : (k : ℕ) (v : ScopedDefinition) → In v (all_definitions spec) → IsCalledIn v k → ContainsCallOf s.start k ⊎ IsCalledByAny s.processes k
+  by_number k v i h =
+      let numbered = (λ (b : Flat) (r : Resolves v.scope (body_of v.definition) b). numbered_call k v i b r h) in
       elim i [
-        | inl e ↦ inl (found s.start (subst (λ u. Resolves u.scope (body_of u.definition) s.start) e a.flat.start))
-        | inr j ↦ (let at = process_at (processes_of spec) s.processes a.flat.processes v j in inr (at.0, at.1, found at.0.body at.2.body))
+        | inl e ↦ inl (numbered s.start (subst (λ u. Resolves u.scope (body_of u.definition) s.start) e a.flat.start))
+        | inr j ↦ (let at = process_at (processes_of spec) s.processes a.flat.processes v j in inr (at.0, at.1, numbered at.0.body at.2.body))
       ]
 
   -- a process is called in the system exactly if a call anywhere is bound to it
-  pub called_by_name : (k : ℕ) → IsCalledIn s k ↔ IsCalledByName spec k
+  pub called_by_name : (k : ℕ) → IsCalledByBody s k ↔ IsCalled spec k
   called_by_name k = (
     (λ h. process_by_name k h.body h.located h.calls),
-    (λ h. (called_in s k).0 (by_number k (record { scope = h.scope; definition = h.occurs.definition }) h.occurs.located
-        h.in_scope h.callee h.actuals h.definition h.occurs.inside h.means)),
+    (λ h. (called_in s k).0 (by_number k (record { scope = h.scope; definition = h.occurs.definition }) h.occurs.located (record {
+      in_scope = h.in_scope;
+      callee = h.callee;
+      actuals = h.actuals;
+      definition = h.definition;
+      inside = h.occurs.inside;
+      means = h.means;
+    }))),
   )
+
+  reached_name : (k : ℕ) → IsReachedIn s k → IsReached spec k
+  reached_name k (by_start c) = at_once (named_call k (scoped_whole spec) (inl refl) s.start a.flat.start c)
+  reached_name k (by_process {caller = p} r h) =
+      let at = pair_of_second (processes_of spec) s.processes a.flat.processes p h.process h.located in
+      later (reached_name p r) at.1 (named_call k at.0 (inr (get_in (processes_of spec) p at.0 at.1)) h.process.body at.2.body h.calls)
+
+  reached_number : (k : ℕ) → IsReached spec k → IsReachedIn s k
+  reached_number k (at_once h) = by_start (numbered_call k (scoped_whole spec) (inl refl) s.start a.flat.start h)
+  reached_number k (later {caller = p} {scoped = v} r e h) =
+      let at = pair_of_first (processes_of spec) s.processes a.flat.processes p v e in
+      by_process (reached_number p r) (record {
+        process = at.0;
+        located = at.1;
+        calls = numbered_call k v (inr (get_in (processes_of spec) p v e)) at.0.body at.2.body h;
+      })
+
+  -- a process is reached in the system exactly if it is reached by calls by name
+  pub reached_by_name : (k : ℕ) → IsReachedIn s k ↔ IsReached spec k
+  reached_by_name k = (reached_name k, reached_number k)

@@ -5,14 +5,15 @@ use Rattle.lotos_text.specs.declared.ast.Placed.{Placed}
 use Rattle.lotos_check.specs.NameLists.{Name, In}
 use Rattle.lotos_check.proofs.Pairs.{drop_at}
 use Rattle.lotos_warn.specs.declared.warning.Warning.{Warning}
-use Rattle.lotos_warn.specs.declared.warning.Warning.TheVariants.{UncalledProcess, UnusedGate, UnofferedGate}
+use Rattle.lotos_warn.specs.declared.warning.Warning.TheVariants.{UncalledProcess, UnreachedProcess, UnusedGate, UnofferedGate}
 use Rattle.lotos_warn.specs.Warnings.{UsesFree}
-use Rattle.lotos_warn.specs.Additions.{IsUnusedAmong, IsUnusedIn, IsGateWarning, IsGateWarningOfAny, IsUncalledAt, IsUncalledAmong}
+use Rattle.lotos_warn.specs.Additions.{IsUnusedAmong, IsUnusedIn, IsGateWarning, IsGateWarningOfAny, IsUncalledAt, IsUnreachedAt, IsProcessWarning, IsProcessWarningOfAny}
 
 -- an unused gate of a list is the first, or one of the others
 pub unused_split : (used : List Name) (name : Name) (g : Placed) (gs : List Placed) (w : Warning) →
     IsUnusedAmong used name (g ∷ gs) w ↔ (IsUnusedAmong used name (g ∷ []) w ⊎ IsUnusedAmong used name gs w)
 unused_split used name g gs (UncalledProcess p) = ((λ h. absurd h), (λ h. elim h [ inl i ↦ i | inr i ↦ i ]))
+unused_split used name g gs (UnreachedProcess p) = ((λ h. absurd h), (λ h. elim h [ inl i ↦ i | inr i ↦ i ]))
 unused_split used name g gs (UnofferedGate p s) = ((λ h. absurd h), (λ h. elim h [ inl i ↦ i | inr i ↦ i ]))
 unused_split used name g gs (UnusedGate gate d) = (
   (λ h. elim h.0 [ inl e ↦ inl (inl e, h.1, h.2) | inr i ↦ inr (i, h.1, h.2) ]),
@@ -24,6 +25,7 @@ unused_split used name g gs (UnusedGate gate d) = (
 
 pub unused_none : (used : List Name) (name : Name) (w : Warning) → IsUnusedAmong used name [] w → ⊥
 unused_none used name (UncalledProcess p) h = h
+unused_none used name (UnreachedProcess p) h = h
 unused_none used name (UnofferedGate p s) h = h
 unused_none used name (UnusedGate gate d) h = h.0
 
@@ -31,6 +33,7 @@ unused_none used name (UnusedGate gate d) h = h.0
 pub unused_one : (used : List Name) (name : Name) (gate : Placed) → (In gate.name used → ⊥) → (w : Warning) →
     (UnusedGate gate name ≡ w) ↔ IsUnusedAmong used name (gate ∷ []) w
 unused_one used name gate none (UncalledProcess p) = ((λ e. cc), (λ h. absurd h))
+unused_one used name gate none (UnreachedProcess p) = ((λ e. cc), (λ h. absurd h))
 unused_one used name gate none (UnofferedGate p s) = ((λ e. cc), (λ h. absurd h))
 unused_one used name gate none (UnusedGate other d) = (
   (λ e. let same : gate ≡ other = cc in let named : d ≡ name = cc in (inl same, named, subst (λ g. In g.name used → ⊥) same none)),
@@ -40,6 +43,7 @@ unused_one used name gate none (UnusedGate other d) = (
 -- none about a gate that is
 pub unused_never : (used : List Name) (name : Name) (gate : Placed) → In gate.name used → (w : Warning) → IsUnusedAmong used name (gate ∷ []) w → ⊥
 unused_never used name gate some (UncalledProcess p) h = h
+unused_never used name gate some (UnreachedProcess p) h = h
 unused_never used name gate some (UnofferedGate p s) h = h
 unused_never used name gate some (UnusedGate other d) h = elim h.0 [ inl same ↦ h.2 (subst (λ g. In g.name used) same some) | inr i ↦ i ]
 
@@ -47,6 +51,7 @@ unused_never used name gate some (UnusedGate other d) h = elim h.0 [ inl same �
 pub unused_in : (d : DefinitionView) (used : List Name) → ((n : Name) → In n used ↔ UsesFree (body_of d) n) → (w : Warning) →
     IsUnusedAmong used (name_of d).name (formals_of d) w ↔ IsUnusedIn d w
 unused_in d used same (UncalledProcess p) = ((λ h. h), (λ h. h))
+unused_in d used same (UnreachedProcess p) = ((λ h. h), (λ h. h))
 unused_in d used same (UnofferedGate p s) = ((λ h. h), (λ h. h))
 unused_in d used same (UnusedGate gate name) = (
   (λ h. (h.0, h.1, (λ u. h.2 ((same gate.name).1 u)))),
@@ -64,26 +69,51 @@ gates_split d ds w = (
 pub uncalled_one : (called : List ℕ) (number : ℕ) (d : DefinitionView) → (In number called → ⊥) → (w : Warning) →
     (UncalledProcess (name_of d) ≡ w) ↔ IsUncalledAt called number d w
 uncalled_one called number d none (UncalledProcess p) = ((λ e. ((let named : p ≡ name_of d = cc in named), none)), (λ h. let named = h.0 in cc))
+uncalled_one called number d none (UnreachedProcess p) = ((λ e. cc), (λ h. absurd h))
 uncalled_one called number d none (UnusedGate gate name) = ((λ e. cc), (λ h. absurd h))
 uncalled_one called number d none (UnofferedGate gate side) = ((λ e. cc), (λ h. absurd h))
 
 -- none about a process that is
 pub uncalled_never : (called : List ℕ) (number : ℕ) (d : DefinitionView) → In number called → (w : Warning) → IsUncalledAt called number d w → ⊥
 uncalled_never called number d some (UncalledProcess p) h = h.1 some
+uncalled_never called number d some (UnreachedProcess p) h = h
 uncalled_never called number d some (UnusedGate gate name) h = h
 uncalled_never called number d some (UnofferedGate gate side) h = h
 
--- of the processes from a number on, one that is not called is the first, or one of the others
-pub uncalled_next : {K : Type 0} (view : K → DefinitionView) (called : List ℕ) (ps : List K) (n : ℕ) (d y : K) → n < length ps → y ≡ get_or ps n d → (w : Warning) →
-    IsUncalledAmong called n (map view (drop n ps)) w ↔ (IsUncalledAt called n (view y) w ⊎ IsUncalledAmong called (n + 1) (map view (drop (n + 1) ps)) w)
-uncalled_next view called ps n d y within at w =
+-- the warning about a process that is called and not reached
+pub unreached_one : (called reached : List ℕ) (number : ℕ) (d : DefinitionView) → In number called × (In number reached → ⊥) → (w : Warning) →
+    (UnreachedProcess (name_of d) ≡ w) ↔ IsUnreachedAt called reached number d w
+unreached_one called reached number d here (UncalledProcess p) = ((λ e. cc), (λ h. absurd h))
+unreached_one called reached number d here (UnreachedProcess p) = (
+  (λ e. ((let named : p ≡ name_of d = cc in named), here.0, here.1)),
+  (λ h. let named = h.0 in cc),
+)
+unreached_one called reached number d here (UnusedGate gate name) = ((λ e. cc), (λ h. absurd h))
+unreached_one called reached number d here (UnofferedGate gate side) = ((λ e. cc), (λ h. absurd h))
+
+-- none about one that is not called, or that is reached
+pub unreached_never : (called reached : List ℕ) (number : ℕ) (d : DefinitionView) → (In number called → ⊥) ⊎ In number reached → (w : Warning) →
+    IsUnreachedAt called reached number d w → ⊥
+unreached_never called reached number d other (UncalledProcess p) h = h
+unreached_never called reached number d other (UnreachedProcess p) h = elim other [ inl none ↦ none h.1 | inr some ↦ h.2 some ]
+unreached_never called reached number d other (UnusedGate gate name) h = h
+unreached_never called reached number d other (UnofferedGate gate side) h = h
+
+-- of the processes from a number on, one that has a warning is the first, or one of the others
+pub process_next : {K : Type 0} (view : K → DefinitionView) (called reached : List ℕ) (ps : List K) (n : ℕ) (d y : K) →
+    n < length ps → y ≡ get_or ps n d → (w : Warning) →
+    IsProcessWarningOfAny called reached n (map view (drop n ps)) w
+    ↔ (IsProcessWarning called reached n (view y) w ⊎ IsProcessWarningOfAny called reached (n + 1) (map view (drop (n + 1) ps)) w)
+process_next view called reached ps n d y within at w =
     let next = drop_at ps n d y within at in
     let step : suc n ≡ n + 1 = omega arith in
+    let first = IsProcessWarning called reached n (view y) w in
     let rest = map view (drop (n + 1) ps) in
-    subst (λ xs. IsUncalledAmong called n (map view xs) w ↔ (IsUncalledAt called n (view y) w ⊎ IsUncalledAmong called (n + 1) rest w)) (sym next)
-    (subst (λ m. (IsUncalledAt called n (view y) w ⊎ IsUncalledAmong called (suc n) rest w) ↔ (IsUncalledAt called n (view y) w ⊎ IsUncalledAmong called m rest w)) step
+    subst (λ xs. IsProcessWarningOfAny called reached n (map view xs) w ↔ (first ⊎ IsProcessWarningOfAny called reached (n + 1) rest w)) (sym next)
+    (subst (λ m. (first ⊎ IsProcessWarningOfAny called reached (suc n) rest w) ↔ (first ⊎ IsProcessWarningOfAny called reached m rest w)) step
     ((λ h. h), (λ h. h)))
 
 -- there is none after the last
-pub uncalled_end : {K : Type 0} (view : K → DefinitionView) (called : List ℕ) (n : ℕ) (ps : List K) → ps ≡ [] → (w : Warning) → IsUncalledAmong called n (map view ps) w → ⊥
-uncalled_end view called n ps none w h = subst (λ xs. IsUncalledAmong called n (map view xs) w) none h
+pub process_end : {K : Type 0} (view : K → DefinitionView) (called reached : List ℕ) (n : ℕ) (ps : List K) → ps ≡ [] → (w : Warning) →
+    IsProcessWarningOfAny called reached n (map view ps) w → ⊥
+process_end view called reached n ps none w h = subst (λ xs. IsProcessWarningOfAny called reached n (map view xs) w) none h

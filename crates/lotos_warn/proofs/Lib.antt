@@ -6,5 +6,6 @@ pub mod CallAdditions
 pub mod ListWarnings
 pub mod SortedWarnings
 pub mod CalledNames
+pub mod ReachedNumbers
 pub mod WholeWarnings
 pub mod DefinitionWarnings

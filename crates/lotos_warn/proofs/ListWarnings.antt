@@ -9,7 +9,7 @@ use Rattle.lotos_check.specs.Subexpressions.{IsSubexpression, in_prefix, in_choi
 use Rattle.lotos_warn.specs.declared.warning.Side.{Side}
 use Rattle.lotos_warn.specs.declared.warning.Side.TheVariants.{Left, Right}
 use Rattle.lotos_warn.specs.declared.warning.Warning.{Warning}
-use Rattle.lotos_warn.specs.declared.warning.Warning.TheVariants.{UncalledProcess, UnusedGate, UnofferedGate}
+use Rattle.lotos_warn.specs.declared.warning.Warning.TheVariants.{UncalledProcess, UnreachedProcess, UnusedGate, UnofferedGate}
 use Rattle.lotos_warn.specs.Warnings.{OffersFree, operand, IsUnofferedIn, IsListWarning}
 use Rattle.lotos_warn.specs.Additions.{Adds, IsMissingOn, IsMissingGate, IsMissing, names_of}
 use Rattle.lotos_warn.proofs.Additions.{adds_as, adds_both, adds_nothing, adds_alone}
@@ -121,6 +121,7 @@ AreBoth l r whole = (g : Placed) (s : Side) → (IsUnofferedIn l g s ⊎ IsUnoff
 
 both_lists : (l r whole : BehaviourView) → AreBoth l r whole → (w : Warning) → (IsListWarning l w ⊎ IsListWarning r w) ↔ IsListWarning whole w
 both_lists l r whole same (UncalledProcess p) = ((λ h. elim h [ inl i ↦ i | inr i ↦ i ]), (λ h. absurd h))
+both_lists l r whole same (UnreachedProcess p) = ((λ h. elim h [ inl i ↦ i | inr i ↦ i ]), (λ h. absurd h))
 both_lists l r whole same (UnusedGate g d) = ((λ h. elim h [ inl i ↦ i | inr i ↦ i ]), (λ h. absurd h))
 both_lists l r whole same (UnofferedGate g s) = same g s
 
@@ -132,6 +133,7 @@ by_both l r whole form g s = (
 
 one_list : (b whole : BehaviourView) → ((g : Placed) (s : Side) → WarnsIn g s whole ↔ WarnsIn g s b) → (w : Warning) → IsListWarning b w ↔ IsListWarning whole w
 one_list b whole form (UncalledProcess p) = ((λ h. h), (λ h. h))
+one_list b whole form (UnreachedProcess p) = ((λ h. h), (λ h. h))
 one_list b whole form (UnusedGate g d) = ((λ h. h), (λ h. h))
 one_list b whole form (UnofferedGate g s) = (
   (λ h. (warns_by_form g s whole).1 ((form g s).1 ((warns_by_form g s b).0 h))),
@@ -140,6 +142,7 @@ one_list b whole form (UnofferedGate g s) = (
 
 no_list : (whole : BehaviourView) → ((g : Placed) (s : Side) → WarnsIn g s whole → ⊥) → (w : Warning) → IsListWarning whole w → ⊥
 no_list whole none (UncalledProcess p) h = h
+no_list whole none (UnreachedProcess p) h = h
 no_list whole none (UnusedGate g d) h = h
 no_list whole none (UnofferedGate g s) h = none g s ((warns_by_form g s whole).0 h)
 
@@ -192,6 +195,10 @@ module _ (l r : BehaviourView) (by_left by_right : List Name) (left : (n : Name)
   no_other (gates gs) p h = h
   no_other all p h = h
 
+  no_unreached : (sync : SyncView) (p : Placed) → IsMissing by_left by_right sync (UnreachedProcess p) → ⊥
+  no_unreached (gates gs) p h = h
+  no_unreached all p h = h
+
   no_unused : (sync : SyncView) (g : Placed) (d : Name) → IsMissing by_left by_right sync (UnusedGate g d) → ⊥
   no_unused (gates gs) g d h = h
   no_unused all g d h = h
@@ -199,6 +206,7 @@ module _ (l r : BehaviourView) (by_left by_right : List Name) (left : (n : Name)
   par_lists : (sync : SyncView) (w : Warning) →
       (IsListWarning l w ⊎ (IsListWarning r w ⊎ IsMissing by_left by_right sync w)) ↔ IsListWarning (par l sync r) w
   par_lists sync (UncalledProcess p) = ((λ h. elim h [ inl i ↦ i | inr (inl i) ↦ i | inr (inr i) ↦ no_other sync p i ]), (λ h. absurd h))
+  par_lists sync (UnreachedProcess p) = ((λ h. elim h [ inl i ↦ i | inr (inl i) ↦ i | inr (inr i) ↦ no_unreached sync p i ]), (λ h. absurd h))
   par_lists sync (UnusedGate g d) = ((λ h. elim h [ inl i ↦ i | inr (inl i) ↦ i | inr (inr i) ↦ no_unused sync g d i ]), (λ h. absurd h))
   par_lists sync (UnofferedGate g s) = (
     (λ h. (warns_by_form g s (par l sync r)).1 (elim h [
@@ -244,11 +252,13 @@ pub missing_split : (by_left by_right : List Name) (g : Placed) (gs : List Place
     IsMissingGate by_left by_right (g ∷ gs) w ↔
     ((IsMissingOn by_left Left g w ⊎ IsMissingOn by_right Right g w) ⊎ IsMissingGate by_left by_right gs w)
 missing_split by_left by_right g gs (UncalledProcess p) = ((λ h. absurd h), (λ h. elim h [ inl (inl m) ↦ m | inl (inr m) ↦ m | inr m ↦ m ]))
+missing_split by_left by_right g gs (UnreachedProcess p) = ((λ h. absurd h), (λ h. elim h [ inl (inl m) ↦ m | inl (inr m) ↦ m | inr m ↦ m ]))
 missing_split by_left by_right g gs (UnusedGate other d) = ((λ h. absurd h), (λ h. elim h [ inl (inl m) ↦ m | inl (inr m) ↦ m | inr m ↦ m ]))
 missing_split by_left by_right g gs (UnofferedGate other place) = missing_side by_left by_right g gs other place
 
 pub missing_none : (by_left by_right : List Name) (w : Warning) → IsMissingGate by_left by_right [] w → ⊥
 missing_none by_left by_right (UncalledProcess p) h = h
+missing_none by_left by_right (UnreachedProcess p) h = h
 missing_none by_left by_right (UnusedGate other d) h = h
 missing_none by_left by_right (UnofferedGate other place) h = h.0
 
@@ -256,6 +266,7 @@ missing_none by_left by_right (UnofferedGate other place) h = h.0
 pub missing_one : (names : List Name) (side : Side) (gate : Placed) → (In gate.name names → ⊥) → (w : Warning) →
     (UnofferedGate gate side ≡ w) ↔ IsMissingOn names side gate w
 missing_one names side gate none (UncalledProcess p) = ((λ e. cc), (λ h. absurd h))
+missing_one names side gate none (UnreachedProcess p) = ((λ e. cc), (λ h. absurd h))
 missing_one names side gate none (UnusedGate other d) = ((λ e. cc), (λ h. absurd h))
 missing_one names side gate none (UnofferedGate other place) = (
   (λ e. let same : gate ≡ other = cc in let there : side ≡ place = cc in (same, there, subst (λ g. In g.name names → ⊥) same none)),
@@ -265,5 +276,6 @@ missing_one names side gate none (UnofferedGate other place) = (
 -- none about a gate that is
 pub missing_never : (names : List Name) (side : Side) (gate : Placed) → In gate.name names → (w : Warning) → IsMissingOn names side gate w → ⊥
 missing_never names side gate some (UncalledProcess p) h = h
+missing_never names side gate some (UnreachedProcess p) h = h
 missing_never names side gate some (UnusedGate other d) h = h
 missing_never names side gate some (UnofferedGate other place) h = h.2 (subst (λ g. In g.name names) h.0 some)

@@ -1,6 +1,6 @@
 -- Whether a name or a number is among the keys of a set.
-use Rattle.std.proofs.Common.{◌≡◌, ◌↔◌, ◌⊎◌, ℕ, List, [], ◌∷◌, ◌++◌, map, refl, sym, ◌∙◌, subst, inl, inr, Bool, true, false}
-use Rattle.std.specs.Prelude.{if◌then◌else◌}
+use Rattle.std.proofs.Common.{◌≡◌, ◌↔◌, ◌⊎◌, ℕ, List, [], ◌∷◌, ◌++◌, Some, slice_get, map, refl, sym, ◌∙◌, subst, inl, inr, Bool, true, false}
+use Rattle.std.specs.Prelude.{if◌then◌else◌, not, MatchBool}
 use Rattle.std.proofs.Math.Dec.{eqb}
 use Rattle.std.proofs.lemmas.Bool.{eq-eqb, eqb-true}
 use Rattle.std.specs.List.{list_any}
@@ -8,9 +8,10 @@ use Rattle.std.specs.Str.{bytes_eq}
 use Rattle.std.proofs.lemmas.List.{map-append, map-id}
 use Rattle.std.proofs.lemmas.Slice.Eq.{bytes_eq-Decides}
 use Rattle.lotos_check.specs.NameLists.{Name, In}
+use Rattle.lotos_check.proofs.ListIndices.{get_front}
 use Rattle.lotos_check.proofs.JoinedLists.{in_added, in_back, in_front}
 use Rattle.lotos_check.proofs.NameTests.{in_if_any, out_if_none}
-use Rattle.lotos_warn.specs.Additions.{Adds, AddsNames, IsVisible}
+use Rattle.lotos_warn.specs.Additions.{Adds, AddsNames, IsVisible, KeepsIndices}
 
 -- a list with one more at its end has that, too
 pub adds_end : {X : Type 0} (xs : List X) (y : X) → Adds xs (xs ++ y ∷ []) (λ x. y ≡ x)
@@ -50,6 +51,14 @@ inserted_number old new n grows =
     let from_old = subst (λ xs. Adds xs (map (λ k. k) (if list_any (eqb n) old then old else old ++ n ∷ [])) (λ k. n ≡ k)) (map-id old) all in
     subst (λ xs. Adds old xs (λ k. n ≡ k)) (map-id (if list_any (eqb n) old then old else old ++ n ∷ []) ∙ sym grows) from_old
 
+-- the numbers that are there keep their indices
+pub kept_indices : (old new : List ℕ) (n : ℕ) → new ≡ (if list_any (eqb n) old then old else old ++ n ∷ []) → KeepsIndices old new
+kept_indices old new n grows index k at = subst (λ xs. slice_get xs index ≡ Some k) (sym grows) (by_test (list_any (eqb n) old))
+  where
+    by_test : (there : Bool) → slice_get (if there then old else old ++ n ∷ []) index ≡ Some k
+    by_test true = at
+    by_test false = get_front old (n ∷ []) index k at
+
 -- a number that a test does not find is not among the keys
 pub number_missing : (n : ℕ) (ks : List ℕ) → list_any (eqb n) ks ≡ false → In n ks → ⊥
 number_missing n ks none i = out_if_none (λ k. k) eqb eqb-true eq-eqb n ks none (subst (In n) (sym (map-id ks)) i)
@@ -57,6 +66,18 @@ number_missing n ks none i = out_if_none (λ k. k) eqb eqb-true eq-eqb n ks none
 -- a number that a test finds is
 pub number_found : (n : ℕ) (ks : List ℕ) → list_any (eqb n) ks ≡ true → In n ks
 number_found n ks some = subst (In n) (map-id ks) (in_if_any (λ k. k) eqb eqb-true eq-eqb n ks some)
+
+-- a number that one test finds and another does not
+pub in_first_alone : (first second : List ℕ) (n : ℕ) (there : Bool) → there ≡ list_any (eqb n) second → In n first →
+    MatchBool (not there) (In n first × (In n second → ⊥)) ((In n first → ⊥) ⊎ In n second)
+in_first_alone first second n true found i = inr (number_found n second (sym found))
+in_first_alone first second n false none i = (i, number_missing n second (sym none))
+
+-- a number that the first test does not find
+pub not_in_first : (first second : List ℕ) (n : ℕ) (there : Bool) → there ≡ false → list_any (eqb n) first ≡ false →
+    MatchBool there (In n first × (In n second → ⊥)) ((In n first → ⊥) ⊎ In n second)
+not_in_first first second n there e none =
+    subst (λ b. MatchBool b (In n first × (In n second → ⊥)) ((In n first → ⊥) ⊎ In n second)) (sym e) (inl (number_missing n first none))
 
 -- a name that is visible in a list is the first, which is then visible, or visible among the others
 pub visible_split : (hidden : List Name) (m : Name) (ms : List Name) (n : Name) →

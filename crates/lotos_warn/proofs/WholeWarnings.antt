@@ -1,7 +1,7 @@
 -- The warnings about a specification are those about its definitions.
 use Rattle.std.proofs.Common.{◌≡◌, ◌↔◌, ◌⊎◌, ℕ, ◌+◌, ◌-◌, ◌≤◌, length, take, drop, zero, suc, List, [], ◌∷◌, Some, slice_get, map, refl, sym, ◌∙◌, ap, subst, inl, inr, arith}
 use Rattle.std.proofs.lemmas.List.{take_all}
-use Rattle.lotos_text.specs.AstView.{DefinitionView, name_of, formals_of, body_of, inner_of}
+use Rattle.lotos_text.specs.AstView.{DefinitionView, formals_of, body_of, inner_of}
 use Rattle.lotos_text.specs.declared.ast.Placed.{Placed}
 use Rattle.lotos_check.specs.NameLists.{Name, In, texts}
 use Rattle.lotos_check.specs.Scope.{Scope, ScopedDefinition, IsDefinition, within, processes_of, all_definitions, definitions_in, definitions_in_list}
@@ -9,11 +9,10 @@ use Rattle.lotos_check.proofs.DefinitionOrder.{in_order}
 use Rattle.lotos_check.proofs.ScopedDefinitions.{everywhere_in_order, listed_row, scope_of, without_scope}
 use Rattle.lotos_warn.specs.declared.warning.Side.{Side}
 use Rattle.lotos_warn.specs.declared.warning.Warning.{Warning}
-use Rattle.lotos_warn.specs.declared.warning.Warning.TheVariants.{UncalledProcess, UnusedGate, UnofferedGate}
-use Rattle.lotos_warn.specs.Warnings.{IsUnusedGate, IsUnofferedGate, IsUncalledProcess, IsWarning}
-use Rattle.lotos_warn.specs.Additions.{IsGateWarningOfAny, IsUncalledAmong}
+use Rattle.lotos_warn.specs.declared.warning.Warning.TheVariants.{UncalledProcess, UnreachedProcess, UnusedGate, UnofferedGate}
+use Rattle.lotos_warn.specs.Warnings.{IsUnusedGate, IsUnofferedGate, IsUncalledProcess, IsUnreachedProcess, IsCalled, IsReached, IsWarning}
+use Rattle.lotos_warn.specs.Additions.{IsGateWarningOfAny, IsProcessWarning, IsProcessWarningOfAny}
 use Rattle.lotos_warn.proofs.ListWarnings.{to_form, from_form, warns_by_form, WarnsFrom}
-use Rattle.lotos_warn.proofs.CalledNames.{IsCalledByName}
 
 -- the definitions after the first are those inside it
 pub after_first : {K : Type 0} (view : K → DefinitionView) (xs : List K) (whole : DefinitionView) → map view xs ≡ definitions_in whole →
@@ -69,94 +68,135 @@ module _ (whole : DefinitionView) where
       )),
     )
 
--- of the processes one has the name, and its number is not among those called
-record IsUncalledFrom (called : List ℕ) (first : ℕ) (vs : List ScopedDefinition) (name : Placed) : Type 0 where
+-- of the processes one has the warning
+record IsWarnedFrom (called reached : List ℕ) (first : ℕ) (vs : List ScopedDefinition) (w : Warning) : Type 0 where
   index : ℕ
   scoped : ScopedDefinition
   located : slice_get vs index ≡ Some scoped
-  named : name ≡ name_of scoped.definition
   number : ℕ
   counted : number ≡ first + index
-  uncalled : In number called → ⊥
+  warned : IsProcessWarning called reached number scoped.definition w
 
-uncalled_at : (called : List ℕ) (name : Placed) (vs : List ScopedDefinition) (first : ℕ) →
-    IsUncalledAmong called first (map (λ v. v.definition) vs) (UncalledProcess name) → IsUncalledFrom called first vs name
-uncalled_at called name [] first h = absurd h
-uncalled_at called name (v ∷ vs) first (inl h) =
-    record { index = 0; scoped = v; located = refl; named = h.0; number = first; counted = omega arith; uncalled = h.1 }
-uncalled_at called name (v ∷ vs) first (inr h) =
-    let r = uncalled_at called name vs (suc first) h in
+warned_at : (called reached : List ℕ) (w : Warning) (vs : List ScopedDefinition) (first : ℕ) →
+    IsProcessWarningOfAny called reached first (map (λ v. v.definition) vs) w → IsWarnedFrom called reached first vs w
+warned_at called reached w [] first h = absurd h
+warned_at called reached w (v ∷ vs) first (inl h) =
+    record { index = 0; scoped = v; located = refl; number = first; counted = omega arith; warned = h }
+warned_at called reached w (v ∷ vs) first (inr h) =
+    let r = warned_at called reached w vs (suc first) h in
     let e = r.counted in
-    record { index = suc r.index; scoped = r.scoped; located = r.located; named = r.named; number = r.number; counted = omega arith; uncalled = r.uncalled }
+    record { index = suc r.index; scoped = r.scoped; located = r.located; number = r.number; counted = omega arith; warned = r.warned }
 
-uncalled_from : (called : List ℕ) (name : Placed) (vs : List ScopedDefinition) (first index : ℕ) (v : ScopedDefinition) (number : ℕ) →
-    slice_get vs index ≡ Some v → name ≡ name_of v.definition → number ≡ first + index → (In number called → ⊥) →
-    IsUncalledAmong called first (map (λ v. v.definition) vs) (UncalledProcess name)
-uncalled_from called name [] first index v number e named counted none = cc
-uncalled_from called name (u ∷ vs) first zero v number e named counted none =
+warned_from : (called reached : List ℕ) (w : Warning) (vs : List ScopedDefinition) (first index : ℕ) (v : ScopedDefinition) (number : ℕ) →
+    slice_get vs index ≡ Some v → number ≡ first + index → IsProcessWarning called reached number v.definition w →
+    IsProcessWarningOfAny called reached first (map (λ v. v.definition) vs) w
+warned_from called reached w [] first index v number e counted h = cc
+warned_from called reached w (u ∷ vs) first zero v number e counted h =
     let same : v ≡ u = cc in
     let n : number ≡ first = omega arith in
-    inl (subst (λ x. name ≡ name_of x.definition) same named, subst (λ k. In k called → ⊥) n none)
-uncalled_from called name (u ∷ vs) first (suc index) v number e named counted none =
-    inr (uncalled_from called name vs (suc first) index v number e named (omega arith) none)
+    inl (subst (λ x. IsProcessWarning called reached first x.definition w) same (subst (λ k. IsProcessWarning called reached k v.definition w) n h))
+warned_from called reached w (u ∷ vs) first (suc index) v number e counted h =
+    inr (warned_from called reached w vs (suc first) index v number e (omega arith) h)
 
-not_process : (called : List ℕ) (ds : List DefinitionView) (first : ℕ) (gate : Placed) (name : Name) → IsUncalledAmong called first ds (UnusedGate gate name) → ⊥
-not_process called [] first gate name h = h
-not_process called (d ∷ ds) first gate name (inl h) = h
-not_process called (d ∷ ds) first gate name (inr h) = not_process called ds (suc first) gate name h
+-- a process of the specification has the warning
+record IsWarned (whole : DefinitionView) (called reached : List ℕ) (w : Warning) : Type 0 where
+  process : ℕ
+  scoped : ScopedDefinition
+  located : slice_get (processes_of whole) process ≡ Some scoped
+  warned : IsProcessWarning called reached process scoped.definition w
 
-not_process_side : (called : List ℕ) (ds : List DefinitionView) (first : ℕ) (gate : Placed) (side : Side) → IsUncalledAmong called first ds (UnofferedGate gate side) → ⊥
-not_process_side called [] first gate side h = h
-not_process_side called (d ∷ ds) first gate side (inl h) = h
-not_process_side called (d ∷ ds) first gate side (inr h) = not_process_side called ds (suc first) gate side h
-
-module _ (whole : DefinitionView) (called : List ℕ) (by_name : (k : ℕ) → In k called ↔ IsCalledByName whole k) where
+module _ (whole : DefinitionView) (called reached : List ℕ) (by_name : (k : ℕ) → In k called ↔ IsCalled whole k)
+    (by_reach : (k : ℕ) → In k reached ↔ IsReached whole k) where
   inner_row : definitions_in_list (inner_of whole) ≡ map (λ v. v.definition) (processes_of whole)
   inner_row = listed_row (within whole 0 []) 0 (inner_of whole)
 
-  uncalled_found : (name : Placed) → IsUncalledFrom called 0 (processes_of whole) name → IsUncalledProcess whole name
-  uncalled_found name r =
+  found : (w : Warning) → IsProcessWarningOfAny called reached 0 (definitions_in_list (inner_of whole)) w → IsWarned whole called reached w
+  found w h =
+      let r = warned_at called reached w (processes_of whole) 0 (subst (λ ds. IsProcessWarningOfAny called reached 0 ds w) inner_row h) in
       let counted = r.counted in
       let n : r.number ≡ r.index = omega arith in
       record {
         process = r.index;
         scoped = r.scoped;
         located = r.located;
-        named = r.named;
-        uncalled = λ scope in_scope callee actuals d occurs means.
-            r.uncalled (subst (λ k. In k called) (sym n) ((by_name r.index).1 (record {
-              scope = scope;
-              in_scope = in_scope;
-              callee = callee;
-              actuals = actuals;
-              definition = d;
-              occurs = occurs;
-              means = means;
-            })));
+        warned = subst (λ k. IsProcessWarning called reached k r.scoped.definition w) n r.warned;
       }
 
-  uncalled_lost : (name : Placed) → IsUncalledProcess whole name → IsUncalledAmong called 0 (map (λ v. v.definition) (processes_of whole)) (UncalledProcess name)
-  uncalled_lost name h = uncalled_from called name (processes_of whole) 0 h.process h.scoped h.process h.located h.named (omega arith)
-      (λ i. let c = (by_name h.process).0 i in h.uncalled c.scope c.in_scope c.callee c.actuals c.definition c.occurs c.means)
+  lost : (w : Warning) (process : ℕ) (v : ScopedDefinition) → slice_get (processes_of whole) process ≡ Some v →
+      IsProcessWarning called reached process v.definition w → IsProcessWarningOfAny called reached 0 (definitions_in_list (inner_of whole)) w
+  lost w process v at h = subst (λ ds. IsProcessWarningOfAny called reached 0 ds w) (sym inner_row)
+      (warned_from called reached w (processes_of whole) 0 process v process at (omega arith) h)
 
-  uncalled : (name : Placed) → IsUncalledAmong called 0 (definitions_in_list (inner_of whole)) (UncalledProcess name) ↔ IsUncalledProcess whole name
+  uncalled : (name : Placed) → IsProcessWarningOfAny called reached 0 (definitions_in_list (inner_of whole)) (UncalledProcess name) ↔
+      IsUncalledProcess whole name
   uncalled name = (
-    (λ h. uncalled_found name (uncalled_at called name (processes_of whole) 0
-        (subst (λ ds. IsUncalledAmong called 0 ds (UncalledProcess name)) inner_row h))),
-    (λ h. subst (λ ds. IsUncalledAmong called 0 ds (UncalledProcess name)) (sym inner_row) (uncalled_lost name h)),
+    (λ h. let r = found (UncalledProcess name) h in elim r.warned [
+      | inl u ↦ record {
+        process = r.process;
+        scoped = r.scoped;
+        located = r.located;
+        named = u.0;
+        uncalled = λ scope in_scope callee actuals d occurs means. u.1 ((by_name r.process).1 (record {
+          scope = scope;
+          in_scope = in_scope;
+          callee = callee;
+          actuals = actuals;
+          definition = d;
+          occurs = occurs;
+          means = means;
+        }));
+      }
+      | inr none ↦ absurd none
+    ]),
+    (λ h. lost (UncalledProcess name) h.process h.scoped h.located (inl (
+      h.named,
+      (λ i. let c = (by_name h.process).0 i in h.uncalled c.scope c.in_scope c.callee c.actuals c.definition c.occurs c.means),
+    ))),
   )
 
+  unreached : (name : Placed) → IsProcessWarningOfAny called reached 0 (definitions_in_list (inner_of whole)) (UnreachedProcess name) ↔
+      IsUnreachedProcess whole name
+  unreached name = (
+    (λ h. let r = found (UnreachedProcess name) h in elim r.warned [
+      | inl none ↦ absurd none
+      | inr u ↦ record {
+        process = r.process;
+        scoped = r.scoped;
+        located = r.located;
+        named = u.0;
+        called = (by_name r.process).0 u.1;
+        unreached = λ i. u.2 ((by_reach r.process).1 i);
+      }
+    ]),
+    (λ h. lost (UnreachedProcess name) h.process h.scoped h.located (inr (
+      h.named,
+      (by_name h.process).1 h.called,
+      (λ i. h.unreached ((by_reach h.process).0 i)),
+    ))),
+  )
+
+  not_gate : (gate : Placed) (name : Name) → IsProcessWarningOfAny called reached 0 (definitions_in_list (inner_of whole)) (UnusedGate gate name) → ⊥
+  not_gate gate name h = elim (found (UnusedGate gate name) h).warned [ inl none ↦ none | inr none ↦ none ]
+
+  not_side : (gate : Placed) (side : Side) → IsProcessWarningOfAny called reached 0 (definitions_in_list (inner_of whole)) (UnofferedGate gate side) → ⊥
+  not_side gate side h = elim (found (UnofferedGate gate side) h).warned [ inl none ↦ none | inr none ↦ none ]
+
   -- the warnings about the gates of all definitions, and those about the processes, are all
-  pub all_warnings : (w : Warning) → (IsGateWarningOfAny (definitions_in whole) w ⊎ IsUncalledAmong called 0 (definitions_in_list (inner_of whole)) w) ↔ IsWarning whole w
+  pub all_warnings : (w : Warning) →
+      (IsGateWarningOfAny (definitions_in whole) w ⊎ IsProcessWarningOfAny called reached 0 (definitions_in_list (inner_of whole)) w) ↔ IsWarning whole w
   all_warnings (UncalledProcess name) = (
     (λ h. elim h [ inl (d, i, g) ↦ elim g [ inl none ↦ absurd none | inr none ↦ absurd none ] | inr u ↦ (uncalled name).0 u ]),
     (λ h. inr ((uncalled name).1 h)),
   )
+  all_warnings (UnreachedProcess name) = (
+    (λ h. elim h [ inl (d, i, g) ↦ elim g [ inl none ↦ absurd none | inr none ↦ absurd none ] | inr u ↦ (unreached name).0 u ]),
+    (λ h. inr ((unreached name).1 h)),
+  )
   all_warnings (UnusedGate gate name) = (
-    (λ h. elim h [ inl g ↦ (unused whole gate name).0 g | inr u ↦ absurd (not_process called (definitions_in_list (inner_of whole)) 0 gate name u) ]),
+    (λ h. elim h [ inl g ↦ (unused whole gate name).0 g | inr u ↦ absurd (not_gate gate name u) ]),
     (λ h. inl ((unused whole gate name).1 h)),
   )
   all_warnings (UnofferedGate gate side) = (
-    (λ h. elim h [ inl g ↦ (unoffered whole gate side).0 g | inr u ↦ absurd (not_process_side called (definitions_in_list (inner_of whole)) 0 gate side u) ]),
+    (λ h. elim h [ inl g ↦ (unoffered whole gate side).0 g | inr u ↦ absurd (not_side gate side u) ]),
     (λ h. inl ((unoffered whole gate side).1 h)),
   )

@@ -1,5 +1,5 @@
 -- What each step adds to a set of names or of numbers, or to a list of warnings.
-use Rattle.std.specs.Prelude.{◌≡◌, ◌↔◌, ◌⊎◌, ℕ, suc, List, [], ◌∷◌, map}
+use Rattle.std.specs.Prelude.{◌≡◌, ◌↔◌, ◌⊎◌, ℕ, suc, List, [], ◌∷◌, Some, map, slice_get}
 use Rattle.lotos_text.specs.AstView.{SyncView, gates, all, DefinitionView, name_of, formals_of, body_of}
 use Rattle.lotos_text.specs.declared.ast.Placed.{Placed}
 use Rattle.lotos_text.specs.declared.ast.Action.{Action}
@@ -10,7 +10,7 @@ use Rattle.lotos_check.specs.Bodies.{ContainsCall, IsBodyOf}
 use Rattle.lotos_warn.specs.declared.warning.Side.{Side}
 use Rattle.lotos_warn.specs.declared.warning.Side.TheVariants.{Left, Right}
 use Rattle.lotos_warn.specs.declared.warning.Warning.{Warning}
-use Rattle.lotos_warn.specs.declared.warning.Warning.TheVariants.{UncalledProcess, UnusedGate, UnofferedGate}
+use Rattle.lotos_warn.specs.declared.warning.Warning.TheVariants.{UncalledProcess, UnreachedProcess, UnusedGate, UnofferedGate}
 use Rattle.lotos_warn.specs.Warnings.{UsesFree, IsListWarning}
 
 -- the second list has exactly the items of the first and those with the property
@@ -38,6 +38,7 @@ IsVisible hidden names n = (In n hidden → ⊥) × In n names
 -- the warning says that this side does not offer the gate, and it is not among the names
 abbrev pub IsMissingOn : List Name → Side → Placed → Warning → Type 0
 IsMissingOn names side gate (UncalledProcess process) = ⊥
+IsMissingOn names side gate (UnreachedProcess process) = ⊥
 IsMissingOn names side gate (UnusedGate other definition) = ⊥
 IsMissingOn names side gate (UnofferedGate other place) = (gate ≡ other) × (side ≡ place) × (In other.name names → ⊥)
 
@@ -49,6 +50,7 @@ names_of Right by_left by_right = by_right
 -- the warning says that a gate of the list is not offered by a side, and it is not among the names of that side
 abbrev pub IsMissingGate : List Name → List Name → List Placed → Warning → Type 0
 IsMissingGate by_left by_right list (UncalledProcess process) = ⊥
+IsMissingGate by_left by_right list (UnreachedProcess process) = ⊥
 IsMissingGate by_left by_right list (UnusedGate gate definition) = ⊥
 IsMissingGate by_left by_right list (UnofferedGate gate side) =
     In gate list × (In gate.name (names_of side by_left by_right) → ⊥)
@@ -67,14 +69,31 @@ abbrev pub IsCalledByAny : List FlatProcess → ℕ → Type 0
 IsCalledByAny processes k = (p : FlatProcess) × In p processes × ContainsCallOf p.body k
 
 -- a behaviour of the system calls the process
-pub record IsCalledIn (system : System) (k : ℕ) : Type 0 where
+pub record IsCalledByBody (system : System) (k : ℕ) : Type 0 where
   pub body : Flat
   pub located : IsBodyOf system body
   pub calls : ContainsCallOf body k
 
+-- the second list has the items of the first at the same indices
+abbrev pub KeepsIndices : List ℕ → List ℕ → Type 0
+KeepsIndices old new = (index k : ℕ) → slice_get old index ≡ Some k → slice_get new index ≡ Some k
+
+-- the body of the process with this number, if there is one, calls the process
+pub record IsCalledByNumber (processes : List FlatProcess) (caller k : ℕ) : Type 0 where
+  pub process : FlatProcess
+  pub located : slice_get processes caller ≡ Some process
+  pub calls : ContainsCallOf process.body k
+
+-- the behaviour of the system calls the process, or the body of a process that is reached does
+pub data IsReachedIn (system : System) : ℕ → Type 0 where
+  by_start : {k : ℕ} → ContainsCallOf system.start k → IsReachedIn system k
+  by_process : {caller k : ℕ} → IsReachedIn system caller → IsCalledByNumber system.processes caller k →
+      IsReachedIn system k
+
 -- the warning says that the gate of the list is not used in the definition of that name, and it is not among the names
 abbrev pub IsUnusedAmong : List Name → Name → List Placed → Warning → Type 0
 IsUnusedAmong used name formals (UncalledProcess process) = ⊥
+IsUnusedAmong used name formals (UnreachedProcess process) = ⊥
 IsUnusedAmong used name formals (UnusedGate gate definition) =
     In gate formals × (definition ≡ name) × (In gate.name used → ⊥)
 IsUnusedAmong used name formals (UnofferedGate gate side) = ⊥
@@ -82,6 +101,7 @@ IsUnusedAmong used name formals (UnofferedGate gate side) = ⊥
 -- the definition has this warning about its formal gates
 abbrev pub IsUnusedIn : DefinitionView → Warning → Type 0
 IsUnusedIn d (UncalledProcess process) = ⊥
+IsUnusedIn d (UnreachedProcess process) = ⊥
 IsUnusedIn d (UnusedGate gate definition) =
     In gate (formals_of d) × (definition ≡ (name_of d).name) × (UsesFree (body_of d) gate.name → ⊥)
 IsUnusedIn d (UnofferedGate gate side) = ⊥
@@ -97,10 +117,24 @@ IsGateWarningOfAny definitions w = (d : DefinitionView) × In d definitions × I
 -- the warning says that the process with this number and definition is not called, and the number is not called
 abbrev pub IsUncalledAt : List ℕ → ℕ → DefinitionView → Warning → Type 0
 IsUncalledAt called number d (UncalledProcess process) = (process ≡ name_of d) × (In number called → ⊥)
+IsUncalledAt called number d (UnreachedProcess process) = ⊥
 IsUncalledAt called number d (UnusedGate gate definition) = ⊥
 IsUncalledAt called number d (UnofferedGate gate side) = ⊥
 
+-- the warning says that the process is not reached; the number is called, and it is not reached
+abbrev pub IsUnreachedAt : List ℕ → List ℕ → ℕ → DefinitionView → Warning → Type 0
+IsUnreachedAt called reached number d (UncalledProcess process) = ⊥
+IsUnreachedAt called reached number d (UnreachedProcess process) =
+    (process ≡ name_of d) × In number called × (In number reached → ⊥)
+IsUnreachedAt called reached number d (UnusedGate gate definition) = ⊥
+IsUnreachedAt called reached number d (UnofferedGate gate side) = ⊥
+
+-- the process with this number and definition has this warning
+abbrev pub IsProcessWarning : List ℕ → List ℕ → ℕ → DefinitionView → Warning → Type 0
+IsProcessWarning called reached number d w = IsUncalledAt called number d w ⊎ IsUnreachedAt called reached number d w
+
 -- the same of some definition of the list, which are numbered from this number on
-abbrev pub IsUncalledAmong : List ℕ → ℕ → List DefinitionView → Warning → Type 0
-IsUncalledAmong called number [] w = ⊥
-IsUncalledAmong called number (d ∷ ds) w = IsUncalledAt called number d w ⊎ IsUncalledAmong called (suc number) ds w
+abbrev pub IsProcessWarningOfAny : List ℕ → List ℕ → ℕ → List DefinitionView → Warning → Type 0
+IsProcessWarningOfAny called reached number [] w = ⊥
+IsProcessWarningOfAny called reached number (d ∷ ds) w =
+    IsProcessWarning called reached number d w ⊎ IsProcessWarningOfAny called reached (suc number) ds w

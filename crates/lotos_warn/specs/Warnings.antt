@@ -3,14 +3,14 @@ use Rattle.std.specs.Prelude.{◌≡◌, ℕ, List, [], Some, slice_get}
 use Rattle.lotos_text.specs.AstView.{BehaviourView, gates, prefix, par, call, DefinitionView, name_of, formals_of, body_of}
 use Rattle.lotos_text.specs.declared.ast.Placed.{Placed}
 use Rattle.lotos_text.specs.declared.ast.Action.TheVariants.{Gate}
-use Rattle.lotos_check.specs.NameLists.{Name, In}
-use Rattle.lotos_check.specs.Scope.{Scope, ScopedDefinition, Binds, IsDefinition, processes_of}
+use Rattle.lotos_check.specs.NameLists.{Name, In, texts}
+use Rattle.lotos_check.specs.Scope.{Scope, ScopedDefinition, Binds, IsDefinition, within, processes_of}
 use Rattle.lotos_check.specs.Subexpressions.{IsSubexpression, UsesGate}
 use Rattle.lotos_check.specs.StaticFaults.{Occurs}
 use Rattle.lotos_warn.specs.declared.warning.Side.{Side}
 use Rattle.lotos_warn.specs.declared.warning.Side.TheVariants.{Left, Right}
 use Rattle.lotos_warn.specs.declared.warning.Warning.{Warning}
-use Rattle.lotos_warn.specs.declared.warning.Warning.TheVariants.{UncalledProcess, UnusedGate, UnofferedGate}
+use Rattle.lotos_warn.specs.declared.warning.Warning.TheVariants.{UncalledProcess, UnreachedProcess, UnusedGate, UnofferedGate}
 
 -- the behaviour itself, and not only a part of it, offers the gate: in a prefix, or to the process that it calls
 pub data OffersGate : BehaviourView → Placed → Type 0 where
@@ -45,6 +45,45 @@ pub record IsUncalledProcess (whole : DefinitionView) (name : Placed) : Type 0 w
   pub uncalled : (scope : Scope) (in_scope : List Name) (callee : Placed) (actuals : List Placed) (d : DefinitionView) →
       Occurs whole scope in_scope (call callee actuals) → Binds scope callee.name process d → ⊥
 
+-- a call anywhere is bound to the process with this number
+pub record IsCalled (whole : DefinitionView) (process : ℕ) : Type 0 where
+  pub scope : Scope
+  pub in_scope : List Name
+  pub callee : Placed
+  pub actuals : List Placed
+  pub definition : DefinitionView
+  pub occurs : Occurs whole scope in_scope (call callee actuals)
+  pub means : Binds scope callee.name process definition
+
+-- a call in the body of the definition is bound to the process with this number
+pub record IsCalledIn (scoped : ScopedDefinition) (process : ℕ) : Type 0 where
+  pub in_scope : List Name
+  pub callee : Placed
+  pub actuals : List Placed
+  pub definition : DefinitionView
+  pub inside : IsSubexpression (texts (formals_of scoped.definition)) (body_of scoped.definition)
+      in_scope (call callee actuals)
+  pub means : Binds scoped.scope callee.name process definition
+
+-- the specification itself, with the scope inside it
+abbrev pub scoped_whole : DefinitionView → ScopedDefinition
+scoped_whole whole = record { scope = within whole 0 []; definition = whole }
+
+-- a call in the behaviour of the specification is bound to the process, or one in the body of a process that is reached
+pub data IsReached (whole : DefinitionView) : ℕ → Type 0 where
+  at_once : {process : ℕ} → IsCalledIn (scoped_whole whole) process → IsReached whole process
+  later : {caller process : ℕ} {scoped : ScopedDefinition} → IsReached whole caller →
+      slice_get (processes_of whole) caller ≡ Some scoped → IsCalledIn scoped process → IsReached whole process
+
+-- the name is that of a process that some call is bound to, and the process is not reached
+pub record IsUnreachedProcess (whole : DefinitionView) (name : Placed) : Type 0 where
+  pub process : ℕ
+  pub scoped : ScopedDefinition
+  pub located : slice_get (processes_of whole) process ≡ Some scoped
+  pub named : name ≡ name_of scoped.definition
+  pub called : IsCalled whole process
+  pub unreached : IsReached whole process → ⊥
+
 -- the gate is a formal one of a definition with this name, whose body does not use it
 pub record IsUnusedGate (whole : DefinitionView) (gate : Placed) (name : Name) : Type 0 where
   pub scope : Scope
@@ -73,6 +112,7 @@ pub record IsUnofferedGate (whole : DefinitionView) (gate : Placed) (side : Side
 -- the specification has this warning
 abbrev pub IsWarning : DefinitionView → Warning → Type 0
 IsWarning whole (UncalledProcess process) = IsUncalledProcess whole process
+IsWarning whole (UnreachedProcess process) = IsUnreachedProcess whole process
 IsWarning whole (UnusedGate gate definition) = IsUnusedGate whole gate definition
 IsWarning whole (UnofferedGate gate side) = IsUnofferedGate whole gate side
 
@@ -89,5 +129,6 @@ pub record IsUnofferedIn (behaviour : BehaviourView) (gate : Placed) (side : Sid
 -- the behaviour has this warning about a list
 abbrev pub IsListWarning : BehaviourView → Warning → Type 0
 IsListWarning behaviour (UncalledProcess process) = ⊥
+IsListWarning behaviour (UnreachedProcess process) = ⊥
 IsListWarning behaviour (UnusedGate gate definition) = ⊥
 IsListWarning behaviour (UnofferedGate gate side) = IsUnofferedIn behaviour gate side

@@ -1,7 +1,8 @@
 //! The warnings about each definition.
-ghost use Rattle.std.specs.Prelude.{◌∷◌, [], OnOk, map};
+ghost use Rattle.std.specs.Prelude.{◌∷◌, ◌⊎◌, [], MatchBool, OnOk, map};
 ghost use Rattle.lotos_text.specs.AstOf.{definition_view};
-ghost use Rattle.lotos_warn.specs.Additions.{Adds, IsGateWarning, IsGateWarningOfAny, IsUncalledAmong, IsUncalledAt, IsUnusedAmong, IsUnusedIn};
+ghost use Rattle.lotos_check.specs.NameLists.{In};
+ghost use Rattle.lotos_warn.specs.Additions.{Adds, IsGateWarning, IsGateWarningOfAny, IsProcessWarningOfAny, IsUncalledAt, IsUnreachedAt, IsUnusedAmong, IsUnusedIn};
 
 use crate::offered_gates::warn_of_lists;
 use crate::used_gates::add_used;
@@ -96,18 +97,22 @@ fn warn_if_unused(
     Ok(())
 }
 
-/// Appends the warnings about the processes that are not called. The number of a process is its index.
-pub(crate) fn warn_of_uncalled(
+/// Appends the warnings about the processes that are not called or not reached. The number of a process is its index.
+pub(crate) fn warn_of_processes(
     alloc: Global,
     processes: &[&Definition],
     called: &IndexSet<usize>,
+    reached: &IndexSet<usize>,
     warnings: &mut Vec<Warning>,
 ) -> Result<(), AllocError>
     ensures { OnOk result (Adds warnings.old.items warnings.new.items
-        (IsUncalledAmong called.now.keys 0 (map (λ d. definition_view d.now) processes.now))) }
+        (IsProcessWarningOfAny called.now.keys reached.now.keys 0
+        (map (λ d. definition_view d.now) processes.now))) }
 {
     for number in 0..processes.len() {
-        warn_if_uncalled(alloc, number, processes[number], called, warnings)?;
+        let process = processes[number];
+        warn_if_uncalled(alloc, number, process, called, warnings)?;
+        warn_if_unreached(alloc, number, process, called, reached, warnings)?;
     }
     Ok(())
 }
@@ -128,4 +133,31 @@ fn warn_if_uncalled(
         warnings.push(Warning::UncalledProcess(process))?;
     }
     Ok(())
+}
+
+/// Appends the warning about the process with this number, unless it is reached or not called at all.
+fn warn_if_unreached(
+    alloc: Global,
+    number: usize,
+    process: &Definition,
+    called: &IndexSet<usize>,
+    reached: &IndexSet<usize>,
+    warnings: &mut Vec<Warning>,
+) -> Result<(), AllocError>
+    ensures { OnOk result (Adds warnings.old.items warnings.new.items
+        (IsUnreachedAt called.now.keys reached.now.keys number (definition_view process.now))) }
+{
+    if is_unreached(number, called, reached) {
+        let process = process.name.copy(alloc)?;
+        warnings.push(Warning::UnreachedProcess(process))?;
+    }
+    Ok(())
+}
+
+/// Whether the process with this number is called and not reached.
+fn is_unreached(number: usize, called: &IndexSet<usize>, reached: &IndexSet<usize>) -> bool
+    ensures { MatchBool result (In number called.now.keys × (In number reached.now.keys → ⊥))
+        ((In number called.now.keys → ⊥) ⊎ In number reached.now.keys) }
+{
+    called.contains(&number) && !reached.contains(&number)
 }

@@ -9,8 +9,8 @@ ghost use Rattle.lotos_warn.specs.Warnings.{IsWarning};
 ghost use Rattle.lotos_warn.specs.WarningOrder.{warning_cmp};
 ghost use Rattle.lotos_warn.specs.declared.warning.Warning.{Warning as AnyWarning};
 
-use crate::definition_warnings::{warn_of_gates, warn_of_uncalled};
-use crate::process_calls::called_processes;
+use crate::definition_warnings::{warn_of_gates, warn_of_processes};
+use crate::process_calls::{called_processes, reached_processes};
 use crate::warning::Warning;
 use lotos_check::laws::{binding_is_unique, calls_fit};
 use lotos_check::{Checked, add_definitions};
@@ -53,8 +53,9 @@ fn unsorted_warnings(
     let mut definitions = Vec::new(alloc);
     add_definitions(whole, &mut definitions)?;
     let called = called_processes(alloc, system)?;
+    let reached = reached_processes(alloc, system)?;
     let mut warnings = Vec::new(alloc);
     warn_of_gates(alloc, definitions.as_slice(), &mut warnings)?;
-    warn_of_uncalled(alloc, &definitions[1..], &called, &mut warnings)?;
+    warn_of_processes(alloc, &definitions[1..], &called, &reached, &mut warnings)?;
     Ok(warnings)
 }

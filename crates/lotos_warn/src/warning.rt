@@ -22,8 +22,8 @@ impl Side {
         ensures { result ≡ side_rank self }
     {
         match self {
-            Side::Left => 2,
-            Side::Right => 3,
+            Side::Left => 3,
+            Side::Right => 4,
         }
     }
 }
@@ -36,6 +36,8 @@ impl Side {
 pub enum Warning {
     /// No call names the process.
     UncalledProcess(Placed),
+    /// Calls name the process, but none in the behaviour of the specification or in a process that is reached from there.
+    UnreachedProcess(Placed),
     /// A formal gate that the behaviour of its definition does not use.
     UnusedGate { gate: Placed, definition: Name },
     /// A gate in the list of a parallel composition that one side never offers.
@@ -49,6 +51,7 @@ impl Warning {
     {
         match self {
             Warning::UncalledProcess(process) => process.at,
+            Warning::UnreachedProcess(process) => process.at,
             Warning::UnusedGate { gate, .. } => gate.at,
             Warning::UnofferedGate { gate, .. } => gate.at,
         }
@@ -59,7 +62,8 @@ impl Warning {
     {
         match self {
             Warning::UncalledProcess(_) => 0,
-            Warning::UnusedGate { .. } => 1,
+            Warning::UnreachedProcess(_) => 1,
+            Warning::UnusedGate { .. } => 2,
             Warning::UnofferedGate { side, .. } => side.rank(),
         }
     }
@@ -70,6 +74,7 @@ impl Warning {
     {
         match self {
             Warning::UncalledProcess(process) => &process.name,
+            Warning::UnreachedProcess(process) => &process.name,
             Warning::UnusedGate { gate, .. } => &gate.name,
             Warning::UnofferedGate { gate, .. } => &gate.name,
         }
@@ -81,6 +86,7 @@ impl Warning {
     {
         match self {
             Warning::UncalledProcess(process) => &process.name,
+            Warning::UnreachedProcess(process) => &process.name,
             Warning::UnusedGate { definition, .. } => definition,
             Warning::UnofferedGate { gate, .. } => &gate.name,
         }
@@ -136,6 +142,11 @@ impl fmt::Display for Warning {
             Warning::UncalledProcess(process) => {
                 write!(f, "process {} is never called", process.name.text())
             }
+            Warning::UnreachedProcess(process) => write!(
+                f,
+                "process {} is never reached from the behaviour of the specification",
+                process.name.text()
+            ),
             Warning::UnusedGate { gate, definition } => write!(
                 f,
                 "gate {} of {} is not used",

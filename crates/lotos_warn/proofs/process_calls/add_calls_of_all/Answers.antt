@@ -15,7 +15,7 @@ loop-process-preserved c =
     c.args.called.now.keys c.loop-process.called.keys c.add_calls.new.called.keys
     (IsCalledByAny (map process_of c.args.processes.now)) _ _ c.process-item.result
     (drop_at c.args.processes.now c.loop-process.process-index _ c.process-item.result within c.process-item.is)
-    c.loop-process.invariant c.in_ok-add_calls.ensures
+    c.loop-process.invariant c.in_ok-add_calls.ensures.adds
 
 pub returns : goal.returns
 returns c =

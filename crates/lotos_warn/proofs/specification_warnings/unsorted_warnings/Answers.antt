@@ -4,10 +4,10 @@ use Rattle.lotos_check.specs.CheckedView.{system_of}
 use Rattle.lotos_check.specs.NameLists.{In}
 use Rattle.lotos_check.specs.Scope.{definitions_in, definitions_in_list}
 use Rattle.lotos_text.specs.AstView.{inner_of}
-use Rattle.lotos_warn.specs.Warnings.{IsWarning}
-use Rattle.lotos_warn.specs.Additions.{Adds, IsGateWarningOfAny, IsUncalledAmong}
+use Rattle.lotos_warn.specs.Warnings.{IsCalled, IsReached, IsWarning}
+use Rattle.lotos_warn.specs.Additions.{Adds, IsGateWarningOfAny, IsProcessWarningOfAny}
 use Rattle.lotos_warn.proofs.Additions.{adds_as, adds_both, adds_alone}
-use Rattle.lotos_warn.proofs.CalledNames.{IsCalledByName, called_by_name}
+use Rattle.lotos_warn.proofs.CalledNames.{called_by_name, reached_by_name}
 use Rattle.lotos_warn.proofs.WholeWarnings.{after_first, all_warnings}
 use Rattle.lotos_warn.proofs.specification_warnings.unsorted_warnings.Goals as goal
 
@@ -17,9 +17,15 @@ returns c =
     let system = system_of c.args.system.now in
     let called = c.in_ok-called.called.keys in
     let by_number = called_by_name c.binding_is_unique.ensures c.calls_fit.ensures.named whole system c.requires.accepted in
-    let by_name : (k : ℕ) → In k called ↔ IsCalledByName whole k = λ k. (
+    let by_name : (k : ℕ) → In k called ↔ IsCalled whole k = λ k. (
       (λ i. (by_number k).0 ((c.in_ok-called.ensures k).0 i)),
       (λ h. (c.in_ok-called.ensures k).1 ((by_number k).1 h)),
+    ) in
+    let reached = c.in_ok-reached.reached.keys in
+    let in_system = reached_by_name c.binding_is_unique.ensures c.calls_fit.ensures.named whole system c.requires.accepted in
+    let by_reach : (k : ℕ) → In k reached ↔ IsReached whole k = λ k. (
+      (λ i. (in_system k).0 ((c.in_ok-reached.ensures k).0 i)),
+      (λ h. (c.in_ok-reached.ensures k).1 ((in_system k).1 h)),
     ) in
     let items = c.add_definitions.new.into.items in
     let all : map (λ d. definition_view d.now) items ≡ definitions_in whole =
@@ -30,10 +36,11 @@ returns c =
     (ap (map (λ d. definition_view d.now)) c.deref.ensures.value ∙ all) in
     let old = c.new-warnings.result.items in
     let mid = c.warn_of_gates.new.warnings.items in
-    let new = c.warn_of_uncalled.new.warnings.items in
+    let new = c.warn_of_processes.new.warnings.items in
     let gates = subst (λ ds. Adds old mid (IsGateWarningOfAny ds)) slice c.in_ok-warn_of_gates.ensures in
-    let calls = subst (λ ds. Adds mid new (IsUncalledAmong called 0 ds)) others c.in_ok-warn_of_uncalled.ensures in
+    let processes = IsProcessWarningOfAny called reached 0 (definitions_in_list (inner_of whole)) in
+    let calls = subst (λ ds. Adds mid new (IsProcessWarningOfAny called reached 0 ds)) others c.in_ok-warn_of_processes.ensures in
     adds_alone old new (IsWarning whole) c.new-warnings.ensures.items
-    (adds_as old new (λ w. IsGateWarningOfAny (definitions_in whole) w ⊎ IsUncalledAmong called 0 (definitions_in_list (inner_of whole)) w) (IsWarning whole)
-    (all_warnings whole called by_name)
-    (adds_both old mid new (IsGateWarningOfAny (definitions_in whole)) (IsUncalledAmong called 0 (definitions_in_list (inner_of whole))) gates calls))
+    (adds_as old new (λ w. IsGateWarningOfAny (definitions_in whole) w ⊎ processes w) (IsWarning whole)
+    (all_warnings whole called reached by_name by_reach)
+    (adds_both old mid new (IsGateWarningOfAny (definitions_in whole)) processes gates calls))
