@@ -132,7 +132,17 @@ const COMPOSITIONS: &[Row] = &[
     (
         "a gate twice in a list",
         "specification S [a] : noexit behaviour a; stop |[a, a]| stop endspec",
-        "49 gate A of `|[..]|` is never offered on the right\n52 gate A of `|[..]|` is never offered on the right\n",
+        "49 gate A of `|[..]|` is never offered on the right\n",
+    ),
+    (
+        "a gate three times in a list, with another between",
+        "specification S [a, b] : noexit behaviour stop |[a, b, A, a]| b; stop endspec",
+        "49 gate A of `|[..]|` is never offered on the left\n49 gate A of `|[..]|` is never offered on the right\n52 gate B of `|[..]|` is never offered on the left\n",
+    ),
+    (
+        "a gate in three lists",
+        "specification S [a] : noexit behaviour (stop |[a]| a; stop) |[a]| (stop |[a]| a; stop) endspec",
+        "47 gate A of `|[..]|` is never offered on the left\n74 gate A of `|[..]|` is never offered on the left\n",
     ),
     (
         "two gates, each side with another",
@@ -269,6 +279,35 @@ const REACHED_PROCESSES: &[Row] = &[
     ),
 ];
 
+/// Names of more than 64 bytes, which are cut, and names that are not.
+const LONG_NAMES: &[Row] = &[
+    (
+        "processes with names of 64 and of 65 bytes",
+        "specification S : noexit behaviour stop where process p012345678901234567890123456789012345678901234567890123456789123 : noexit := stop endproc process p0123456789012345678901234567890123456789012345678901234567891234 : noexit := stop endproc endspec",
+        "54 process P012345678901234567890123456789012345678901234567890123456789123 is never called\n152 process P012345678901234567890123456789012345678901234567890123456789123... is never called\n",
+    ),
+    (
+        "a process with a long name that is not reached",
+        "specification S : noexit behaviour stop where process p0123456789012345678901234567890123456789012345678901234567891234 : noexit := i; p0123456789012345678901234567890123456789012345678901234567891234 endproc endspec",
+        "54 process P012345678901234567890123456789012345678901234567890123456789123... is never reached from the behaviour of the specification\n",
+    ),
+    (
+        "gates and a specification with long names",
+        "specification p0123456789012345678901234567890123456789012345678901234567891234 [p012345678901234567890123456789012345678901234567890123456789123, p0123456789012345678901234567890123456789012345678901234567891234a] : noexit behaviour stop endspec",
+        "81 gate P012345678901234567890123456789012345678901234567890123456789123 of P012345678901234567890123456789012345678901234567890123456789123... is not used\n147 gate P012345678901234567890123456789012345678901234567890123456789123... of P012345678901234567890123456789012345678901234567890123456789123... is not used\n",
+    ),
+    (
+        "a gate with a long name in a list",
+        "specification p012345678901234567890123456789012345678901234567890123456789123 [p0123456789012345678901234567890123456789012345678901234567891235] : noexit behaviour p0123456789012345678901234567890123456789012345678901234567891235; stop |[p0123456789012345678901234567890123456789012345678901234567891235]| stop endspec",
+        "240 gate P012345678901234567890123456789012345678901234567890123456789123... of `|[..]|` is never offered on the right\n",
+    ),
+    (
+        "a specification with a name of 64 bytes",
+        "specification p012345678901234567890123456789012345678901234567890123456789123 [a] : noexit behaviour stop endspec",
+        "80 gate A of P012345678901234567890123456789012345678901234567890123456789123 is not used\n",
+    ),
+];
+
 /// What is written of a specification that is not accepted.
 const NOT_ACCEPTED: &str = "not accepted";
 
@@ -352,6 +391,11 @@ fn warns_about_processes_that_are_not_called(rt: HostRuntime) -> Result<(), Fail
 #[test]
 fn warns_about_processes_that_are_not_reached(rt: HostRuntime) -> Result<(), Fail> {
     Ok(assert_rows(&rt, rt.alloc(), REACHED_PROCESSES)?)
+}
+
+#[test]
+fn cuts_names_that_are_long(rt: HostRuntime) -> Result<(), Fail> {
+    Ok(assert_rows(&rt, rt.alloc(), LONG_NAMES)?)
 }
 
 /// A piece of text with each of the numbers after it, the pieces separated.
@@ -485,6 +529,43 @@ fn warns_about_each_gate_of_a_long_text(rt: HostRuntime) -> Result<(), Fail> {
     let (all, right) = warning_counts(rt.alloc(), text.as_str())?;
     assert_eq!(rt; all, GATES);
     assert_eq!(rt; right, GATES);
+    Ok(())
+}
+
+/// A specification with a name of 100,000 bytes and 20,000 gates, none of which is used, and a list with one gate 20,000
+/// times.
+fn long_name_text(alloc: Global) -> Result<String, AllocError> {
+    let name = repeated(alloc, "s", 100000)?;
+    let gates = numbered(alloc, "a", ",", 20000)?;
+    let list = repeated(alloc, "a0,", 20000)?;
+    joined(
+        alloc,
+        &[
+            "specification ",
+            name.as_str(),
+            "[",
+            gates.as_str(),
+            "] : noexit behaviour stop |[",
+            list.as_str(),
+            "a0]| stop endspec",
+        ],
+    )
+}
+
+fn repeated(alloc: Global, piece: &str, count: usize) -> Result<String, AllocError> {
+    let mut text = String::new(alloc);
+    for _ in 0..count {
+        text.push_str(piece)?;
+    }
+    Ok(text)
+}
+
+#[test]
+fn warns_about_many_gates_of_a_long_name(rt: HostRuntime) -> Result<(), Fail> {
+    let text = long_name_text(rt.alloc())?;
+    let (all, right) = warning_counts(rt.alloc(), text.as_str())?;
+    assert_eq!(rt; all, 20001);
+    assert_eq!(rt; right, 1);
     Ok(())
 }
 

@@ -6,6 +6,7 @@ use Rattle.lotos_check.specs.NameLists.{Name, In}
 use Rattle.lotos_check.proofs.Pairs.{drop_at}
 use Rattle.lotos_warn.specs.declared.warning.Warning.{Warning}
 use Rattle.lotos_warn.specs.declared.warning.Warning.TheVariants.{UncalledProcess, UnreachedProcess, UnusedGate, UnofferedGate}
+use Rattle.lotos_warn.specs.ShownNames.{shown_name}
 use Rattle.lotos_warn.specs.Warnings.{UsesFree}
 use Rattle.lotos_warn.specs.Additions.{IsUnusedAmong, IsUnusedIn, IsGateWarning, IsGateWarningOfAny, IsUncalledAt, IsUnreachedAt, IsProcessWarning, IsProcessWarningOfAny}
 
@@ -31,12 +32,12 @@ unused_none used name (UnusedGate gate d) h = h.0
 
 -- the warning about a gate that is not used
 pub unused_one : (used : List Name) (name : Name) (gate : Placed) → (In gate.name used → ⊥) → (w : Warning) →
-    (UnusedGate gate name ≡ w) ↔ IsUnusedAmong used name (gate ∷ []) w
+    (UnusedGate gate (shown_name name) ≡ w) ↔ IsUnusedAmong used name (gate ∷ []) w
 unused_one used name gate none (UncalledProcess p) = ((λ e. cc), (λ h. absurd h))
 unused_one used name gate none (UnreachedProcess p) = ((λ e. cc), (λ h. absurd h))
 unused_one used name gate none (UnofferedGate p s) = ((λ e. cc), (λ h. absurd h))
 unused_one used name gate none (UnusedGate other d) = (
-  (λ e. let same : gate ≡ other = cc in let named : d ≡ name = cc in (inl same, named, subst (λ g. In g.name used → ⊥) same none)),
+  (λ e. let same : gate ≡ other = cc in let named : d ≡ shown_name name = cc in (inl same, named, subst (λ g. In g.name used → ⊥) same none)),
   (λ h. elim h.0 [ inl same ↦ (let named = h.1 in cc) | inr i ↦ absurd i ]),
 )
 

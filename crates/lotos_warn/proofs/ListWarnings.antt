@@ -1,5 +1,5 @@
 -- The warnings about the lists of a behaviour, from those of its parts.
-use Rattle.std.proofs.Common.{◌≡◌, ◌↔◌, ◌⊎◌, ℕ, List, [], ◌∷◌, ◌++◌, refl, subst, inl, inr}
+use Rattle.std.proofs.Common.{◌≡◌, ◌↔◌, ◌⊎◌, ℕ, List, [], ◌∷◌, ◌++◌, refl, sym, subst, inl, inr}
 use Rattle.lotos_text.specs.AstView.{BehaviourView, SyncView, gates, all, stop, exit, prefix, choice, par, hide, enable, disable, call}
 use Rattle.lotos_text.specs.declared.ast.Placed.{Placed}
 use Rattle.lotos_text.specs.declared.ast.Action.{Action}
@@ -10,14 +10,14 @@ use Rattle.lotos_warn.specs.declared.warning.Side.{Side}
 use Rattle.lotos_warn.specs.declared.warning.Side.TheVariants.{Left, Right}
 use Rattle.lotos_warn.specs.declared.warning.Warning.{Warning}
 use Rattle.lotos_warn.specs.declared.warning.Warning.TheVariants.{UncalledProcess, UnreachedProcess, UnusedGate, UnofferedGate}
-use Rattle.lotos_warn.specs.Warnings.{OffersFree, operand, IsUnofferedIn, IsListWarning}
-use Rattle.lotos_warn.specs.Additions.{Adds, IsMissingOn, IsMissingGate, IsMissing, names_of}
+use Rattle.lotos_warn.specs.Warnings.{OffersFree, operand, IsFirstOfName, IsUnofferedIn, IsListWarning}
+use Rattle.lotos_warn.specs.Additions.{Adds, IsMissingOn, IsMissingUnseen, IsMissingGate, IsMissing, names_of}
 use Rattle.lotos_warn.proofs.Additions.{adds_as, adds_both, adds_nothing, adds_alone}
 
 module _ (gate : Placed) (side : Side) where
   -- the list of a parallel composition has the gate, which the side does not offer
   abbrev pub ListWarns : BehaviourView → SyncView → BehaviourView → Type 0
-  ListWarns l (gates gs) r = In gate gs × (OffersFree (operand side l r) gate.name → ⊥)
+  ListWarns l (gates gs) r = IsFirstOfName gate gs × (OffersFree (operand side l r) gate.name → ⊥)
   ListWarns l all r = ⊥
 
   -- the same of some list of the behaviour, by its form
@@ -39,11 +39,11 @@ module _ (gate : Placed) (side : Side) where
     pub list : List Placed
     pub right : BehaviourView
     pub inside : IsSubexpression start behaviour hidden (par left (gates list) right)
-    pub listed : In gate list
+    pub listed : IsFirstOfName gate list
     pub unoffered : OffersFree (operand side left right) gate.name → ⊥
 
   pub to_form : (start hidden : List Name) (b l r : BehaviourView) (gs : List Placed) → IsSubexpression start b hidden (par l (gates gs) r) →
-      In gate gs → (OffersFree (operand side l r) gate.name → ⊥) → WarnsIn b
+      IsFirstOfName gate gs → (OffersFree (operand side l r) gate.name → ⊥) → WarnsIn b
   to_form start hidden b l r gs parts.whole i u = inr (inr (i, u))
   to_form start hidden b l r gs (in_prefix x) i u = to_form start hidden _ l r gs x i u
   to_form start hidden b l r gs (in_choice_left x) i u = inl (to_form start hidden _ l r gs x i u)
@@ -186,8 +186,8 @@ module _ (l r : BehaviourView) (by_left by_right : List Name) (left : (n : Name)
 
   list_warns : (sync : SyncView) (g : Placed) (s : Side) → IsMissing by_left by_right sync (UnofferedGate g s) ↔ ListWarns g s l sync r
   list_warns (gates gs) g s = (
-    (λ h. (h.0, (λ o. h.1 ((side_offers s g.name).1 o)))),
-    (λ h. (h.0, (λ i. h.1 ((side_offers s g.name).0 i)))),
+    (λ h. (h.1, (λ o. h.2 ((side_offers s g.name).1 o)))),
+    (λ h. ((λ i. i), h.0, (λ i. h.1 ((side_offers s g.name).0 i)))),
   )
   list_warns all g s = ((λ h. h), (λ h. h))
 
@@ -234,33 +234,69 @@ lists_par old mid more new by_left by_right l sync r h k first second third =
     (adds_both old mid new (IsListWarning l) (λ w. IsListWarning r w ⊎ IsMissing by_left by_right sync w) first
     (adds_both mid more new (IsListWarning r) (IsMissing by_left by_right sync) second third))
 
--- a gate of the list, first or later, is missing on a side
-missing_side : (by_left by_right : List Name) (g : Placed) (gs : List Placed) (other : Placed) (place : Side) →
-    IsMissingGate by_left by_right (g ∷ gs) (UnofferedGate other place) ↔
-    ((IsMissingOn by_left Left g (UnofferedGate other place) ⊎ IsMissingOn by_right Right g (UnofferedGate other place))
-    ⊎ IsMissingGate by_left by_right gs (UnofferedGate other place))
-missing_side by_left by_right g gs other Left = (
-  (λ h. elim h.0 [ inl e ↦ inl (inl (e, refl, h.1)) | inr i ↦ inr (i, h.1) ]),
-  (λ h. elim h [ inl (inl m) ↦ (inl m.0, m.2) | inl (inr m) ↦ absurd (let e = m.1 in cc) | inr m ↦ (inr m.0, m.1) ]),
-)
-missing_side by_left by_right g gs other Right = (
-  (λ h. elim h.0 [ inl e ↦ inl (inr (e, refl, h.1)) | inr i ↦ inr (i, h.1) ]),
-  (λ h. elim h [ inl (inl m) ↦ absurd (let e = m.1 in cc) | inl (inr m) ↦ (inl m.0, m.2) | inr m ↦ (inr m.0, m.1) ]),
-)
+-- after the first gate of a list its name is seen
+module _ (by_left by_right seen more : List Name) (g : Placed) (gs : List Placed) (added : Adds seen more (λ n. g.name ≡ n)) where
+  later_seen : (other : Placed) → (In other.name seen → ⊥) → (g.name ≡ other.name → ⊥) → In other.name more → ⊥
+  later_seen other none apart i = elim ((added other.name).0 i) [ inl j ↦ none j | inr e ↦ apart e ]
 
-pub missing_split : (by_left by_right : List Name) (g : Placed) (gs : List Placed) (w : Warning) →
-    IsMissingGate by_left by_right (g ∷ gs) w ↔
-    ((IsMissingOn by_left Left g w ⊎ IsMissingOn by_right Right g w) ⊎ IsMissingGate by_left by_right gs w)
-missing_split by_left by_right g gs (UncalledProcess p) = ((λ h. absurd h), (λ h. elim h [ inl (inl m) ↦ m | inl (inr m) ↦ m | inr m ↦ m ]))
-missing_split by_left by_right g gs (UnreachedProcess p) = ((λ h. absurd h), (λ h. elim h [ inl (inl m) ↦ m | inl (inr m) ↦ m | inr m ↦ m ]))
-missing_split by_left by_right g gs (UnusedGate other d) = ((λ h. absurd h), (λ h. elim h [ inl (inl m) ↦ m | inl (inr m) ↦ m | inr m ↦ m ]))
-missing_split by_left by_right g gs (UnofferedGate other place) = missing_side by_left by_right g gs other place
+  later_missing : (other : Placed) (place : Side) → IsMissingGate by_left by_right more gs (UnofferedGate other place) →
+      IsMissingGate by_left by_right seen (g ∷ gs) (UnofferedGate other place)
+  later_missing other place m = (
+    (λ i. m.0 ((added other.name).1 (inl i))),
+    inr ((λ e. m.0 ((added other.name).1 (inr e))), m.1),
+    m.2,
+  )
 
-pub missing_none : (by_left by_right : List Name) (w : Warning) → IsMissingGate by_left by_right [] w → ⊥
-missing_none by_left by_right (UncalledProcess p) h = h
-missing_none by_left by_right (UnreachedProcess p) h = h
-missing_none by_left by_right (UnusedGate other d) h = h
-missing_none by_left by_right (UnofferedGate other place) h = h.0
+  missing_side : (other : Placed) (place : Side) → IsMissingGate by_left by_right seen (g ∷ gs) (UnofferedGate other place) ↔
+      (IsMissingUnseen by_left by_right seen g (UnofferedGate other place) ⊎ IsMissingGate by_left by_right more gs (UnofferedGate other place))
+  missing_side other Left = (
+    (λ h. elim h.1 [
+      | inl e ↦ inl ((subst (λ (p : Placed). In p.name seen → ⊥) (sym e) h.0), inl (e, refl, h.2))
+      | inr (apart, f) ↦ inr (later_seen other h.0 apart, f, h.2)
+    ]),
+    (λ h. elim h [
+      | inl (none, inl m) ↦ (subst (λ (p : Placed). In p.name seen → ⊥) m.0 none, inl m.0, m.2)
+      | inl (none, inr m) ↦ absurd (let e = m.1 in cc)
+      | inr m ↦ later_missing other Left m
+    ]),
+  )
+  missing_side other Right = (
+    (λ h. elim h.1 [
+      | inl e ↦ inl ((subst (λ (p : Placed). In p.name seen → ⊥) (sym e) h.0), inr (e, refl, h.2))
+      | inr (apart, f) ↦ inr (later_seen other h.0 apart, f, h.2)
+    ]),
+    (λ h. elim h [
+      | inl (none, inl m) ↦ absurd (let e = m.1 in cc)
+      | inl (none, inr m) ↦ (subst (λ (p : Placed). In p.name seen → ⊥) m.0 none, inl m.0, m.2)
+      | inr m ↦ later_missing other Right m
+    ]),
+  )
+
+  no_missing : (w : Warning) → (IsMissingOn by_left Left g w → ⊥) → (IsMissingOn by_right Right g w → ⊥) → IsMissingUnseen by_left by_right seen g w → ⊥
+  no_missing w left right (none, inl m) = left m
+  no_missing w left right (none, inr m) = right m
+
+  -- a gate of the list is missing on a side: the first, if its name is not seen, or a later one
+  pub missing_split : (w : Warning) →
+      IsMissingGate by_left by_right seen (g ∷ gs) w ↔ (IsMissingUnseen by_left by_right seen g w ⊎ IsMissingGate by_left by_right more gs w)
+  missing_split (UncalledProcess p) = ((λ h. absurd h), (λ h. elim h [ inl m ↦ no_missing (UncalledProcess p) (λ i. i) (λ i. i) m | inr m ↦ m ]))
+  missing_split (UnreachedProcess p) = ((λ h. absurd h), (λ h. elim h [ inl m ↦ no_missing (UnreachedProcess p) (λ i. i) (λ i. i) m | inr m ↦ m ]))
+  missing_split (UnusedGate other d) = ((λ h. absurd h), (λ h. elim h [ inl m ↦ no_missing (UnusedGate other d) (λ i. i) (λ i. i) m | inr m ↦ m ]))
+  missing_split (UnofferedGate other place) = missing_side other place
+
+-- the warnings about a gate whose name is not seen are those of either side
+pub missing_sides : (by_left by_right seen : List Name) (g : Placed) (old mid new : List Warning) → (In g.name seen → ⊥) →
+    Adds old mid (IsMissingOn by_left Left g) → Adds mid new (IsMissingOn by_right Right g) → Adds old new (IsMissingUnseen by_left by_right seen g)
+missing_sides by_left by_right seen g old mid new none first second =
+    adds_as old new (λ w. IsMissingOn by_left Left g w ⊎ IsMissingOn by_right Right g w) (IsMissingUnseen by_left by_right seen g)
+    (λ w. ((λ h. (none, h)), (λ h. h.1)))
+    (adds_both old mid new (IsMissingOn by_left Left g) (IsMissingOn by_right Right g) first second)
+
+pub missing_none : (by_left by_right seen : List Name) (w : Warning) → IsMissingGate by_left by_right seen [] w → ⊥
+missing_none by_left by_right seen (UncalledProcess p) h = h
+missing_none by_left by_right seen (UnreachedProcess p) h = h
+missing_none by_left by_right seen (UnusedGate other d) h = h
+missing_none by_left by_right seen (UnofferedGate other place) h = h.1
 
 -- the warning about a gate that is not among the names of a side
 pub missing_one : (names : List Name) (side : Side) (gate : Placed) → (In gate.name names → ⊥) → (w : Warning) →

@@ -10,7 +10,7 @@ use Rattle.std.proofs.lemmas.Slice.Eq.{bytes_eq-Decides}
 use Rattle.lotos_check.specs.NameLists.{Name, In}
 use Rattle.lotos_check.proofs.ListIndices.{get_front}
 use Rattle.lotos_check.proofs.JoinedLists.{in_added, in_back, in_front}
-use Rattle.lotos_check.proofs.NameTests.{in_if_any, out_if_none}
+use Rattle.lotos_check.proofs.NameTests.{in_if_any, name_found, name_missing, out_if_none}
 use Rattle.lotos_warn.specs.Additions.{Adds, AddsNames, IsVisible, KeepsIndices}
 
 -- a list with one more at its end has that, too
@@ -43,6 +43,17 @@ pub inserted_name : {K : Type 0} (now : K → Name) (old new : List K) (key : K)
 inserted_name now old new key n is_text grows =
     subst (λ ks. AddsNames now old ks (λ m. n ≡ m)) (sym grows)
     (inserted now bytes_eq (λ x y. (bytes_eq-Decides x y).0) (λ x y. (bytes_eq-Decides x y).1) old key n _ is_text refl)
+
+-- a name is new exactly if a test finds none of its text
+pub new_name : {K : Type 0} (now : K → Name) (old : List K) (n name : Name) (new : Bool) → n ≡ name → new ≡ not (list_any (λ k. bytes_eq n (now k)) old) →
+    MatchBool new (In name (map now old) → ⊥) (In name (map now old))
+new_name now old n name new is_text e =
+    subst (λ m. MatchBool new (In m (map now old) → ⊥) (In m (map now old))) is_text
+    (subst (λ b. MatchBool b (In n (map now old) → ⊥) (In n (map now old))) (sym e) (by_test (list_any (λ k. bytes_eq n (now k)) old) refl))
+  where
+    by_test : (there : Bool) → list_any (λ k. bytes_eq n (now k)) old ≡ there → MatchBool (not there) (In n (map now old) → ⊥) (In n (map now old))
+    by_test true found = name_found now n old found
+    by_test false none = name_missing now n old none
 
 -- a number is put after the others unless it is among them
 pub inserted_number : (old new : List ℕ) (n : ℕ) → new ≡ (if list_any (eqb n) old then old else old ++ n ∷ []) → Adds old new (λ k. n ≡ k)

@@ -11,7 +11,8 @@ use Rattle.lotos_warn.specs.declared.warning.Side.{Side}
 use Rattle.lotos_warn.specs.declared.warning.Side.TheVariants.{Left, Right}
 use Rattle.lotos_warn.specs.declared.warning.Warning.{Warning}
 use Rattle.lotos_warn.specs.declared.warning.Warning.TheVariants.{UncalledProcess, UnreachedProcess, UnusedGate, UnofferedGate}
-use Rattle.lotos_warn.specs.Warnings.{UsesFree, IsListWarning}
+use Rattle.lotos_warn.specs.ShownNames.{shown_name}
+use Rattle.lotos_warn.specs.Warnings.{UsesFree, IsFirstOfName, IsListWarning}
 
 -- the second list has exactly the items of the first and those with the property
 abbrev pub Adds : {X : Type 0} → List X → List X → (X → Type 0) → Type 0
@@ -47,17 +48,23 @@ abbrev pub names_of : Side → List Name → List Name → List Name
 names_of Left by_left by_right = by_left
 names_of Right by_left by_right = by_right
 
--- the warning says that a gate of the list is not offered by a side, and it is not among the names of that side
-abbrev pub IsMissingGate : List Name → List Name → List Placed → Warning → Type 0
-IsMissingGate by_left by_right list (UncalledProcess process) = ⊥
-IsMissingGate by_left by_right list (UnreachedProcess process) = ⊥
-IsMissingGate by_left by_right list (UnusedGate gate definition) = ⊥
-IsMissingGate by_left by_right list (UnofferedGate gate side) =
-    In gate list × (In gate.name (names_of side by_left by_right) → ⊥)
+-- the same of either side, unless the gate's name is among those seen
+abbrev pub IsMissingUnseen : List Name → List Name → List Name → Placed → Warning → Type 0
+IsMissingUnseen by_left by_right seen gate w =
+    (In gate.name seen → ⊥) × (IsMissingOn by_left Left gate w ⊎ IsMissingOn by_right Right gate w)
 
--- the same of the list of a parallel composition, if it has one
+-- the warning says that a gate is not offered by a side, and it is not among the names of that side; the gate is the
+-- first of its name in the list, and its name is not among those seen
+abbrev pub IsMissingGate : List Name → List Name → List Name → List Placed → Warning → Type 0
+IsMissingGate by_left by_right seen list (UncalledProcess process) = ⊥
+IsMissingGate by_left by_right seen list (UnreachedProcess process) = ⊥
+IsMissingGate by_left by_right seen list (UnusedGate gate definition) = ⊥
+IsMissingGate by_left by_right seen list (UnofferedGate gate side) =
+    (In gate.name seen → ⊥) × IsFirstOfName gate list × (In gate.name (names_of side by_left by_right) → ⊥)
+
+-- the same of the list of a parallel composition, if it has one, of whose names none is seen before
 abbrev pub IsMissing : List Name → List Name → SyncView → Warning → Type 0
-IsMissing by_left by_right (gates list) w = IsMissingGate by_left by_right list w
+IsMissing by_left by_right (gates list) w = IsMissingGate by_left by_right [] list w
 IsMissing by_left by_right all w = ⊥
 
 -- the behaviour contains a call of the process
@@ -90,12 +97,13 @@ pub data IsReachedIn (system : System) : ℕ → Type 0 where
   by_process : {caller k : ℕ} → IsReachedIn system caller → IsCalledByNumber system.processes caller k →
       IsReachedIn system k
 
--- the warning says that the gate of the list is not used in the definition of that name, and it is not among the names
+-- the warning says that the gate of the list is not used in the definition whose name is shown so, and it is not among
+-- the names
 abbrev pub IsUnusedAmong : List Name → Name → List Placed → Warning → Type 0
 IsUnusedAmong used name formals (UncalledProcess process) = ⊥
 IsUnusedAmong used name formals (UnreachedProcess process) = ⊥
 IsUnusedAmong used name formals (UnusedGate gate definition) =
-    In gate formals × (definition ≡ name) × (In gate.name used → ⊥)
+    In gate formals × (definition ≡ shown_name name) × (In gate.name used → ⊥)
 IsUnusedAmong used name formals (UnofferedGate gate side) = ⊥
 
 -- the definition has this warning about its formal gates
@@ -103,7 +111,7 @@ abbrev pub IsUnusedIn : DefinitionView → Warning → Type 0
 IsUnusedIn d (UncalledProcess process) = ⊥
 IsUnusedIn d (UnreachedProcess process) = ⊥
 IsUnusedIn d (UnusedGate gate definition) =
-    In gate (formals_of d) × (definition ≡ (name_of d).name) × (UsesFree (body_of d) gate.name → ⊥)
+    In gate (formals_of d) × (definition ≡ shown_name (name_of d).name) × (UsesFree (body_of d) gate.name → ⊥)
 IsUnusedIn d (UnofferedGate gate side) = ⊥
 
 -- the definition has this warning about its gates

@@ -1,3 +1,4 @@
+pub mod ShownNames
 pub mod Warnings
 pub mod WarningOrder
 pub mod Additions

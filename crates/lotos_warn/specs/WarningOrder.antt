@@ -37,7 +37,7 @@ subject_of (UnreachedProcess process) = process.name
 subject_of (UnusedGate gate definition) = gate.name
 subject_of (UnofferedGate gate side) = gate.name
 
--- the name of its definition, or the same name again
+-- the name of its definition as it is shown, or the same name again
 abbrev pub context_of : Warning → Name
 context_of (UncalledProcess process) = process.name
 context_of (UnreachedProcess process) = process.name

@@ -1,5 +1,5 @@
 -- What an accepted specification has a warning about.
-use Rattle.std.specs.Prelude.{◌≡◌, ℕ, List, [], Some, slice_get}
+use Rattle.std.specs.Prelude.{◌≡◌, ◌⊎◌, ℕ, List, [], ◌∷◌, Some, slice_get}
 use Rattle.lotos_text.specs.AstView.{BehaviourView, gates, prefix, par, call, DefinitionView, name_of, formals_of, body_of}
 use Rattle.lotos_text.specs.declared.ast.Placed.{Placed}
 use Rattle.lotos_text.specs.declared.ast.Action.TheVariants.{Gate}
@@ -7,6 +7,7 @@ use Rattle.lotos_check.specs.NameLists.{Name, In, texts}
 use Rattle.lotos_check.specs.Scope.{Scope, ScopedDefinition, Binds, IsDefinition, within, processes_of}
 use Rattle.lotos_check.specs.Subexpressions.{IsSubexpression, UsesGate}
 use Rattle.lotos_check.specs.StaticFaults.{Occurs}
+use Rattle.lotos_warn.specs.ShownNames.{shown_name}
 use Rattle.lotos_warn.specs.declared.warning.Side.{Side}
 use Rattle.lotos_warn.specs.declared.warning.Side.TheVariants.{Left, Right}
 use Rattle.lotos_warn.specs.declared.warning.Warning.{Warning}
@@ -84,13 +85,13 @@ pub record IsUnreachedProcess (whole : DefinitionView) (name : Placed) : Type 0 
   pub called : IsCalled whole process
   pub unreached : IsReached whole process → ⊥
 
--- the gate is a formal one of a definition with this name, whose body does not use it
+-- the gate is a formal one of a definition, whose body does not use it, and whose name is shown so
 pub record IsUnusedGate (whole : DefinitionView) (gate : Placed) (name : Name) : Type 0 where
   pub scope : Scope
   pub definition : DefinitionView
   pub located : IsDefinition whole scope definition
   pub formal : In gate (formals_of definition)
-  pub named : name ≡ (name_of definition).name
+  pub named : name ≡ shown_name (name_of definition).name
   pub unused : UsesFree (body_of definition) gate.name → ⊥
 
 -- one of two operands
@@ -98,7 +99,13 @@ abbrev pub operand : Side → BehaviourView → BehaviourView → BehaviourView
 operand Left left right = left
 operand Right left right = right
 
--- the gate is in the list of a parallel composition, and the operand on that side does not offer it
+-- the gate is in the list, and none with its name is before it there
+abbrev pub IsFirstOfName : Placed → List Placed → Type 0
+IsFirstOfName gate [] = ⊥
+IsFirstOfName gate (g ∷ gs) = (g ≡ gate) ⊎ ((g.name ≡ gate.name → ⊥) × IsFirstOfName gate gs)
+
+-- the gate is the first of its name in the list of a parallel composition, and the operand on that side does not offer
+-- it
 pub record IsUnofferedGate (whole : DefinitionView) (gate : Placed) (side : Side) : Type 0 where
   pub scope : Scope
   pub in_scope : List Name
@@ -106,7 +113,7 @@ pub record IsUnofferedGate (whole : DefinitionView) (gate : Placed) (side : Side
   pub list : List Placed
   pub right : BehaviourView
   pub occurs : Occurs whole scope in_scope (par left (gates list) right)
-  pub listed : In gate list
+  pub listed : IsFirstOfName gate list
   pub unoffered : OffersFree (operand side left right) gate.name → ⊥
 
 -- the specification has this warning
@@ -116,14 +123,15 @@ IsWarning whole (UnreachedProcess process) = IsUnreachedProcess whole process
 IsWarning whole (UnusedGate gate definition) = IsUnusedGate whole gate definition
 IsWarning whole (UnofferedGate gate side) = IsUnofferedGate whole gate side
 
--- the gate is in the list of a parallel composition in the behaviour, and the operand on that side does not offer it
+-- the gate is the first of its name in the list of a parallel composition in the behaviour, and the operand on that
+-- side does not offer it
 pub record IsUnofferedIn (behaviour : BehaviourView) (gate : Placed) (side : Side) : Type 0 where
   pub hidden : List Name
   pub left : BehaviourView
   pub list : List Placed
   pub right : BehaviourView
   pub inside : IsSubexpression [] behaviour hidden (par left (gates list) right)
-  pub listed : In gate list
+  pub listed : IsFirstOfName gate list
   pub unoffered : OffersFree (operand side left right) gate.name → ⊥
 
 -- the behaviour has this warning about a list

@@ -5,6 +5,7 @@ ghost use Rattle.lotos_check.specs.NameLists.{In};
 ghost use Rattle.lotos_warn.specs.Additions.{Adds, IsGateWarning, IsGateWarningOfAny, IsProcessWarningOfAny, IsUncalledAt, IsUnreachedAt, IsUnusedAmong, IsUnusedIn};
 
 use crate::offered_gates::warn_of_lists;
+use crate::shown_name::ShownName;
 use crate::used_gates::add_used;
 use crate::warning::Warning;
 use indexmap::IndexSet;
@@ -91,7 +92,7 @@ fn warn_if_unused(
 {
     if !used.contains(gate.name.text()) {
         let gate = gate.copy(alloc)?;
-        let definition = owner.copy(alloc)?;
+        let definition = ShownName::of(alloc, owner)?;
         warnings.push(Warning::UnusedGate { gate, definition })?;
     }
     Ok(())

@@ -1,5 +1,5 @@
 //! Sets of gate names.
-ghost use Rattle.std.specs.Prelude.{◌≡◌, ◌⊎◌, OnOk, map};
+ghost use Rattle.std.specs.Prelude.{◌≡◌, ◌⊎◌, IfOk, MatchBool, OnOk, map};
 ghost use Rattle.lotos_text.specs.AstOf.{sync_view};
 ghost use Rattle.lotos_check.specs.NameLists.{In, texts};
 ghost use Rattle.lotos_warn.specs.Additions.{AddsNames, IsActionNamed, IsListed, IsVisible};
@@ -18,6 +18,19 @@ pub(crate) fn insert_name<'a>(
 {
     into.insert(name.text())?;
     Ok(())
+}
+
+/// Adds a name. Returns whether it was not there.
+pub(crate) fn insert_new<'a>(
+    into: &mut IndexSet<&'a str>,
+    name: &'a Name,
+) -> Result<bool, AllocError>
+    ensures adds { OnOk result (AddsNames (λ k. k.now) into.old.keys into.new.keys (λ n. name.now ≡ n)) }
+    ensures new { IfOk result (λ new. MatchBool new (In name.now (map (λ k. k.now) into.old.keys) → ⊥)
+        (In name.now (map (λ k. k.now) into.old.keys))) }
+{
+    let new = into.insert(name.text())?;
+    Ok(new)
 }
 
 /// Adds the names of a list.

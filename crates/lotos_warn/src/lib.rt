@@ -9,9 +9,11 @@ mod definition_warnings;
 mod gate_names;
 mod offered_gates;
 mod process_calls;
+mod shown_name;
 mod specification_warnings;
 mod used_gates;
 mod warning;
 
+pub use shown_name::ShownName;
 pub use specification_warnings::warnings;
 pub use warning::{Side, Warning};

@@ -1,11 +1,11 @@
 //! The gates that a behaviour offers, and the lists of parallel compositions with gates that a side never offers.
-ghost use Rattle.std.specs.Prelude.{[], IfOk, OnOk, map};
+ghost use Rattle.std.specs.Prelude.{◌≡◌, [], IfOk, OnOk, map};
 ghost use Rattle.lotos_text.specs.AstOf.{behaviour_view, sync_view};
 ghost use Rattle.lotos_check.specs.NameLists.{In};
-ghost use Rattle.lotos_warn.specs.Additions.{Adds, AddsNames, IsMissing, IsMissingGate, IsMissingOn};
+ghost use Rattle.lotos_warn.specs.Additions.{Adds, AddsNames, IsMissing, IsMissingGate, IsMissingOn, IsMissingUnseen};
 ghost use Rattle.lotos_warn.specs.Warnings.{IsListWarning, OffersFree};
 
-use crate::gate_names::{insert_action, insert_both, insert_names, insert_visible};
+use crate::gate_names::{insert_action, insert_both, insert_names, insert_new, insert_visible};
 use crate::warning::{Side, Warning};
 use indexmap::IndexSet;
 use lotos_text::{Behaviour, Placed, SyncSet};
@@ -92,7 +92,8 @@ fn warn_of_list(
     }
 }
 
-/// Appends the warnings about the gates of one list, given the gates that each side offers.
+/// Appends the warnings about the gates of one list, given the gates that each side offers. Of gates with one name in the
+/// list only the first has warnings.
 fn warn_of_unoffered(
     alloc: Global,
     gates: &[Placed],
@@ -101,9 +102,32 @@ fn warn_of_unoffered(
     warnings: &mut Vec<Warning>,
 ) -> Result<(), AllocError>
     ensures { OnOk result (Adds warnings.old.items warnings.new.items
-        (IsMissingGate (map (λ k. k.now) by_left.now.keys) (map (λ k. k.now) by_right.now.keys) gates.now)) }
+        (IsMissingGate (map (λ k. k.now) by_left.now.keys) (map (λ k. k.now) by_right.now.keys) []
+        gates.now)) }
 {
+    let mut seen = IndexSet::new(alloc);
     for gate in gates {
+        warn_if_unseen(alloc, gate, by_left, by_right, &mut seen, warnings)?;
+    }
+    Ok(())
+}
+
+/// Appends the warnings about a gate, given the gates that each side offers, unless its name was seen. Adds its name to
+/// those seen.
+fn warn_if_unseen<'a>(
+    alloc: Global,
+    gate: &'a Placed,
+    by_left: &IndexSet<&str>,
+    by_right: &IndexSet<&str>,
+    seen: &mut IndexSet<&'a str>,
+    warnings: &mut Vec<Warning>,
+) -> Result<(), AllocError>
+    ensures sees { OnOk result (AddsNames (λ k. k.now) seen.old.keys seen.new.keys (λ n. gate.now.name ≡ n)) }
+    ensures warns { OnOk result (Adds warnings.old.items warnings.new.items
+        (IsMissingUnseen (map (λ k. k.now) by_left.now.keys) (map (λ k. k.now) by_right.now.keys)
+        (map (λ k. k.now) seen.old.keys) gate.now)) }
+{
+    if insert_new(seen, &gate.name)? {
         warn_if_unoffered(alloc, gate, Side::Left, by_left, warnings)?;
         warn_if_unoffered(alloc, gate, Side::Right, by_right, warnings)?;
     }

@@ -5,6 +5,7 @@ ghost use Rattle.std.specs.Cmp.{partial_equiv_from_equiv, partial_order_from_own
 ghost use Rattle.std.specs.Ordering.{as_partial_cmp, eq_by_cmp};
 ghost use Rattle.lotos_warn.specs.WarningOrder.{context_of, offset_of, rank_of, side_rank, subject_of, warning_cmp, warning_total};
 
+use crate::shown_name::{Shown, ShownName};
 use lotos_text::{Name, Placed};
 use std::cmp::Ordering;
 use std::fmt;
@@ -39,8 +40,8 @@ pub enum Warning {
     /// Calls name the process, but none in the behaviour of the specification or in a process that is reached from there.
     UnreachedProcess(Placed),
     /// A formal gate that the behaviour of its definition does not use.
-    UnusedGate { gate: Placed, definition: Name },
-    /// A gate in the list of a parallel composition that one side never offers.
+    UnusedGate { gate: Placed, definition: ShownName },
+    /// A gate in the list of a parallel composition, the first of its name there, that one side never offers.
     UnofferedGate { gate: Placed, side: Side },
 }
 
@@ -80,15 +81,15 @@ impl Warning {
         }
     }
 
-    /// The definition of an unused gate; of another warning its process or its gate.
-    fn context(&self) -> &Name
+    /// The definition of an unused gate, as it is shown; of another warning its process or its gate.
+    fn context(&self) -> &str
         ensures { result.now ≡ context_of self.now }
     {
         match self {
-            Warning::UncalledProcess(process) => &process.name,
-            Warning::UnreachedProcess(process) => &process.name,
-            Warning::UnusedGate { definition, .. } => definition,
-            Warning::UnofferedGate { gate, .. } => &gate.name,
+            Warning::UncalledProcess(process) => process.name.text(),
+            Warning::UnreachedProcess(process) => process.name.text(),
+            Warning::UnusedGate { definition, .. } => definition.text(),
+            Warning::UnofferedGate { gate, .. } => gate.name.text(),
         }
     }
 }
@@ -140,23 +141,23 @@ impl fmt::Display for Warning {
     fn fmt<W: fmt::Write>(&self, f: &mut fmt::Formatter<W>) -> fmt::Result {
         match self {
             Warning::UncalledProcess(process) => {
-                write!(f, "process {} is never called", process.name.text())
+                write!(f, "process {} is never called", Shown(&process.name))
             }
             Warning::UnreachedProcess(process) => write!(
                 f,
                 "process {} is never reached from the behaviour of the specification",
-                process.name.text()
+                Shown(&process.name)
             ),
             Warning::UnusedGate { gate, definition } => write!(
                 f,
                 "gate {} of {} is not used",
-                gate.name.text(),
+                Shown(&gate.name),
                 definition.text()
             ),
             Warning::UnofferedGate { gate, side } => write!(
                 f,
                 "gate {} of `|[..]|` is never offered on the {}",
-                gate.name.text(),
+                Shown(&gate.name),
                 side_text(*side)
             ),
         }

@@ -2,6 +2,7 @@ use Rattle.std.proofs.Common.{◌≡◌, [], ◌∷◌, ◌++◌, map, sym, ap, 
 use Rattle.lotos_check.specs.NameLists.{In}
 use Rattle.lotos_check.proofs.NameTests.{name_found, name_missing}
 use Rattle.lotos_warn.specs.declared.warning.Warning.TheVariants.{UnusedGate}
+use Rattle.lotos_warn.specs.ShownNames.{shown_name}
 use Rattle.lotos_warn.specs.Additions.{Adds, IsUnusedAmong}
 use Rattle.lotos_warn.proofs.Additions.{adds_as, adds_nothing}
 use Rattle.lotos_warn.proofs.NameTests.{adds_end}
@@ -18,9 +19,9 @@ returns-in_ok-push c =
     let pushed = c.in_ok-push.ensures.items ∙ (ap (λ g. c.args.warnings.now.items ++ UnusedGate g c.in_ok-definition.definition ∷ []) c.in_ok-gate.ensures
     ∙ ap (λ n. c.args.warnings.now.items ++ UnusedGate gate n ∷ []) c.in_ok-definition.ensures) in
     subst (λ ws. Adds c.args.warnings.now.items ws (IsUnusedAmong used name (gate ∷ []))) (sym pushed)
-    (adds_as c.args.warnings.now.items (c.args.warnings.now.items ++ UnusedGate gate name ∷ []) (λ w. UnusedGate gate name ≡ w)
+    (adds_as c.args.warnings.now.items (c.args.warnings.now.items ++ UnusedGate gate (shown_name name) ∷ []) (λ w. UnusedGate gate (shown_name name) ≡ w)
     (IsUnusedAmong used name (gate ∷ [])) (unused_one used name gate none)
-    (adds_end c.args.warnings.now.items (UnusedGate gate name)))
+    (adds_end c.args.warnings.now.items (UnusedGate gate (shown_name name))))
 
 pub returns-else-not-contains : goal.returns-else-not-contains
 returns-else-not-contains c =
