@@ -62,14 +62,19 @@ fn hidden_gate(step: Step, gates: &[Gate], target: Term) -> Option<Gate>
     ensures { MatchOption result ((g : ℕ) → In g gates.now → step ≡ (labels.Gate g, target) → ⊥)
         (λ g. In g gates.now × (step ≡ (labels.Gate g, target))) }
 {
-    match step.label {
-        Label::Gate(gate) => {
-            if step.target.number() == target.number() && is_listed(gates, gate) {
-                Some(gate)
-            } else {
-                None
-            }
-        }
+    let gate = gate_of(step.label)?;
+    if step.target.number() == target.number() && is_listed(gates, gate) {
+        return Some(gate);
+    }
+    None
+}
+
+/// The gate of a label, if it is one.
+fn gate_of(label: Label) -> Option<Gate>
+    ensures { MatchOption result ((g : ℕ) → label ≡ labels.Gate g → ⊥) (λ g. label ≡ labels.Gate g) }
+{
+    match label {
+        Label::Gate(gate) => Some(gate),
         _ => None,
     }
 }

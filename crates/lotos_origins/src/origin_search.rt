@@ -133,6 +133,7 @@ fn look_in_parallel(
     ensures sound { IsSoundView table.new }
     ensures found { IfOk result (IsInOperand table.new left left_target right right_target) }
 {
+    table.recall_sound();
     if right_target.number() == right.number() {
         first_of(table, left, left_target, right, right_target)
     } else {

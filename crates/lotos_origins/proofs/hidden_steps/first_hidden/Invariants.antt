@@ -1,0 +1,9 @@
+use Rattle.std.proofs.Common.{◌≡◌, ◌<◌, ℕ, Some, slice_get}
+use Rattle.lotos_check.specs.NameLists.{In}
+use Rattle.lotos_store.specs.declared.label.Label.{Label}
+use Rattle.lotos_store.specs.declared.label.Label.TheVariants as labels
+use Rattle.lotos_origins.proofs.hidden_steps.first_hidden.Given as goal
+
+abbrev pub invariant-loop-step : goal.invariant-loop-step
+invariant-loop-step l = (k : ℕ) (s : Label × ℕ) (g : ℕ) → k < l.step-index → slice_get l.steps k ≡ Some s → In g l.gates →
+    s ≡ (labels.Gate g, l.target) → ⊥
