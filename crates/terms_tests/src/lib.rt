@@ -1,7 +1,8 @@
 //! Tests of terms through the public items of `lotos_terms`: worked rows, the steps of a table against an oracle, a slow
 //! reading of the inference rules over terms of its own, and how soon normal forms recur. And tests of what can still come,
 //! through the public items of `lotos_ends`: worked rows, and an oracle that goes over all normal forms again and again.
-//! And worked rows of the labels that the end of a sequence must not have, through the `LabelFlags` of `lotos_listing`.
+//! And worked rows of the labels that the end of a sequence must not have, through the `LabelFlags` of `lotos_listing`, and
+//! of what makes internal steps, through the public items of `lotos_origins`.
 //!
 //! They are a crate of their own, because a crate with tests inside is proved twice, and one crate, because each that
 //! runs tests is linked with all libraries below.
@@ -39,6 +40,10 @@ mod operator_tests;
 mod oracle;
 #[cfg(test)]
 mod oracle_comparison;
+#[cfg(test)]
+mod origin_list;
+#[cfg(test)]
+mod origin_tests;
 #[cfg(test)]
 mod protocols;
 #[cfg(test)]
