@@ -12,6 +12,7 @@ use Rattle.lotos_origins.specs.OriginSearch.{LeadsBy}
 abbrev pair : Label → ℕ → Label × ℕ
 pair k n = (k, n)
 
+-- the listed steps are the same
 abbrev pub IsSameStep : Label × ℕ → Label × ℕ → Type 0
 IsSameStep s r = s ≡ r
 

@@ -64,7 +64,8 @@ abbrev pub IsInOperand : TableView → ℕ → ℕ → ℕ → ℕ → Finding �
 IsInOperand table a b c d found = ((found ≡ finding.Inner a b) × (d ≡ c) × LeadsInternally table a b) ⊎
     ((found ≡ finding.Inner c d) × (d ≡ c → LeadsInternally table a b → ⊥))
 
--- termination was found if the target is the right operand `c`; otherwise an internal step from `a` to `b` is looked for
+-- termination was found if the target is the right operand `c`; otherwise an internal step from `a` to `b` is looked
+-- for
 abbrev pub IsInEnabling : (a b c target : ℕ) → Finding → Type 0
 IsInEnabling a b c target found = ((found ≡ finding.Made origin.Termination) × (target ≡ c)) ⊎
     ((found ≡ finding.Inner a b) × (target ≡ c → ⊥))

@@ -47,7 +47,7 @@ DerivesByNumber system t (k ∷ run) u = (v : Term) × Step system t k v × Deri
 -- their order
 pub data DerivesBy (system : List Process) : Term → (run : List Label) → List Origin → Term → Type 0 where
   ends : {t : Term} → DerivesBy system t [] [] t
-  observably : {t u v : Term} {k : Label} {run : List Label} {origins : List Origin} → k ≢ l.Internal → Step system t k u →
-      DerivesBy system u run origins v → DerivesBy system t (k ∷ run) origins v
+  observably : {t u v : Term} {k : Label} {run : List Label} {origins : List Origin} → k ≢ l.Internal →
+      Step system t k u → DerivesBy system u run origins v → DerivesBy system t (k ∷ run) origins v
   internally : {t u v : Term} {o : Origin} {run : List Label} {origins : List Origin} → InternalStep system t o u →
       DerivesBy system u run origins v → DerivesBy system t (l.Internal ∷ run) (o ∷ origins) v

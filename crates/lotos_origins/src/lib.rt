@@ -1,8 +1,8 @@
-//! What makes an internal step: an `i` of the text, an action of a gate that a `hide` makes internal, or the termination
-//! of the left side of an enabling.
+//! What makes an internal step: an `i` of the text, an action of a gate that a `hide` makes internal, or the
+//! termination of the left operand of an enabling.
 //!
-//! The name of a hidden gate is the one that it has at its `hide`. Normal forms lose it, since there a hiding moves under
-//! a relabelling, so that [`internal_origin`] goes down terms as they are, from a step to a step of a part. The
+//! The name of a hidden gate is the one that it has at its `hide`. Normal forms lose it, since there a hiding moves
+//! under a relabelling. So [`internal_origin`] goes down terms as they are, from a step to a step of a part. The
 //! definitions that the contracts cite are in `specs/`, the laws over them in [`laws`].
 #![tactic(auto)]
 

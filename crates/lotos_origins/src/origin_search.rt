@@ -21,8 +21,8 @@ pub(crate) enum Finding {
     Inner { from: Term, to: Term },
 }
 
-/// An origin of an internal step from the term to the target. Terms without a number get one. If an allocation fails, the
-/// table may have grown all the same.
+/// An origin of an internal step from the term to the target. Terms without a number get one. If an allocation fails,
+/// the table may have grown all the same.
 pub fn internal_origin(
     alloc: Global,
     table: &mut NormalTable,
@@ -144,7 +144,8 @@ fn look_in_parallel(
     }
 }
 
-/// The termination of the left operand, if the step leads to the right one; otherwise the internal step of the left one.
+/// The termination of the left operand, if the step leads to the right one; otherwise the internal step of the left
+/// operand.
 fn look_in_enabling(left: Term, left_target: Term, right: Term, target: Term) -> Finding
     ensures { IsInEnabling left left_target right target result }
 {

@@ -5,8 +5,8 @@ ghost use Rattle.lotos_origins.specs.Parts.{IsPart, first_part_of, second_part_o
 
 use lotos_store::{Node, Term, TermStore};
 
-/// The left operand or the body of a parallel composition, a hiding, an enabling, a disabling or a relabelling; of others
-/// the term itself.
+/// The left operand or the body of a parallel composition, a hiding, an enabling, a disabling or a relabelling; of
+/// others the term itself.
 pub(crate) fn first_part(nodes: &TermStore, number: Term) -> Term
     requires { number < length nodes.now.terms }
     ensures { IfSome (first_part_of (term_with nodes.now number)) (λ t. IsPart nodes.now.terms number t result) }

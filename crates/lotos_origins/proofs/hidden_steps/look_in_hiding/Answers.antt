@@ -35,4 +35,5 @@ returns-clause-found c =
     let listed = subst (λ r. IfOk r (λ s. AreSuccessors new c.args.body s.now)) c.in_ok-steps.was holds.2 in
     let below = below_grows _ _ holds.0 _ c.requires.body in
     let (there, stands) = c.in-Some.ensures in
-    inr (c.in-Some.gate, refl, there, listed_leads new holds.1 c.args.body below c.in_ok-steps.steps.now listed (labels.Gate c.in-Some.gate) c.args.target stands)
+    let leads = listed_leads new holds.1 c.args.body below c.in_ok-steps.steps.now listed (labels.Gate c.in-Some.gate) c.args.target stands in
+    inr (c.in-Some.gate, refl, there, leads)

@@ -4,7 +4,8 @@ use Rattle.std.proofs.lemmas.Option.{get_or_from_slice_get, slice_get_within}
 use Rattle.lotos_store.specs.Terms.{hide, stop}
 use Rattle.lotos_terms.proofs.GrowingTables.{grows_same}
 use Rattle.lotos_origins.specs.Parts.{first_part_of, second_part_of}
-use Rattle.lotos_origins.proofs.InnerSteps.{call_found, choice_found, disable_found, enable_found, hide_found, hide_goes, par_found, prefix_found, relabel_found}
+use Rattle.lotos_origins.proofs.InnerSteps.{call_found, choice_found, disable_found, enable_found, hide_found, hide_goes, par_found, prefix_found}
+use Rattle.lotos_origins.proofs.InnerSteps.{relabel_found}
 use Rattle.lotos_origins.proofs.InternalCases.{of_call}
 use Rattle.lotos_origins.proofs.NodeSteps.{goes, here, if_ok, part, target, target_part}
 use Rattle.lotos_origins.proofs.origin_search.look_inside.Goals as goal
