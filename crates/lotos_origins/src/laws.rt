@@ -19,6 +19,6 @@ pub fn internal_steps_have_origins()
 pub fn derivations_have_origins()
     ensures derivation { (system : List Process) (t u : TermOf) (run : List Label) (origins : List OriginOf) →
         DerivesBy system t run origins u → DerivesByNumber system t run u }
-    ensures origins { (system : List Process) (t u : TermOf) (run : List Label) → DerivesByNumber system t run u →
-        (origins : List OriginOf) × DerivesBy system t run origins u }
+    ensures origins { (system : List Process) (t u : TermOf) (run : List Label) →
+        DerivesByNumber system t run u → (origins : List OriginOf) × DerivesBy system t run origins u }
 {}

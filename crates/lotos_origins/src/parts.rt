@@ -9,7 +9,8 @@ use lotos_store::{Node, Term, TermStore};
 /// others the term itself.
 pub(crate) fn first_part(nodes: &TermStore, number: Term) -> Term
     requires { number < length nodes.now.terms }
-    ensures { IfSome (first_part_of (term_with nodes.now number)) (λ t. IsPart nodes.now.terms number t result) }
+    ensures { IfSome (first_part_of (term_with nodes.now number))
+        (λ t. IsPart nodes.now.terms number t result) }
 {
     match nodes.node(number) {
         Node::Par { left, .. } => left,
@@ -24,7 +25,8 @@ pub(crate) fn first_part(nodes: &TermStore, number: Term) -> Term
 /// The right operand of a parallel composition; of others the term itself.
 pub(crate) fn second_part(nodes: &TermStore, number: Term) -> Term
     requires { number < length nodes.now.terms }
-    ensures { IfSome (second_part_of (term_with nodes.now number)) (λ t. IsPart nodes.now.terms number t result) }
+    ensures { IfSome (second_part_of (term_with nodes.now number))
+        (λ t. IsPart nodes.now.terms number t result) }
 {
     match nodes.node(number) {
         Node::Par { right, .. } => right,
