@@ -1,7 +1,7 @@
 //! Texts of specifications: their ASTs, their systems, and the steps, the normal forms and the regrouping of their terms.
 
 use crate::ast_lines::write_definition;
-use crate::front_end::{accepted, normal_table_of, parsed};
+use crate::front_end::{accepted, hidden, normal_table_of, parsed};
 use crate::lines::Line;
 use crate::retry_heap::{Heap, Stop};
 use crate::system_lines::{write_fault, write_system};
@@ -30,6 +30,11 @@ process Q [x,y] : exit := x; exit [] y; exit endproc endspec",
     "specification S : noexit behaviour P where process P : noexit := Q endproc process Q : noexit := P [] stop endproc endspec",
 ];
 
+/// Specifications of which a gate is hidden.
+const HIDDEN: &[&str] = &[
+    "specification S [a,b] : noexit behaviour P[a,b] where process P [x,y] : noexit := x; P[y,x] endproc endspec",
+];
+
 pub fn rows(rt: &impl Print, heap: &mut Heap) -> Result<(), Stop> {
     for text in ROWS {
         write_tree(rt, heap, text)?;
@@ -37,7 +42,18 @@ pub fn rows(rt: &impl Print, heap: &mut Heap) -> Result<(), Stop> {
             follow(rt, heap, text)?;
         }
     }
+    for text in HIDDEN {
+        write_hidden(rt, heap, text)?;
+    }
     Ok(())
+}
+
+/// Writes a system with its first gate hidden.
+fn write_hidden(rt: &impl Print, heap: &mut Heap, text: &str) -> Result<(), Stop> {
+    let system = hidden(heap, text)?;
+    let mut line = Line::new();
+    write_system(&mut line, &system)?;
+    Ok(println!(rt; "hidden:{line}")?)
 }
 
 /// Writes the AST of a text, or why there is none.

@@ -28,6 +28,31 @@ pub fn accepted(heap: &mut Heap, text: &str) -> Result<Checked, AcceptFault> {
     }
 }
 
+/// The checked specification of a text with its first gate hidden.
+pub fn hidden(heap: &mut Heap, text: &str) -> Result<Checked, Stop> {
+    match hidden_once(heap, text) {
+        Err(Stop::Memory) => {
+            heap.count_failure();
+            hidden_once(heap, text)
+        }
+        answer => answer,
+    }
+}
+
+fn hidden_once(heap: &mut Heap, text: &str) -> Result<Checked, Stop> {
+    let system = accepted(heap, text)?;
+    Ok(hide_first(heap.alloc, system)?)
+}
+
+/// The specification with its first gate hidden.
+fn hide_first(alloc: Global, system: Checked) -> Result<Checked, AllocError> {
+    let mut gates = Vec::new(alloc);
+    if let Some(gate) = system.gates().first() {
+        gates.push(gate.copy(alloc)?)?;
+    }
+    system.with_hidden(alloc, gates.as_slice())
+}
+
 /// The table of a text.
 pub fn table_of(heap: &mut Heap, text: &str) -> Result<Box<Table>, Stop> {
     match table_once(heap, text) {

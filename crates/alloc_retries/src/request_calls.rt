@@ -20,6 +20,7 @@ const ROWS: &[&[&str]] = &[
     ],
     &["lotosseq", "search", "--length", "2", "A"],
     &["lotosseq", "ever", "<until> A", " B  <deadlock> "],
+    &["lotosseq", "ever", "--only", "A,b", "A"],
     &["lotosseq", "after", "--strong", "A  B", "i"],
     &["lotosseq", "cover", "--after=A B", "--limit", "3"],
     &["lotosseq", "search", "--depth", "256"],

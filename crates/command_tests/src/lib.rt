@@ -3,4 +3,6 @@
 #![tactic(auto)]
 
 #[cfg(test)]
+mod interface_tests;
+#[cfg(test)]
 mod request_tests;

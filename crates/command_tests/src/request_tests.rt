@@ -38,42 +38,42 @@ const REQUESTS: &[(&str, &[&str], &str)] = &[
             "-x",
             "A",
         ],
-        "Search(SearchRequest { extent: Depth(7), limit: Some(3), terms: 100000, after: Some(\"A : i A\"), explain: false, strong: true, known: true, progress: true, words: [\"-x\", \"A\"] })",
+        "Search(SearchRequest { extent: Depth(7), limit: Some(3), terms: 100000, after: Some(\"A : i A\"), explain: false, interface: Whole, strong: true, known: true, progress: true, words: [\"-x\", \"A\"] })",
     ),
     (
         "flags that are not given",
         &["lotosseq", "search", "--depth", "0", "--", "--known"],
-        "Search(SearchRequest { extent: Depth(0), limit: None, terms: 100000, after: None, explain: false, strong: false, known: false, progress: false, words: [\"--known\"] })",
+        "Search(SearchRequest { extent: Depth(0), limit: None, terms: 100000, after: None, explain: false, interface: Whole, strong: false, known: false, progress: false, words: [\"--known\"] })",
     ),
     (
         "a length in place of a depth",
         &["lotosseq", "search", "A", "--length", "255"],
-        "Search(SearchRequest { extent: Length(255), limit: None, terms: 100000, after: None, explain: false, strong: false, known: false, progress: false, words: [\"A\"] })",
+        "Search(SearchRequest { extent: Length(255), limit: None, terms: 100000, after: None, explain: false, interface: Whole, strong: false, known: false, progress: false, words: [\"A\"] })",
     ),
     (
         "a question with options among its words",
         &["lotosseq", "ever", "A", "--states", "7", "--explain", "B"],
-        "Ever(EverRequest { states: 7, explain: true, strong: false, progress: false, words: [\"A\", \"B\"] })",
+        "Ever(EverRequest { states: 7, explain: true, interface: Whole, strong: false, progress: false, words: [\"A\", \"B\"] })",
     ),
     (
         "a question that tells how far it is",
         &["lotosseq", "ever", "--progress", "A"],
-        "Ever(EverRequest { states: 1000000, explain: false, strong: false, progress: true, words: [\"A\"] })",
+        "Ever(EverRequest { states: 1000000, explain: false, interface: Whole, strong: false, progress: true, words: [\"A\"] })",
     ),
     (
         "a question without words",
         &["lotosseq", "ever"],
-        "Ever(EverRequest { states: 1000000, explain: false, strong: false, progress: false, words: [] })",
+        "Ever(EverRequest { states: 1000000, explain: false, interface: Whole, strong: false, progress: false, words: [] })",
     ),
     (
         "a sequence without labels",
         &["lotosseq", "after"],
-        "After(AfterRequest { terms: 100000, strong: false, progress: false, words: [] })",
+        "After(AfterRequest { terms: 100000, interface: Whole, strong: false, progress: false, words: [] })",
     ),
     (
         "a sequence with options among its labels",
         &["lotosseq", "after", "put", "--strong", "i", "--terms", "1"],
-        "After(AfterRequest { terms: 1, strong: true, progress: false, words: [\"put\", \"i\"] })",
+        "After(AfterRequest { terms: 1, interface: Whole, strong: true, progress: false, words: [\"put\", \"i\"] })",
     ),
     (
         "a sequence with the greatest number of terms, that tells how far it is",
@@ -85,12 +85,12 @@ const REQUESTS: &[(&str, &[&str], &str)] = &[
             "--",
             "A",
         ],
-        "After(AfterRequest { terms: 1000000, strong: false, progress: true, words: [\"A\"] })",
+        "After(AfterRequest { terms: 1000000, interface: Whole, strong: false, progress: true, words: [\"A\"] })",
     ),
     (
         "a cover without options",
         &["lotosseq", "cover"],
-        "Cover(CoverRequest { limit: None, after: None, terms: 100000, states: 1000000, strong: false, progress: false })",
+        "Cover(CoverRequest { limit: None, after: None, terms: 100000, states: 1000000, interface: Whole, strong: false, progress: false })",
     ),
     (
         "a cover with all that it may have",
@@ -107,7 +107,7 @@ const REQUESTS: &[(&str, &[&str], &str)] = &[
             "--terms",
             "2",
         ],
-        "Cover(CoverRequest { limit: Some(1), after: Some(\"A B\"), terms: 2, states: 7, strong: true, progress: true })",
+        "Cover(CoverRequest { limit: Some(1), after: Some(\"A B\"), terms: 2, states: 7, interface: Whole, strong: true, progress: true })",
     ),
     (
         "a cover with the greatest numbers",
@@ -118,12 +118,12 @@ const REQUESTS: &[(&str, &[&str], &str)] = &[
             "--terms=1000000",
             "--states=100000000",
         ],
-        "Cover(CoverRequest { limit: Some(1000000000), after: None, terms: 1000000, states: 100000000, strong: false, progress: false })",
+        "Cover(CoverRequest { limit: Some(1000000000), after: None, terms: 1000000, states: 100000000, interface: Whole, strong: false, progress: false })",
     ),
 ];
 
 /// The request of the words as `Debug` writes it, or `help` or `wrong`.
-fn answer(alloc: Global, words: &[&str]) -> Result<String, AllocError> {
+pub(crate) fn answer(alloc: Global, words: &[&str]) -> Result<String, AllocError> {
     match request(alloc, words) {
         Ok(asked) => format!(in alloc; "{asked:?}"),
         Err(CommandFault::Help(_)) => format!(in alloc; "help"),
@@ -387,7 +387,7 @@ For more information, try '--help'.
 ];
 
 /// The text for words that fit no command; for others no text.
-fn wrong_text(alloc: Global, words: &[&str]) -> String {
+pub(crate) fn wrong_text(alloc: Global, words: &[&str]) -> String {
     match request(alloc, words) {
         Err(CommandFault::Wrong(text)) => text,
         _ => String::new(alloc),

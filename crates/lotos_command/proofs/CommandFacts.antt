@@ -1,11 +1,11 @@
 -- clap's contracts cover the command line, and the requests and faults of some words, computed.
 use Rattle.std.proofs.Common.{◌≡◌, refl, true, false, codes, List, [], ◌∷◌, Some, None}
 use Rattle.clap.specs.Words.{Text, fault_of, is_simple, is_simple_and_free, takes}
-use Rattle.clap.specs.declared.error.kind.ErrorKind.TheVariants.{DisplayVersion, UnknownArgument, ValueValidation}
+use Rattle.clap.specs.declared.error.kind.ErrorKind.TheVariants.{DisplayVersion, InvalidValue, UnknownArgument, ValueValidation}
 use Rattle.clap.proofs.OnLiterals.{clap_on_literals}
 use Rattle.lotos_command.specs.CommandFaults.{MakeNoRequest}
 use Rattle.lotos_command.specs.CommandRules.{lotosseq}
-use Rattle.lotos_command.specs.Request.{RequestOf, after, check, cover, diagnose, ever, search}
+use Rattle.lotos_command.specs.Request.{RequestOf, after, check, cover, diagnose, ever, hide, only, search, whole}
 use Rattle.lotos_command.specs.declared.command.Extent.TheVariants.{Depth, Length}
 
 pub simple_and_free : is_simple_and_free lotosseq ≡ true
@@ -27,6 +27,7 @@ row_asks : RequestOf row (search (record {
   terms = 100000;
   after = None;
   explain = false;
+  interface = whole;
   strong = false;
   known = false;
   progress = false;
@@ -44,6 +45,7 @@ hyphen_asks : RequestOf hyphen_row (search (record {
   terms = 100000;
   after = None;
   explain = false;
+  interface = whole;
   strong = false;
   known = false;
   progress = false;
@@ -63,6 +65,7 @@ full_asks : RequestOf full_row (search (record {
   terms = 7;
   after = Some (codes "A : i A");
   explain = true;
+  interface = whole;
   strong = true;
   known = true;
   progress = true;
@@ -80,6 +83,7 @@ length_asks : RequestOf length_row (search (record {
   terms = 100000;
   after = None;
   explain = false;
+  interface = whole;
   strong = false;
   known = false;
   progress = false;
@@ -95,6 +99,29 @@ both_ask_nothing = (refl, refl)
 neither_asks_anything : MakeNoRequest (codes "lotosseq" ∷ codes "search" ∷ codes "A" ∷ [])
 unfolding clap_on_literals
 neither_asks_anything = (refl, refl)
+
+abbrev seen_row : List Text
+seen_row =
+    codes "lotosseq" ∷ codes "search" ∷ codes "--length=2" ∷ codes "--hide" ∷ codes "a,B" ∷ codes "A" ∷ []
+
+seen_asks : RequestOf seen_row (search (record {
+  extent = Length 2;
+  limit = None;
+  terms = 100000;
+  after = None;
+  explain = false;
+  interface = hide (codes "a,B");
+  strong = false;
+  known = false;
+  progress = false;
+  words = codes "A" ∷ [];
+}))
+unfolding clap_on_literals
+seen_asks = record { faultless = refl; reads = refl }
+
+two_interfaces_ask_nothing : MakeNoRequest (codes "lotosseq" ∷ codes "search" ∷ codes "--length=1" ∷ codes "--hide=A" ∷ codes "--only=B" ∷ [])
+unfolding clap_on_literals
+two_interfaces_ask_nothing = (refl, refl)
 
 check_row_asks : RequestOf (codes "lotosseq" ∷ codes "check" ∷ []) check
 unfolding clap_on_literals
@@ -144,7 +171,8 @@ too_many_terms : fault_of lotosseq (codes "lotosseq" ∷ codes "search" ∷ code
 unfolding clap_on_literals
 too_many_terms = refl
 
-bare_ever_asks : RequestOf (codes "lotosseq" ∷ codes "ever" ∷ []) (ever (record { states = 1000000; explain = false; strong = false; progress = false; words = [] }))
+bare_ever_asks : RequestOf (codes "lotosseq" ∷ codes "ever" ∷ [])
+    (ever (record { states = 1000000; explain = false; interface = whole; strong = false; progress = false; words = [] }))
 unfolding clap_on_literals
 bare_ever_asks = record { faultless = refl; reads = refl }
 
@@ -156,12 +184,26 @@ ever_row =
 ever_asks : RequestOf ever_row (ever (record {
   states = 100000000;
   explain = true;
+  interface = whole;
   strong = true;
   progress = true;
   words = codes "A" ∷ codes "<deadlock>" ∷ [];
 }))
 unfolding clap_on_literals
 ever_asks = record { faultless = refl; reads = refl }
+
+ever_of_gates_asks : RequestOf (codes "lotosseq" ∷ codes "ever" ∷ codes "--only=A,C" ∷ codes "A C" ∷ [])
+    (ever (record { states = 1000000; explain = false; interface = only (codes "A,C"); strong = false; progress = false; words = codes "A" ∷ codes "C" ∷ [] }))
+unfolding clap_on_literals
+ever_of_gates_asks = record { faultless = refl; reads = refl }
+
+ever_of_two_interfaces_asks_nothing : MakeNoRequest (codes "lotosseq" ∷ codes "ever" ∷ codes "--only=A" ∷ codes "A" ∷ codes "--hide" ∷ codes "B" ∷ [])
+unfolding clap_on_literals
+ever_of_two_interfaces_asks_nothing = (refl, refl)
+
+no_flag_is_a_value : fault_of lotosseq (codes "lotosseq" ∷ codes "ever" ∷ codes "--hide" ∷ codes "--strong" ∷ []) ≡ InvalidValue ∷ []
+unfolding clap_on_literals
+no_flag_is_a_value = refl
 
 no_state : fault_of lotosseq (codes "lotosseq" ∷ codes "ever" ∷ codes "--states" ∷ codes "0" ∷ []) ≡ ValueValidation ∷ []
 unfolding clap_on_literals
@@ -179,12 +221,13 @@ ever_has_no_known : fault_of lotosseq (codes "lotosseq" ∷ codes "ever" ∷ cod
 unfolding clap_on_literals
 ever_has_no_known = refl
 
-bare_after_asks : RequestOf (codes "lotosseq" ∷ codes "after" ∷ []) (after (record { terms = 100000; strong = false; progress = false; words = [] }))
+bare_after_asks : RequestOf (codes "lotosseq" ∷ codes "after" ∷ [])
+    (after (record { terms = 100000; interface = whole; strong = false; progress = false; words = [] }))
 unfolding clap_on_literals
 bare_after_asks = record { faultless = refl; reads = refl }
 
 after_asks : RequestOf (codes "lotosseq" ∷ codes "after" ∷ codes "PUT GET" ∷ codes "--strong" ∷ codes "i" ∷ codes "--terms=1" ∷ codes "--progress" ∷ [])
-    (after (record { terms = 1; strong = true; progress = true; words = codes "PUT" ∷ codes "GET" ∷ codes "i" ∷ [] }))
+    (after (record { terms = 1; interface = whole; strong = true; progress = true; words = codes "PUT" ∷ codes "GET" ∷ codes "i" ∷ [] }))
 unfolding clap_on_literals
 after_asks = record { faultless = refl; reads = refl }
 
@@ -197,7 +240,7 @@ unfolding clap_on_literals
 after_needs_a_term = refl
 
 bare_cover_asks : RequestOf (codes "lotosseq" ∷ codes "cover" ∷ [])
-    (cover (record { limit = None; after = None; terms = 100000; states = 1000000; strong = false; progress = false }))
+    (cover (record { limit = None; after = None; terms = 100000; states = 1000000; interface = whole; strong = false; progress = false }))
 unfolding clap_on_literals
 bare_cover_asks = record { faultless = refl; reads = refl }
 
@@ -211,6 +254,7 @@ cover_asks : RequestOf cover_row (cover (record {
   after = Some (codes "A B");
   terms = 7;
   states = 100000000;
+  interface = whole;
   strong = true;
   progress = true;
 }))

@@ -1,5 +1,5 @@
 -- Words without a fault name `search`, `check`, `ever`, `after` or `cover`, with entries that can be read.
-use Rattle.std.proofs.Common.{◌≡◌, ◌∙◌, ◌≤◌, ◌||◌, ◌==◌, ℕ, Bool, cond, true, false, not, refl, sym, ap, subst, arith, List, [], ◌∷◌, length, Option, Some, None, codes, drop, find, is_some, inl, inr}
+use Rattle.std.proofs.Common.{◌≡◌, ◌∙◌, ◌≤◌, ◌||◌, ◌==◌, ℕ, Bool, cond, true, false, not, refl, sym, ap, subst, arith, List, [], ◌∷◌, length, Option, Some, None, codes, drop, find, is_some, inl, inr, map}
 use Rattle.std.specs.Prelude.{IfSome, IsSomeAnd, slice_get, pos, unwrap_or}
 use Rattle.std.specs.Option.{option_map, option_map_or, option_and_then}
 use Rattle.std.specs.Str.{bytes_eq}
@@ -151,83 +151,32 @@ cover_shape = first (others (others (others (others whole.subs))))
 abbrev help_shape : Shape
 help_shape = first (others (others (others (others (others whole.subs)))))
 
-top_is_ordinary : Each (IsOrdinary whole.top.rules) whole.top.rules
-top_is_ordinary = (record { own = refl; no_count = refl }, (record { own = refl; no_count = refl }, tt))
+-- arguments that are each the first with their id, and do not count their uses, are ordinary
+each_ordinary : (rules more : List Rule) → map (λ a. arg_by_id rules a.id) more ≡ map Some more
+    → map (λ a. counts (action_of a)) more ≡ map (λ _. false) more → Each (IsOrdinary rules) more
+each_ordinary rules [] own once = tt
+each_ordinary rules (a ∷ more) own once =
+    let others : map (λ b. arg_by_id rules b.id) more ≡ map Some more = cc in
+    let others_once : map (λ b. counts (action_of b)) more ≡ map (λ _. false) more = cc in
+    (record { own = cc; no_count = cc }, each_ordinary rules more others others_once)
 
-is_ordinary_here : (rule : Rule) → arg_by_id search_shape.rules rule.id ≡ Some rule → counts (action_of rule) ≡ false → IsOrdinary search_shape.rules rule
-is_ordinary_here rule own once = record { own = own; no_count = once }
+top_is_ordinary : Each (IsOrdinary whole.top.rules) whole.top.rules
+top_is_ordinary = each_ordinary whole.top.rules whole.top.rules refl refl
 
 search_is_ordinary : Each (IsOrdinary search_shape.rules) search_shape.rules
-search_is_ordinary = (
-  is_ordinary_here _ refl refl,
-  (
-    is_ordinary_here _ refl refl,
-    (
-      is_ordinary_here _ refl refl,
-      (
-        is_ordinary_here _ refl refl,
-        (
-          is_ordinary_here _ refl refl,
-          (
-            is_ordinary_here _ refl refl,
-            (is_ordinary_here _ refl refl, (is_ordinary_here _ refl refl, (is_ordinary_here _ refl refl, (is_ordinary_here _ refl refl, (is_ordinary_here _ refl refl, tt))))),
-          ),
-        ),
-      ),
-    ),
-  ),
-)
-
-check_is_ordinary_here : (rule : Rule) → arg_by_id check_shape.rules rule.id ≡ Some rule → counts (action_of rule) ≡ false → IsOrdinary check_shape.rules rule
-check_is_ordinary_here rule own once = record { own = own; no_count = once }
+search_is_ordinary = each_ordinary search_shape.rules search_shape.rules refl refl
 
 check_is_ordinary : Each (IsOrdinary check_shape.rules) check_shape.rules
-check_is_ordinary = (check_is_ordinary_here _ refl refl, (check_is_ordinary_here _ refl refl, (check_is_ordinary_here _ refl refl, tt)))
-
-ever_is_ordinary_here : (rule : Rule) → arg_by_id ever_shape.rules rule.id ≡ Some rule → counts (action_of rule) ≡ false → IsOrdinary ever_shape.rules rule
-ever_is_ordinary_here rule own once = record { own = own; no_count = once }
+check_is_ordinary = each_ordinary check_shape.rules check_shape.rules refl refl
 
 ever_is_ordinary : Each (IsOrdinary ever_shape.rules) ever_shape.rules
-ever_is_ordinary = (
-  ever_is_ordinary_here _ refl refl,
-  (
-    ever_is_ordinary_here _ refl refl,
-    (
-      ever_is_ordinary_here _ refl refl,
-      (ever_is_ordinary_here _ refl refl, (ever_is_ordinary_here _ refl refl, (ever_is_ordinary_here _ refl refl, tt))),
-    ),
-  ),
-)
-
-after_is_ordinary_here : (rule : Rule) → arg_by_id after_shape.rules rule.id ≡ Some rule → counts (action_of rule) ≡ false → IsOrdinary after_shape.rules rule
-after_is_ordinary_here rule own once = record { own = own; no_count = once }
+ever_is_ordinary = each_ordinary ever_shape.rules ever_shape.rules refl refl
 
 after_is_ordinary : Each (IsOrdinary after_shape.rules) after_shape.rules
-after_is_ordinary = (
-  after_is_ordinary_here _ refl refl,
-  (
-    after_is_ordinary_here _ refl refl,
-    (after_is_ordinary_here _ refl refl, (after_is_ordinary_here _ refl refl, (after_is_ordinary_here _ refl refl, tt))),
-  ),
-)
-
-cover_is_ordinary_here : (rule : Rule) → arg_by_id cover_shape.rules rule.id ≡ Some rule → counts (action_of rule) ≡ false → IsOrdinary cover_shape.rules rule
-cover_is_ordinary_here rule own once = record { own = own; no_count = once }
+after_is_ordinary = each_ordinary after_shape.rules after_shape.rules refl refl
 
 cover_is_ordinary : Each (IsOrdinary cover_shape.rules) cover_shape.rules
-cover_is_ordinary = (
-  cover_is_ordinary_here _ refl refl,
-  (
-    cover_is_ordinary_here _ refl refl,
-    (
-      cover_is_ordinary_here _ refl refl,
-      (
-        cover_is_ordinary_here _ refl refl,
-        (cover_is_ordinary_here _ refl refl, (cover_is_ordinary_here _ refl refl, (cover_is_ordinary_here _ refl refl, tt))),
-      ),
-    ),
-  ),
-)
+cover_is_ordinary = each_ordinary cover_shape.rules cover_shape.rules refl refl
 
 search_fits : (rows : List Row) → Each (IsReady search_shape.rules) rows → FitsSearch rows
 search_fits rows all = record {

@@ -22,10 +22,11 @@ AskForHelp words = (k : ErrorKind) × IsAmong k (fault_of lotosseq words) × IsH
 
 -- clap may report a fault of the words whose kind is that of neither of these
 abbrev pub AreFaulty : List Text → Type 0
-AreFaulty words = (k : ErrorKind) × IsAmong k (fault_of lotosseq words) × (k ≢ kind.DisplayHelp) × (k ≢ kind.DisplayVersion)
+AreFaulty words =
+    (k : ErrorKind) × IsAmong k (fault_of lotosseq words) × (k ≢ kind.DisplayHelp) × (k ≢ kind.DisplayVersion)
 
 -- clap finds no fault in the words, and the entries that it finds make no request: those of a search that has both a
--- depth and a length, or neither
+-- depth and a length, or neither, or those that have both `--hide` and `--only`
 abbrev pub MakeNoRequest : List Text → Type 0
 MakeNoRequest words = (fault_of lotosseq words ≡ []) × (request_of words ≡ None)
 
@@ -46,13 +47,13 @@ IsFaultOfKind k (Wrong text) = (k ≢ kind.DisplayHelp) × (k ≢ kind.DisplayVe
 IsFaultOfKind k Memory = ⊤
 
 -- the fault of entries that make no request: words that fit no command, or out of memory
-abbrev pub IsExtentFault : CommandFault → Type 0
-IsExtentFault (Help text) = ⊥
-IsExtentFault (Wrong text) = ⊤
-IsExtentFault Memory = ⊤
+abbrev pub IsNoRequestFault : CommandFault → Type 0
+IsNoRequestFault (Help text) = ⊥
+IsNoRequestFault (Wrong text) = ⊤
+IsNoRequestFault Memory = ⊤
 
--- the fault that reading entries may return where they make this, if they make anything: out of memory, or, if they make
--- nothing, words that fit no command
+-- the fault that reading entries may return where they make this, if they make anything: out of memory, or, if they
+-- make nothing, words that fit no command
 abbrev pub IsFaultOfEntries : {X : Type 0} → Option X → CommandFault → Type 0
 IsFaultOfEntries made (Help text) = ⊥
 IsFaultOfEntries made (Wrong text) = made ≡ None

@@ -45,6 +45,14 @@ terms_rule = record (option_rule (codes "terms")) {
 abbrev pub after_rule : Rule
 after_rule = option_rule (codes "after")
 
+-- `--hide GATES`, with any text
+abbrev pub hide_rule : Rule
+hide_rule = option_rule (codes "hide")
+
+-- `--only GATES`, with any text
+abbrev pub only_rule : Rule
+only_rule = option_rule (codes "only")
+
 -- `--NAME`, which takes no value
 abbrev pub flag_rule : Text → Rule
 flag_rule name = record (new_rule name) {
@@ -88,10 +96,12 @@ with_rules app (rule ∷ rules) = with_rules (with_rule app rule) rules
 -- the arguments of `search`, in the order of its help
 abbrev pub search_rules : List Rule
 search_rules =
-    depth_rule ∷ length_rule ∷ limit_rule ∷ terms_rule ∷ after_rule ∷ explain_rule ∷ strong_rule ∷ known_rule ∷ progress_rule ∷ words_rule ∷ []
+    depth_rule ∷ length_rule ∷ limit_rule ∷ terms_rule ∷ after_rule ∷ explain_rule ∷ hide_rule ∷ only_rule
+    ∷ strong_rule ∷ known_rule ∷ progress_rule ∷ words_rule ∷ []
 
--- `search [--depth N] [--length N] [--limit N] [--terms N] [--after LINE] [--explain] [--strong] [--known] [--progress]
--- [WORD ..]`; just one of the depth and the length makes a request
+-- `search [--depth N] [--length N] [--limit N] [--terms N] [--after LINE] [--explain] [--hide GATES] [--only GATES]
+-- [--strong] [--known] [--progress] [WORD ..]`; just one of the depth and the length, and at most one of `--hide` and
+-- `--only`, make a request
 abbrev pub search_app : App
 search_app = with_rules (new_app (codes "search")) search_rules
 
@@ -104,25 +114,29 @@ states_rule = record (option_rule (codes "states")) {
 
 -- the arguments of `ever`, in the order of its help
 abbrev pub ever_rules : List Rule
-ever_rules = states_rule ∷ explain_rule ∷ strong_rule ∷ progress_rule ∷ words_rule ∷ []
+ever_rules = states_rule ∷ explain_rule ∷ hide_rule ∷ only_rule ∷ strong_rule ∷ progress_rule ∷ words_rule ∷ []
 
--- `ever [--states N] [--explain] [--strong] [--progress] [WORD ..]`
+-- `ever [--states N] [--explain] [--hide GATES] [--only GATES] [--strong] [--progress] [WORD ..]`; at most one of
+-- `--hide` and `--only` makes a request
 abbrev pub ever_app : App
 ever_app = with_rules (new_app (codes "ever")) ever_rules
 
 -- the arguments of `after`, in the order of its help
 abbrev pub after_rules : List Rule
-after_rules = terms_rule ∷ strong_rule ∷ progress_rule ∷ words_rule ∷ []
+after_rules = terms_rule ∷ hide_rule ∷ only_rule ∷ strong_rule ∷ progress_rule ∷ words_rule ∷ []
 
--- `after [--terms N] [--strong] [--progress] [LABEL ..]`
+-- `after [--terms N] [--hide GATES] [--only GATES] [--strong] [--progress] [LABEL ..]`; at most one of `--hide` and
+-- `--only` makes a request
 abbrev pub after_app : App
 after_app = with_rules (new_app (codes "after")) after_rules
 
 -- the arguments of `cover`, in the order of its help
 abbrev pub cover_rules : List Rule
-cover_rules = limit_rule ∷ terms_rule ∷ states_rule ∷ after_rule ∷ strong_rule ∷ progress_rule ∷ []
+cover_rules =
+    limit_rule ∷ terms_rule ∷ states_rule ∷ after_rule ∷ hide_rule ∷ only_rule ∷ strong_rule ∷ progress_rule ∷ []
 
--- `cover [--limit N] [--terms N] [--states N] [--after LINE] [--strong] [--progress]`
+-- `cover [--limit N] [--terms N] [--states N] [--after LINE] [--hide GATES] [--only GATES] [--strong] [--progress]`; at
+-- most one of `--hide` and `--only` makes a request
 abbrev pub cover_app : App
 cover_app = with_rules (new_app (codes "cover")) cover_rules
 
@@ -146,7 +160,8 @@ subcommand_apps = search_app ∷ check_app ∷ ever_app ∷ after_app ∷ cover_
 -- `lotosseq`, which has a version and needs one of its subcommands
 abbrev pub lotosseq : App
 lotosseq =
-    with_subcommands (on_top (λ s. record s { has_version = true; subcommand_required = true }) (new_app (codes "lotosseq")))
+    with_subcommands
+    (on_top (λ s. record s { has_version = true; subcommand_required = true }) (new_app (codes "lotosseq")))
     subcommand_apps
 
 -- the commands are these, in this order, and no argument of theirs is global

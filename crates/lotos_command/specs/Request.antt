@@ -11,10 +11,18 @@ use Rattle.lotos_command.specs.declared.command.Request.TheVariants as request
 use Rattle.lotos_command.specs.declared.command.DiagnoseRequest.{DiagnoseRequest}
 use Rattle.lotos_command.specs.declared.command.Extent.{Extent}
 use Rattle.lotos_command.specs.declared.command.Extent.TheVariants.{Depth, Length}
+use Rattle.lotos_command.specs.declared.command.Interface.{Interface}
+use Rattle.lotos_command.specs.declared.command.Interface.TheVariants.{Hide, Only, Whole}
 use Rattle.lotos_command.specs.declared.command.SearchRequest.{SearchRequest}
 use Rattle.lotos_command.specs.declared.command.EverRequest.{EverRequest}
 use Rattle.lotos_command.specs.declared.command.AfterRequest.{AfterRequest}
 use Rattle.lotos_command.specs.declared.command.CoverRequest.{CoverRequest}
+
+-- the view of an interface: texts for strings
+pub data InterfaceView : Type 0 where
+  whole : InterfaceView
+  hide : Text → InterfaceView
+  only : Text → InterfaceView
 
 -- the view of a search: texts for strings
 pub record SearchView : Type 0 where
@@ -23,6 +31,7 @@ pub record SearchView : Type 0 where
   pub terms : ℕ
   pub after : Option Text
   pub explain : Bool
+  pub interface : InterfaceView
   pub strong : Bool
   pub known : Bool
   pub progress : Bool
@@ -32,6 +41,7 @@ pub record SearchView : Type 0 where
 pub record EverView : Type 0 where
   pub states : ℕ
   pub explain : Bool
+  pub interface : InterfaceView
   pub strong : Bool
   pub progress : Bool
   pub words : List Text
@@ -39,6 +49,7 @@ pub record EverView : Type 0 where
 -- the view of a request for what can come after a sequence: texts for strings
 pub record AfterView : Type 0 where
   pub terms : ℕ
+  pub interface : InterfaceView
   pub strong : Bool
   pub progress : Bool
   pub words : List Text
@@ -49,6 +60,7 @@ pub record CoverView : Type 0 where
   pub after : Option Text
   pub terms : ℕ
   pub states : ℕ
+  pub interface : InterfaceView
   pub strong : Bool
   pub progress : Bool
 
@@ -61,6 +73,12 @@ pub data RequestView : Type 0 where
   after : AfterView → RequestView
   cover : CoverView → RequestView
 
+-- the view of this interface
+abbrev pub interface_view : Interface → InterfaceView
+interface_view Whole = whole
+interface_view (Hide names) = hide (string_bytes names)
+interface_view (Only names) = only (string_bytes names)
+
 -- the view of this search
 abbrev pub search_view : SearchRequest → SearchView
 search_view request = record {
@@ -69,6 +87,7 @@ search_view request = record {
   terms = request.terms;
   after = option_map string_bytes request.after;
   explain = request.explain;
+  interface = interface_view request.interface;
   strong = request.strong;
   known = request.known;
   progress = request.progress;
@@ -80,6 +99,7 @@ abbrev pub ever_view : EverRequest → EverView
 ever_view request = record {
   states = request.states;
   explain = request.explain;
+  interface = interface_view request.interface;
   strong = request.strong;
   progress = request.progress;
   words = map string_bytes request.words.items;
@@ -89,6 +109,7 @@ ever_view request = record {
 abbrev pub after_view : AfterRequest → AfterView
 after_view request = record {
   terms = request.terms;
+  interface = interface_view request.interface;
   strong = request.strong;
   progress = request.progress;
   words = map string_bytes request.words.items;
@@ -101,6 +122,7 @@ cover_view request = record {
   after = option_map string_bytes request.after;
   terms = request.terms;
   states = request.states;
+  interface = interface_view request.interface;
   strong = request.strong;
   progress = request.progress;
 }
@@ -131,51 +153,74 @@ extent_of (Some d) (Some n) = None
 
 -- the extent that the entries of the subcommand `search` give, if they give just one
 abbrev pub extent_from : List Row → Option Extent
-extent_from rows = extent_of (option_map number (one_of (codes "depth") rows)) (option_map number (one_of (codes "length") rows))
+extent_from rows =
+    extent_of (option_map number (one_of (codes "depth") rows)) (option_map number (one_of (codes "length") rows))
 
--- the search that the entries of the subcommand `search` make, if they give just one extent
-abbrev pub search_from : List Row → Option SearchView
-search_from rows = option_map (λ extent. record {
+-- the interface for which these names of `--hide` and of `--only` are given, if not both are
+abbrev pub interface_of : (hidden kept : Option Text) → Option InterfaceView
+interface_of None None = Some whole
+interface_of None (Some names) = Some (only names)
+interface_of (Some names) None = Some (hide names)
+interface_of (Some names) (Some others) = None
+
+-- the interface that the entries of a subcommand give, if they do not have both of `--hide` and `--only`
+abbrev pub interface_from : List Row → Option InterfaceView
+interface_from rows = interface_of (first_of (codes "hide") rows) (first_of (codes "only") rows)
+
+-- the search with this extent and this interface that the entries of the subcommand `search` make
+abbrev pub search_with : List Row → Extent → InterfaceView → SearchView
+search_with rows extent interface = record {
   extent = extent;
   limit = option_map number (one_of (codes "limit") rows);
   terms = option_map_or number (one_of (codes "terms") rows) 100000;
   after = first_of (codes "after") rows;
   explain = flag (codes "explain") rows;
+  interface = interface;
   strong = flag (codes "strong") rows;
   known = flag (codes "known") rows;
   progress = flag (codes "progress") rows;
   words = pattern_words (unwrap_or (all_of (codes "words") rows) []);
-}) (extent_from rows)
+}
 
--- the search for a match that the entries of the subcommand `ever` make
-abbrev pub ever_from : List Row → EverView
-ever_from rows = record {
+-- the search that the entries of the subcommand `search` make, if they give just one extent and an interface
+abbrev pub search_from : List Row → Option SearchView
+search_from rows =
+    option_and_then (λ extent. option_map (search_with rows extent) (interface_from rows)) (extent_from rows)
+
+-- the search for a match that the entries of the subcommand `ever` make, if they give an interface
+abbrev pub ever_from : List Row → Option EverView
+ever_from rows = option_map (λ interface. record {
   states = option_map_or number (one_of (codes "states") rows) 1000000;
   explain = flag (codes "explain") rows;
+  interface = interface;
   strong = flag (codes "strong") rows;
   progress = flag (codes "progress") rows;
   words = pattern_words (unwrap_or (all_of (codes "words") rows) []);
-}
+}) (interface_from rows)
 
--- the request for what can come after a sequence that the entries of the subcommand `after` make
-abbrev pub after_from : List Row → AfterView
-after_from rows = record {
+-- the request for what can come after a sequence that the entries of the subcommand `after` make, if they give an
+-- interface
+abbrev pub after_from : List Row → Option AfterView
+after_from rows = option_map (λ interface. record {
   terms = option_map_or number (one_of (codes "terms") rows) 100000;
+  interface = interface;
   strong = flag (codes "strong") rows;
   progress = flag (codes "progress") rows;
   words = pattern_words (unwrap_or (all_of (codes "words") rows) []);
-}
+}) (interface_from rows)
 
--- the request for sequences that show all that can be observed, which the entries of the subcommand `cover` make
-abbrev pub cover_from : List Row → CoverView
-cover_from rows = record {
+-- the request for sequences that show all that can be observed, which the entries of the subcommand `cover` make, if
+-- they give an interface
+abbrev pub cover_from : List Row → Option CoverView
+cover_from rows = option_map (λ interface. record {
   limit = option_map number (one_of (codes "limit") rows);
   after = first_of (codes "after") rows;
   terms = option_map_or number (one_of (codes "terms") rows) 100000;
   states = option_map_or number (one_of (codes "states") rows) 1000000;
+  interface = interface;
   strong = flag (codes "strong") rows;
   progress = flag (codes "progress") rows;
-}
+}) (interface_from rows)
 
 -- the check with these diagnostics, or the plain one if it has none
 abbrev pub check_with : DiagnoseRequest → RequestView
@@ -190,9 +235,9 @@ abbrev pub request_named : Text → List Row → Option RequestView
 request_named name rows =
     if bytes_eq name (codes "search") then option_map search (search_from rows)
     else (if bytes_eq name (codes "check") then Some (check_from rows)
-    else (if bytes_eq name (codes "ever") then Some (ever (ever_from rows))
-    else (if bytes_eq name (codes "after") then Some (after (after_from rows))
-    else (if bytes_eq name (codes "cover") then Some (cover (cover_from rows)) else None))))
+    else (if bytes_eq name (codes "ever") then option_map ever (ever_from rows)
+    else (if bytes_eq name (codes "after") then option_map after (after_from rows)
+    else (if bytes_eq name (codes "cover") then option_map cover (cover_from rows) else None))))
 
 -- the request that the given subcommand with its entries makes, if one was given
 abbrev pub request_from : Option (Text × List Row) → Option RequestView

@@ -37,6 +37,18 @@ pub enum Extent {
     Length(u8),
 }
 
+/// Which gates of a specification's own list a question is about. All others are hidden around its behaviour. Gates are
+/// given by their names, in any mix of cases, joined by commas; the names are not yet looked up.
+#[derive(Debug, Drop)]
+pub enum Interface {
+    /// All gates.
+    Whole,
+    /// All gates but these.
+    Hide(String),
+    /// These gates.
+    Only(String),
+}
+
 /// A request for a listing. The words are not yet read as a pattern, and the line is as the command line has it, not
 /// yet read as a mark.
 #[derive(Debug, Drop)]
@@ -53,6 +65,8 @@ pub struct SearchRequest {
     /// Whether each line has the least run of its sequence after the sequence; the first of the shortest of any length, if
     /// the listing is one by length.
     pub explain: bool,
+    /// Which gates of the specification's own list the question is about.
+    pub interface: Interface,
     /// Whether internal steps are observed: `i` is then a label like others.
     pub strong: bool,
     /// Whether a word that names a gate not in the specification's own list is refused.
@@ -71,6 +85,8 @@ pub struct EverRequest {
     pub states: usize,
     /// Whether the line has the run of the match after its sequence.
     pub explain: bool,
+    /// Which gates of the specification's own list the question is about.
+    pub interface: Interface,
     /// Whether internal steps are observed: `i` is then a label like others.
     pub strong: bool,
     /// Whether standard error tells how far the search is.
@@ -84,6 +100,8 @@ pub struct EverRequest {
 pub struct AfterRequest {
     /// The most normal forms of terms that a beginning of the sequence may reach, at least 1.
     pub terms: usize,
+    /// Which gates of the specification's own list the question is about.
+    pub interface: Interface,
     /// Whether internal steps are observed: `i` is then a label like others.
     pub strong: bool,
     /// Whether standard error tells how far the sequence was followed.
@@ -105,6 +123,8 @@ pub struct CoverRequest {
     pub terms: usize,
     /// The most sets of normal forms that may be reached, at least 1.
     pub states: usize,
+    /// Which gates of the specification's own list the question is about.
+    pub interface: Interface,
     /// Whether internal steps are observed: `i` is then a label like others.
     pub strong: bool,
     /// Whether standard error tells how far the search is.

@@ -9,13 +9,14 @@ use crate::help::{
     CHECK_LONG_ABOUT, CHECK_STATUSES, COVER_ABOUT, COVER_LONG_ABOUT, COVER_STATUSES,
     COVER_STRONG_LONG_HELP, COVER_TERMS_LONG_HELP, DEPTH_HELP, DEPTH_LONG_HELP, EVER_ABOUT,
     EVER_EXPLAIN_HELP, EVER_EXPLAIN_LONG_HELP, EVER_LONG_ABOUT, EVER_STATUSES,
-    EVER_STRONG_LONG_HELP, EVER_WORDS_LONG_HELP, EXPLAIN_HELP, EXPLAIN_LONG_HELP, KNOWN_HELP,
-    KNOWN_LONG_HELP, LABELS_HELP, LABELS_LONG_HELP, LENGTH_HELP, LENGTH_LONG_HELP, LIMIT_HELP,
-    LIMIT_LONG_HELP, LONG_ABOUT, NEXT_ABOUT, NEXT_LONG_ABOUT, NEXT_STATUSES, NEXT_STRONG_LONG_HELP,
-    NEXT_TERMS_LONG_HELP, PROGRESS_HELP, PROGRESS_LONG_HELP, SEARCH_ABOUT, SEARCH_LONG_ABOUT,
-    SEARCH_STATUSES, SEARCH_USAGE, SETS_HELP, SETS_LONG_HELP, STATES_HELP, STATES_LONG_HELP,
-    STATUSES, STRONG_HELP, STRONG_LONG_HELP, TERMS_HELP, TERMS_LONG_HELP, VERSION, WARN_HELP,
-    WARN_LONG_HELP, WORDS_HELP, WORDS_LONG_HELP,
+    EVER_STRONG_LONG_HELP, EVER_WORDS_LONG_HELP, EXPLAIN_HELP, EXPLAIN_LONG_HELP, HIDE_HELP,
+    HIDE_LONG_HELP, KNOWN_HELP, KNOWN_LONG_HELP, LABELS_HELP, LABELS_LONG_HELP, LENGTH_HELP,
+    LENGTH_LONG_HELP, LIMIT_HELP, LIMIT_LONG_HELP, LONG_ABOUT, NEXT_ABOUT, NEXT_LONG_ABOUT,
+    NEXT_STATUSES, NEXT_STRONG_LONG_HELP, NEXT_TERMS_LONG_HELP, ONLY_HELP, ONLY_LONG_HELP,
+    PROGRESS_HELP, PROGRESS_LONG_HELP, SEARCH_ABOUT, SEARCH_LONG_ABOUT, SEARCH_STATUSES,
+    SEARCH_USAGE, SETS_HELP, SETS_LONG_HELP, STATES_HELP, STATES_LONG_HELP, STATUSES, STRONG_HELP,
+    STRONG_LONG_HELP, TERMS_HELP, TERMS_LONG_HELP, VERSION, WARN_HELP, WARN_LONG_HELP, WORDS_HELP,
+    WORDS_LONG_HELP,
 };
 use clap::{Arg, ArgAction, Command, value_parser};
 use std::alloc::{AllocError, Global};
@@ -33,6 +34,28 @@ pub(crate) fn lotosseq_command<'a>(alloc: Global) -> Result<Command<'a>, AllocEr
         .subcommands(subcommands)
 }
 
+/// The subcommands whose entries may make no request: those that ask about what can be observed.
+#[derive(Clone, Copy)]
+pub(crate) enum Question {
+    Search,
+    Ever,
+    After,
+    Cover,
+}
+
+/// The command of this subcommand, with its name as a usage line has it.
+pub(crate) fn question_command<'a>(
+    alloc: Global,
+    question: Question,
+) -> Result<Command<'a>, AllocError> {
+    match question {
+        Question::Search => search_command(alloc)?.bin_name("lotosseq search"),
+        Question::Ever => ever_command(alloc)?.bin_name("lotosseq ever"),
+        Question::After => after_command(alloc)?.bin_name("lotosseq after"),
+        Question::Cover => cover_command(alloc)?.bin_name("lotosseq cover"),
+    }
+}
+
 /// The subcommands, in the order of the help.
 fn subcommands<'a>(alloc: Global) -> Result<Vec<Command<'a>>, AllocError>
     ensures { IfOk result (λ all. AreCommandsOf subcommand_apps all.items) }
@@ -46,7 +69,7 @@ fn subcommands<'a>(alloc: Global) -> Result<Vec<Command<'a>>, AllocError>
     Ok(all)
 }
 
-pub(crate) fn search_command<'a>(alloc: Global) -> Result<Command<'a>, AllocError>
+fn search_command<'a>(alloc: Global) -> Result<Command<'a>, AllocError>
     ensures app { IfOk result (λ c. app_of c ≡ search_app) }
     ensures local { IfOk result (λ c. (fields_of c).has_globals ≡ false) }
 {
@@ -70,6 +93,8 @@ fn search_args<'a>(alloc: Global) -> Result<Vec<Arg<'a>>, AllocError>
         terms_arg(alloc, TERMS_LONG_HELP),
         option(alloc, "after", "LINE", AFTER_HELP, AFTER_LONG_HELP),
         flag(alloc, "explain", EXPLAIN_HELP, EXPLAIN_LONG_HELP),
+        option(alloc, "hide", "GATES", HIDE_HELP, HIDE_LONG_HELP),
+        option(alloc, "only", "GATES", ONLY_HELP, ONLY_LONG_HELP),
         flag(alloc, "strong", STRONG_HELP, STRONG_LONG_HELP),
         flag(alloc, "known", KNOWN_HELP, KNOWN_LONG_HELP),
         flag(alloc, "progress", PROGRESS_HELP, PROGRESS_LONG_HELP),
@@ -123,6 +148,8 @@ fn ever_args<'a>(alloc: Global) -> Result<Vec<Arg<'a>>, AllocError>
     Ok(vec![in alloc;
         states_arg(alloc, STATES_HELP, STATES_LONG_HELP),
         flag(alloc, "explain", EVER_EXPLAIN_HELP, EVER_EXPLAIN_LONG_HELP),
+        option(alloc, "hide", "GATES", HIDE_HELP, HIDE_LONG_HELP),
+        option(alloc, "only", "GATES", ONLY_HELP, ONLY_LONG_HELP),
         flag(alloc, "strong", STRONG_HELP, EVER_STRONG_LONG_HELP),
         flag(alloc, "progress", PROGRESS_HELP, PROGRESS_LONG_HELP),
         words_arg(alloc, "WORD", WORDS_HELP, EVER_WORDS_LONG_HELP),
@@ -147,6 +174,8 @@ fn after_args<'a>(alloc: Global) -> Result<Vec<Arg<'a>>, AllocError>
 {
     Ok(vec![in alloc;
         terms_arg(alloc, NEXT_TERMS_LONG_HELP),
+        option(alloc, "hide", "GATES", HIDE_HELP, HIDE_LONG_HELP),
+        option(alloc, "only", "GATES", ONLY_HELP, ONLY_LONG_HELP),
         flag(alloc, "strong", STRONG_HELP, NEXT_STRONG_LONG_HELP),
         flag(alloc, "progress", PROGRESS_HELP, PROGRESS_LONG_HELP),
         words_arg(alloc, "LABEL", LABELS_HELP, LABELS_LONG_HELP),
@@ -174,6 +203,8 @@ fn cover_args<'a>(alloc: Global) -> Result<Vec<Arg<'a>>, AllocError>
         terms_arg(alloc, COVER_TERMS_LONG_HELP),
         states_arg(alloc, SETS_HELP, SETS_LONG_HELP),
         option(alloc, "after", "LINE", AFTER_HELP, AFTER_LONG_HELP),
+        option(alloc, "hide", "GATES", HIDE_HELP, HIDE_LONG_HELP),
+        option(alloc, "only", "GATES", ONLY_HELP, ONLY_LONG_HELP),
         flag(alloc, "strong", STRONG_HELP, COVER_STRONG_LONG_HELP),
         flag(alloc, "progress", PROGRESS_HELP, PROGRESS_LONG_HELP),
     ]?)

@@ -106,6 +106,10 @@ pub(crate) const NO_EXTENT: &str = "the following required arguments were not pr
 pub(crate) const TWO_EXTENTS: &str =
     "the argument '--depth <N>' cannot be used with '--length <N>'";
 
+/// What is wrong with a question that has both `--hide` and `--only`.
+pub(crate) const TWO_INTERFACES: &str =
+    "the argument '--hide <GATES>' cannot be used with '--only <GATES>'";
+
 pub(crate) const DEPTH_HELP: &str = "The most steps of a derivation, 0 to 255";
 
 pub(crate) const DEPTH_LONG_HELP: &str = "The most steps of a derivation, 0 to 255
@@ -156,6 +160,34 @@ the sequence, internal steps included. It is the shortest one, and of those the 
 in the order of labels, `i` being the last of these. With `--length` it may have any
 number of steps. For example, `i; i; a; stop` with `--length 1 --explain A` lists
   A : i i A";
+
+pub(crate) const HIDE_HELP: &str = "Hides these gates";
+
+pub(crate) const HIDE_LONG_HELP: &str = "Hides these gates
+
+GATES are names of gates, joined by commas without blanks, in upper or lower case. What
+happens at a hidden gate is an internal step, which cannot be observed unless `--strong`
+is given. A name that is no gate of the specification's own list is refused with E52.
+Only one of `--hide` and `--only` may be given. For example, with the specification
+  specification S [a,b,c] : noexit behaviour P[a,b,c]
+  where process P [x,y,z] : noexit := x; y; z; P[x,y,z] endproc endspec
+the command `lotosseq ever --hide B A C` writes
+  A C
+and `lotosseq ever A C` finds nothing, as B comes between.";
+
+pub(crate) const ONLY_HELP: &str = "Asks about these gates; all others are hidden";
+
+pub(crate) const ONLY_LONG_HELP: &str = "Asks about these gates; all others are hidden
+
+GATES are names of gates, joined by commas without blanks, in upper or lower case. What
+happens at a hidden gate is an internal step, which cannot be observed unless `--strong`
+is given. A name that is no gate of the specification's own list is refused with E52.
+Only one of `--hide` and `--only` may be given. For example, with the specification
+  specification S [a,b,c] : noexit behaviour P[a,b,c]
+  where process P [x,y,z] : noexit := x; y; z; P[x,y,z] endproc endspec
+the command `lotosseq ever --only A,C A C` writes
+  A C
+and `lotosseq ever A C` finds nothing, as B comes between.";
 
 pub(crate) const STRONG_HELP: &str = "Makes the internal action `i` a label like others";
 

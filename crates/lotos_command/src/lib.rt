@@ -11,7 +11,7 @@ mod help;
 mod request_reading;
 
 pub use command::{
-    AfterRequest, CommandFault, CoverRequest, DiagnoseRequest, EverRequest, Extent, Request,
-    SearchRequest,
+    AfterRequest, CommandFault, CoverRequest, DiagnoseRequest, EverRequest, Extent, Interface,
+    Request, SearchRequest,
 };
 pub use request_reading::request;

@@ -4,17 +4,17 @@ ghost use Rattle.std.specs.Option.{option_map_or};
 ghost use Rattle.clap.specs.Walk.{texts as texts_of};
 ghost use Rattle.clap.specs.declared.error.kind.ErrorKind.TheVariants as ErrorKind;
 ghost use Rattle.clap.specs.Words.{all_of, first_of, found_of, kind_of, one_of, rows_of, subcommand_rows_of};
-ghost use Rattle.lotos_command.specs.CommandFaults.{AreAccepted, IsExtentFault, IsFaultOf, IsFaultOfEntries, IsFaultOfKind};
+ghost use Rattle.lotos_command.specs.CommandFaults.{AreAccepted, IsNoRequestFault, IsFaultOf, IsFaultOfEntries, IsFaultOfKind};
 ghost use Rattle.lotos_command.specs.EntryRules.{FitsAfter, FitsCheck, FitsCover, FitsEver, FitsRequest, FitsSearch, IsNumberIn, IsTruthText};
 ghost use Rattle.lotos_command.specs.PatternWords.{parts_between_blanks, pattern_words, pattern_words_in};
-ghost use Rattle.lotos_command.specs.Request.{HasBounds, HasCoverBounds, HasSearchBounds, RequestOf, after_from, after_view, check_from, cover_from, cover_view, ever_from, ever_view, extent_from, flag, number, request_from, request_view, search_from, search_view};
+ghost use Rattle.lotos_command.specs.Request.{HasBounds, HasCoverBounds, HasSearchBounds, RequestOf, after_from, after_view, check_from, cover_from, cover_view, ever_from, ever_view, extent_from, flag, interface_from, interface_view, number, request_from, request_view, search_from, search_view};
 
 use crate::command::{
-    AfterRequest, CommandFault, CoverRequest, DiagnoseRequest, EverRequest, Extent, Request,
-    SearchRequest,
+    AfterRequest, CommandFault, CoverRequest, DiagnoseRequest, EverRequest, Extent, Interface,
+    Request, SearchRequest,
 };
-use crate::command_line::{lotosseq_command, search_command};
-use crate::help::{NO_EXTENT, TWO_EXTENTS};
+use crate::command_line::{Question, lotosseq_command, question_command};
+use crate::help::{NO_EXTENT, TWO_EXTENTS, TWO_INTERFACES};
 use clap::error::ErrorKind;
 use clap::{ArgMatches, Error};
 use std::alloc::{AllocError, Global};
@@ -49,7 +49,8 @@ pub fn request(alloc: Global, words: &[&str]) -> Result<Request, CommandFault>
     }
 }
 
-/// The request that the subcommand makes. A search has just one of a depth and a length.
+/// The request that the subcommand makes. A search has just one of a depth and a length, and no question has both of
+/// `--hide` and `--only`.
 fn read_request(alloc: Global, found: &ArgMatches<'_>) -> Result<Request, CommandFault>
     requires { FitsRequest (subcommand_rows_of found.now) }
     ensures is { IfOk result (λ r. request_from (subcommand_rows_of found.now) ≡ Some (request_view r)) }
@@ -84,6 +85,7 @@ fn read_check_request(found: &ArgMatches<'_>) -> Request
     }
 }
 
+/// A search that has two faults is refused for that of its extent.
 fn read_search_request(alloc: Global, found: &ArgMatches<'_>) -> Result<SearchRequest, CommandFault>
     requires { FitsSearch (rows_of (found_of found.now)) }
     ensures is { IfOk result (λ r. search_from (rows_of (found_of found.now)) ≡ Some (search_view r)) }
@@ -91,12 +93,14 @@ fn read_search_request(alloc: Global, found: &ArgMatches<'_>) -> Result<SearchRe
     ensures fault { IfErr result (IsFaultOfEntries (search_from (rows_of (found_of found.now)))) }
 {
     let extent = read_extent(alloc, found)?;
+    let interface = read_interface(alloc, Question::Search, found)?;
     Ok(SearchRequest {
         extent,
         limit: read_limit(found),
         terms: read_terms(found),
-        after: read_after(alloc, found)?,
+        after: read_text(alloc, "after", found)?,
         explain: read_explain(found),
+        interface,
         strong: read_strong(found),
         known: read_known(found),
         progress: read_progress(found),
@@ -104,52 +108,61 @@ fn read_search_request(alloc: Global, found: &ArgMatches<'_>) -> Result<SearchRe
     })
 }
 
-fn read_ever_request(alloc: Global, found: &ArgMatches<'_>) -> Result<EverRequest, AllocError>
+fn read_ever_request(alloc: Global, found: &ArgMatches<'_>) -> Result<EverRequest, CommandFault>
     requires { FitsEver (rows_of (found_of found.now)) }
-    ensures is { IfOk result (λ r. ever_from (rows_of (found_of found.now)) ≡ ever_view r) }
+    ensures is { IfOk result (λ r. ever_from (rows_of (found_of found.now)) ≡ Some (ever_view r)) }
     ensures bounds { IfOk result (λ r. 1 ≤ r.states) }
+    ensures fault { IfErr result (IsFaultOfEntries (ever_from (rows_of (found_of found.now)))) }
 {
+    let interface = read_interface(alloc, Question::Ever, found)?;
     let explain = read_explain(found);
     let strong = read_strong(found);
     let progress = read_progress(found);
     Ok(EverRequest {
         states: read_states(found),
         explain,
+        interface,
         strong,
         progress,
         words: read_words(alloc, found)?,
     })
 }
 
-fn read_after_request(alloc: Global, found: &ArgMatches<'_>) -> Result<AfterRequest, AllocError>
+fn read_after_request(alloc: Global, found: &ArgMatches<'_>) -> Result<AfterRequest, CommandFault>
     requires { FitsAfter (rows_of (found_of found.now)) }
-    ensures is { IfOk result (λ r. after_from (rows_of (found_of found.now)) ≡ after_view r) }
+    ensures is { IfOk result (λ r. after_from (rows_of (found_of found.now)) ≡ Some (after_view r)) }
     ensures bounds { IfOk result (λ r. 1 ≤ r.terms) }
+    ensures fault { IfErr result (IsFaultOfEntries (after_from (rows_of (found_of found.now)))) }
 {
+    let interface = read_interface(alloc, Question::After, found)?;
     let strong = read_strong(found);
     let progress = read_progress(found);
     Ok(AfterRequest {
         terms: read_terms(found),
+        interface,
         strong,
         progress,
         words: read_words(alloc, found)?,
     })
 }
 
-fn read_cover_request(alloc: Global, found: &ArgMatches<'_>) -> Result<CoverRequest, AllocError>
+fn read_cover_request(alloc: Global, found: &ArgMatches<'_>) -> Result<CoverRequest, CommandFault>
     requires { FitsCover (rows_of (found_of found.now)) }
-    ensures is { IfOk result (λ r. cover_from (rows_of (found_of found.now)) ≡ cover_view r) }
+    ensures is { IfOk result (λ r. cover_from (rows_of (found_of found.now)) ≡ Some (cover_view r)) }
     ensures bounds { IfOk result HasCoverBounds }
+    ensures fault { IfErr result (IsFaultOfEntries (cover_from (rows_of (found_of found.now)))) }
 {
+    let interface = read_interface(alloc, Question::Cover, found)?;
     let limit = read_limit(found);
     let states = read_states(found);
     let strong = read_strong(found);
     let progress = read_progress(found);
     Ok(CoverRequest {
         limit,
-        after: read_after(alloc, found)?,
+        after: read_text(alloc, "after", found)?,
         terms: read_terms(found),
         states,
+        interface,
         strong,
         progress,
     })
@@ -164,27 +177,71 @@ fn read_extent(alloc: Global, found: &ArgMatches<'_>) -> Result<Extent, CommandF
     match (read_depth(found), read_length(found)) {
         (Some(depth), None) => Ok(Extent::Depth(depth)),
         (None, Some(length)) => Ok(Extent::Length(length)),
-        (Some(_), Some(_)) => Err(extent_fault(alloc, ErrorKind::ArgumentConflict, TWO_EXTENTS)),
-        (None, None) => Err(extent_fault(alloc, ErrorKind::MissingRequiredArgument, NO_EXTENT)),
+        (Some(_), Some(_)) => Err(no_request_fault(
+            alloc,
+            Question::Search,
+            ErrorKind::ArgumentConflict,
+            TWO_EXTENTS,
+        )),
+        (None, None) => Err(no_request_fault(
+            alloc,
+            Question::Search,
+            ErrorKind::MissingRequiredArgument,
+            NO_EXTENT,
+        )),
     }
 }
 
-/// The fault of a search that has both of a depth and a length, or neither, with clap's text.
-fn extent_fault(alloc: Global, kind: ErrorKind, message: &str) -> CommandFault
+/// The gates that the question is about. It is that of this subcommand.
+fn read_interface(
+    alloc: Global,
+    question: Question,
+    found: &ArgMatches<'_>,
+) -> Result<Interface, CommandFault>
+    ensures is { IfOk result (λ i. interface_from (rows_of (found_of found.now)) ≡ Some (interface_view i)) }
+    ensures fault { IfErr result (IsFaultOfEntries (interface_from (rows_of (found_of found.now)))) }
+{
+    let hidden = read_text(alloc, "hide", found)?;
+    let kept = read_text(alloc, "only", found)?;
+    match (hidden, kept) {
+        (None, None) => Ok(Interface::Whole),
+        (Some(names), None) => Ok(Interface::Hide(names)),
+        (None, Some(names)) => Ok(Interface::Only(names)),
+        (Some(_), Some(_)) => Err(no_request_fault(
+            alloc,
+            question,
+            ErrorKind::ArgumentConflict,
+            TWO_INTERFACES,
+        )),
+    }
+}
+
+/// The fault of entries of this subcommand that make no request, with clap's text.
+fn no_request_fault(
+    alloc: Global,
+    question: Question,
+    kind: ErrorKind,
+    message: &str,
+) -> CommandFault
     requires help { kind ≢ ErrorKind.DisplayHelp }
     requires version { kind ≢ ErrorKind.DisplayVersion }
-    ensures { IsExtentFault result }
+    ensures { IsNoRequestFault result }
 {
-    match extent_error(alloc, kind, message) {
+    match no_request_error(alloc, question, kind, message) {
         Ok(error) => command_fault(alloc, &error),
         Err(AllocError) => CommandFault::Memory,
     }
 }
 
-fn extent_error(alloc: Global, kind: ErrorKind, message: &str) -> Result<Error, AllocError>
+fn no_request_error(
+    alloc: Global,
+    question: Question,
+    kind: ErrorKind,
+    message: &str,
+) -> Result<Error, AllocError>
     ensures { IfOk result (λ e. kind_of e ≡ kind) }
 {
-    search_command(alloc)?.error(kind, message)
+    question_command(alloc, question)?.error(kind, message)
 }
 
 fn read_depth(found: &ArgMatches<'_>) -> Option<u8>
@@ -222,11 +279,16 @@ fn read_states(found: &ArgMatches<'_>) -> usize
     found.get_one::<usize>("states").unwrap_or(DEFAULT_STATES)
 }
 
-fn read_after(alloc: Global, found: &ArgMatches<'_>) -> Result<Option<String>, AllocError>
+/// The value of the option with this name, if it is given.
+fn read_text(
+    alloc: Global,
+    name: &str,
+    found: &ArgMatches<'_>,
+) -> Result<Option<String>, AllocError>
     ensures { IfOk result
-        (λ after. option_map string_bytes after ≡ first_of (codes "after") (rows_of (found_of found.now))) }
+        (λ value. option_map string_bytes value ≡ first_of name.now (rows_of (found_of found.now))) }
 {
-    match found.get_str("after") {
+    match found.get_str(name) {
         Some(text) => Ok(Some(String::from_str(alloc, text)?)),
         None => Ok(None),
     }

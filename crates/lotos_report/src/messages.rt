@@ -147,6 +147,32 @@ impl fmt::Display for NumberText {
     }
 }
 
+/// A name as the command line gives it. A byte that is no graphic ASCII character is `\x` and two digits, and the empty
+/// name is a pair of quotes.
+#[derive(Clone, Copy, Debug)]
+pub struct GivenName<'a>(pub &'a str);
+
+impl fmt::Display for GivenName<'_> {
+    fn fmt<W: fmt::Write>(&self, f: &mut fmt::Formatter<W>) -> fmt::Result {
+        if self.0.is_empty() {
+            return f.write_str("\"\"");
+        }
+        for byte in self.0.as_bytes() {
+            write_byte(*byte, f)?;
+        }
+        Ok(())
+    }
+}
+
+/// Writes a byte of a name.
+fn write_byte<W: fmt::Write>(byte: u8, f: &mut fmt::Formatter<W>) -> fmt::Result {
+    if byte.is_ascii_graphic() {
+        f.write_char(char::from(byte))
+    } else {
+        write!(f, "\\x{byte:02x}")
+    }
+}
+
 /// `line:column: ` before a message, or nothing.
 #[derive(Clone, Copy, Debug)]
 pub struct PositionText(pub Option<(usize, usize)>);

@@ -2,6 +2,7 @@
 //! there is no memory for is left out.
 
 use crate::messages::NumberText;
+use lotos_command::Interface;
 use lotos_explain::{formal_gate, hidden_gate, similar_name};
 use lotos_text::{Name, Specification, line_column};
 use std::alloc::{AllocError, Global};
@@ -20,13 +21,14 @@ pub struct UnknownName<'a> {
     pub name: &'a str,
 }
 
-/// Where it is looked for what could be meant by a name: the gates in the specification's own list, its text, and the
-/// specification.
+/// Where it is looked for what could be meant by a name: the gates that the question is about, the text of the
+/// specification, the specification, and the interface that leaves these gates of its own list.
 #[derive(Clone, Copy, Drop)]
-pub struct NamePlaces<'a, 'b, 'c> {
+pub struct NamePlaces<'a, 'b, 'c, 'd> {
     pub gates: &'a [Name],
     pub text: &'b [u8],
     pub specification: &'c Specification,
+    pub interface: &'d Interface,
 }
 
 /// What could be meant by a name that is no gate of the specification.
@@ -34,14 +36,18 @@ pub struct NamePlaces<'a, 'b, 'c> {
 pub struct NameHint {
     /// The name in upper case.
     name: String,
-    /// The most similar gate in the specification's own list.
+    /// The most similar gate that the question is about.
     similar: Option<Name>,
     inside: Option<Inside>,
 }
 
-/// What a name is inside the specification.
+/// What a name is in the specification, though the question is about no gate of this name.
 #[derive(Debug, Drop)]
 enum Inside {
+    /// A gate in the specification's own list that `--hide` names.
+    Named,
+    /// A gate in the specification's own list that `--only` does not name.
+    Unnamed,
     /// A gate in the list of a `hide`, at this line and this column.
     Hidden(usize, usize),
     /// A formal gate of the process with this name.
@@ -52,7 +58,7 @@ enum Inside {
 pub fn warn_of_names<E: Write>(
     alloc: Global,
     names: &[UnknownName<'_>],
-    places: &NamePlaces<'_, '_, '_>,
+    places: &NamePlaces<'_, '_, '_, '_>,
     err: &mut E,
 ) {
     for k in 0..names.len() {
@@ -69,7 +75,7 @@ pub fn warn_of_names<E: Write>(
 pub fn first_name_hint(
     alloc: Global,
     names: &[UnknownName<'_>],
-    places: &NamePlaces<'_, '_, '_>,
+    places: &NamePlaces<'_, '_, '_, '_>,
 ) -> Option<NameHint> {
     let first = names.first()?;
     hint_for(alloc, first.name, places).ok()
@@ -93,9 +99,16 @@ fn warn_of_name<E: Write>(unknown: &UnknownName<'_>, err: &mut E) {
 fn hint_for(
     alloc: Global,
     name: &str,
-    places: &NamePlaces<'_, '_, '_>,
+    places: &NamePlaces<'_, '_, '_, '_>,
 ) -> Result<NameHint, AllocError> {
     let name = name.to_ascii_uppercase(alloc)?;
+    if let Some(inside) = left_out(name.as_str(), places) {
+        return Ok(NameHint {
+            name,
+            similar: None,
+            inside: Some(inside),
+        });
+    }
     let similar = match similar_name(alloc, name.as_str(), places.gates)? {
         Some(gate) => Some(gate.copy(alloc)?),
         None => None,
@@ -106,6 +119,21 @@ fn hint_for(
         similar,
         inside,
     })
+}
+
+/// What the name is if it is in the specification's own list, where the question is about no gate of this name.
+fn left_out(name: &str, places: &NamePlaces<'_, '_, '_, '_>) -> Option<Inside> {
+    let inside = match places.interface {
+        Interface::Whole => return None,
+        Interface::Hide(_) => Inside::Named,
+        Interface::Only(_) => Inside::Unnamed,
+    };
+    for gate in &places.specification.whole.formals {
+        if gate.name.text() == name {
+            return Some(inside);
+        }
+    }
+    None
 }
 
 /// What the name is inside the specification: a hidden gate, or else a formal gate of a process.
@@ -139,6 +167,8 @@ impl fmt::Display for NameHint {
         }
         let name = self.name.as_str();
         match &self.inside {
+            Some(Inside::Named) => writeln!(f, "lotosseq: {name} is hidden by --hide"),
+            Some(Inside::Unnamed) => writeln!(f, "lotosseq: {name} is not in --only"),
             Some(Inside::Hidden(line, column)) => {
                 let line = NumberText(*line);
                 let column = NumberText(*column);

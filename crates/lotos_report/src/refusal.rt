@@ -1,6 +1,6 @@
 //! Why a command is refused.
 
-use crate::messages::PositionText;
+use crate::messages::{GivenName, PositionText};
 use lotos_check::CheckFault;
 use lotos_listing::MarkFault;
 use lotos_pattern::PatternFault;
@@ -44,4 +44,8 @@ pub enum Refusal {
     /// the specification's own list.
     #[error("E49 word {0} is no gate of the specification")]
     E49(usize),
+    /// The name, as an option of the command line gives it, is the first one there that is no gate of the specification's
+    /// own list.
+    #[error("E52 {} is no gate of the specification", GivenName(.0.as_str()))]
+    E52(String),
 }

@@ -27,8 +27,8 @@ use Rattle.lotos_after.specs.declared.label_words.WordFault.TheVariants as word
 use Rattle.lotos_device.specs.ByteOutput.{AppendsBeginning}
 use Rattle.lotos_tool.specs.AfterOutcome.{AfterOutcome, AreAfterParts, IsAfterQuestionOfText, is_after_input_fault}
 use Rattle.lotos_tool.specs.AfterParts.{AreWritten, HasAnswer, HasNoAnswer, IsAfterOutcomeFor, IsAfterQuestionFor, IsAnswer, IsMadeOf}
-use Rattle.lotos_tool.specs.QuestionParts.{ReadsAccepted, words_of}
-use Rattle.lotos_tool.specs.RefusalCauses.{IsAfterRefusal, IsInputRefusal}
+use Rattle.lotos_tool.specs.QuestionParts.{ReadsAsked, words_of}
+use Rattle.lotos_tool.specs.RefusalCauses.{IsAfterRefusal, IsInterfaceRefusal}
 use Rattle.lotos_tool.specs.Rejections.{IsGateRejection, IsRejectionBy, after_end_of, is_input_failure, word_rejection}
 use Rattle.lotos_report.specs.declared.refusal.Refusal.{Refusal}
 use Rattle.lotos_report.specs.declared.refusal.Refusal.TheVariants as refusal
@@ -40,7 +40,7 @@ use Rattle.lotos_tool.specs.declared.after_command.Answer.TheVariants.{Lines, No
 use Rattle.lotos_tool.specs.declared.rejection.Rejection.{Rejection}
 use Rattle.lotos_tool.specs.declared.rejection.Rejection.TheVariants as rejection
 use Rattle.lotos_command.specs.declared.command.AfterRequest.{AfterRequest}
-use Rattle.lotos_tool.proofs.Rejections.{gate_means, input_means, taken_all}
+use Rattle.lotos_tool.proofs.Rejections.{gate_means, interface_means, taken_asked}
 
 -- an outcome for a system and a sequence is no input fault
 pub told_was_read : (request : AfterRequest) (system : System) (s : List Label) (got got' : Option (List ℕ)) (ended : AfterEnded) →
@@ -96,7 +96,7 @@ module _ (request : AfterRequest) (left left' : Option (List ℕ)) (system : Sys
   told_answered got got' (CannotCome number instead) (b, asked, h) = ((b, s), asks_after b asked, h)
   told_answered got got' (Refused cause) h = absurd h
   told_answered got got' (Stopped (why.TooManyTerms labels)) (b, asked, h) = ((b, s), asks_after b asked, h)
-  told_answered got got' (Stopped why.Memory) h = record { taken = taken_all left left' system parts.read; kept = h }
+  told_answered got got' (Stopped why.Memory) h = record { taken = taken_asked request.interface left left' system parts.read; kept = h }
   told_answered got got' (Stopped why.Write) (b, asked, h) = ((b, s), asks_after b asked, h)
 
 -- ---- parts that are rejected
@@ -117,8 +117,9 @@ pub word_was_read : (T : Type 0) (f : WordFault) → is_input_failure {T = T} (E
 word_was_read T (word.NoLabel n) = refl
 word_was_read T (word.Internal n) = refl
 
--- what is refused of the input is refused of a sequence
-input_refused : (request : AfterRequest) (left left' : Option (List ℕ)) (cause : Refusal) → IsInputRefusal left left' cause → IsAfterRefusal request left left' cause
+-- what is refused of a text and an interface is refused of a sequence
+input_refused : (request : AfterRequest) (left left' : Option (List ℕ)) (cause : Refusal) → IsInterfaceRefusal request.interface left left' cause →
+    IsAfterRefusal request left left' cause
 input_refused request left left' (refusal.Text fault position) h = h
 input_refused request left left' (refusal.Check fault line column) h = h
 input_refused request left left' (refusal.Pattern fault) h = absurd h
@@ -127,16 +128,18 @@ input_refused request left left' (refusal.E45 n) h = absurd h
 input_refused request left left' (refusal.Mark fault) h = absurd h
 input_refused request left left' refusal.E47 h = h
 input_refused request left left' (refusal.E49 n) h = absurd h
+input_refused request left left' (refusal.E52 name) h = h
 
 module _ (request : AfterRequest) (left left' : Option (List ℕ)) where
-  -- a text that is refused
-  pub input_rejects : (u : Rejection) → IsRejectionBy IsInputRefusal left left' u → IsRejectionBy (IsAfterRefusal request) left left' u
-  input_rejects u h = input_means (IsAfterRefusal request) left left' u (input_refused request left left') h
+  -- a text or an interface that is refused
+  pub input_rejects : (u : Rejection) → IsRejectionBy (IsInterfaceRefusal request.interface) left left' u →
+      IsRejectionBy (IsAfterRefusal request) left left' u
+  input_rejects u h = interface_means (IsAfterRefusal request) request.interface left left' u (input_refused request left left') h
 
   -- a word that names an unknown gate
-  pub gate_rejects : (system : System) (s : List Label) (u : Rejection) → ReadsAccepted left left' system → NamesEach request.strong (words_of request.words) s →
-      IsGateRejection system.formals (words_of request.words) u → IsRejectionBy (IsAfterRefusal request) left left' u
-  gate_rejects system s u read named h = gate_means (IsAfterRefusal request) (words_of request.words) left left' system u read
+  pub gate_rejects : (system : System) (s : List Label) (u : Rejection) → ReadsAsked request.interface left left' system →
+      NamesEach request.strong (words_of request.words) s → IsGateRejection system.formals (words_of request.words) u → IsRejectionBy (IsAfterRefusal request) left left' u
+  gate_rejects system s u read named h = gate_means (IsAfterRefusal request) request.interface (words_of request.words) left left' system u read
       (λ n unknown. record { system = system; read = read; s = s; named = named; unknown_gate = unknown }) h
 
 -- ---- the answer

@@ -10,7 +10,7 @@ use Rattle.lotos_tool.specs.CoverOutcome.{AreCoverParts, CoverOutcome, IsCoverQu
 use Rattle.lotos_tool.specs.CoverParts.{IsCoverOutcomeFor, IsCoverSearchFor}
 use Rattle.lotos_tool.specs.ListingOutcome.{ListingOutcome}
 use Rattle.lotos_tool.specs.ListingQuestions.{by_cover}
-use Rattle.lotos_tool.specs.RefusalCauses.{IsCoverRefusal, IsInputRefusal}
+use Rattle.lotos_tool.specs.RefusalCauses.{IsCoverRefusal, IsInterfaceRefusal}
 use Rattle.lotos_tool.specs.Rejections.{IsMarkRejection, IsRejectionBy, is_input_fault}
 use Rattle.lotos_report.specs.declared.refusal.Refusal.{Refusal}
 use Rattle.lotos_report.specs.declared.refusal.Refusal.TheVariants as refusal
@@ -19,7 +19,7 @@ use Rattle.lotos_report.specs.declared.outcome.Ended.{Ended}
 use Rattle.lotos_report.specs.declared.outcome.Ended.TheVariants.{Complete, Refused, Stopped}
 use Rattle.lotos_report.specs.declared.outcome.Why.TheVariants as why
 use Rattle.lotos_command.specs.declared.command.CoverRequest.{CoverRequest}
-use Rattle.lotos_tool.proofs.Rejections.{input_means, mark_means, taken_all}
+use Rattle.lotos_tool.proofs.Rejections.{interface_means, mark_means, taken_asked}
 use Rattle.lotos_tool.proofs.SearchOutcomes.{no_input_fault}
 
 -- a search of the system that began with the request's bounds is one for the request
@@ -60,7 +60,7 @@ module _ (request : CoverRequest) (left left' got got' : Option (List ℕ)) wher
           question = begun.1.question;
         }) begun.2
     | inr stopped ↦ subst (CoverOutcome request left left' got got') (sym stopped.0)
-        (inl (record { unwritten = record { taken = taken_all left left' system parts.read; kept = stopped.1 }; no_line = refl }))
+        (inl (record { unwritten = record { taken = taken_asked request.interface left left' system parts.read; kept = stopped.1 }; no_line = refl }))
   ]
 
 -- no outcome for the system is an input fault
@@ -79,12 +79,12 @@ pub line_rejects : (request : CoverRequest) (left : Option (List ℕ)) (u : Reje
 line_rejects request left u h = mark_means (IsCoverRefusal request) request.strong request.after left u
     (λ line given none. record { kept = Keeps-refl left; line = line; given = given; never = none }) h
 
--- a text that is refused
-pub text_rejects : (request : CoverRequest) (left left' : Option (List ℕ)) (u : Rejection) → IsRejectionBy IsInputRefusal left left' u →
+-- a text or an interface that is refused
+pub text_rejects : (request : CoverRequest) (left left' : Option (List ℕ)) (u : Rejection) → IsRejectionBy (IsInterfaceRefusal request.interface) left left' u →
     IsRejectionBy (IsCoverRefusal request) left left' u
-text_rejects request left left' u h = input_means (IsCoverRefusal request) left left' u means h
+text_rejects request left left' u h = interface_means (IsCoverRefusal request) request.interface left left' u means h
   where
-    means : (cause : Refusal) → IsInputRefusal left left' cause → IsCoverRefusal request left left' cause
+    means : (cause : Refusal) → IsInterfaceRefusal request.interface left left' cause → IsCoverRefusal request left left' cause
     means (refusal.Text fault position) h = h
     means (refusal.Check fault line column) h = h
     means (refusal.Pattern fault) h = absurd h
@@ -93,3 +93,4 @@ text_rejects request left left' u h = input_means (IsCoverRefusal request) left 
     means (refusal.Mark fault) h = absurd h
     means refusal.E47 h = h
     means (refusal.E49 n) h = absurd h
+    means (refusal.E52 name) h = h

@@ -9,8 +9,8 @@ use Rattle.lotos_pattern.specs.declared.ever_pattern.EverPattern.{EverPattern}
 use Rattle.lotos_pattern.specs.Spelling.{PatternOf}
 use Rattle.lotos_tool.specs.EverOutcome.{AreEverParts, EverOutcome, EverQuestion, IsEverQuestionOfText, is_ever_input_fault}
 use Rattle.lotos_tool.specs.EverParts.{HasLine, IsEndWithoutMatch, IsEverQuestionFor, IsOutcomeFor, IsWritten}
-use Rattle.lotos_tool.specs.QuestionParts.{ReadsAccepted, ever_words_of, words_of}
-use Rattle.lotos_tool.specs.RefusalCauses.{IsEverRefusal, IsInputRefusal}
+use Rattle.lotos_tool.specs.QuestionParts.{ReadsAsked, ever_words_of, words_of}
+use Rattle.lotos_tool.specs.RefusalCauses.{IsEverRefusal, IsInterfaceRefusal}
 use Rattle.lotos_tool.specs.Rejections.{IsGateRejection, IsPatternRejection, IsRejectionBy, ever_end_of}
 use Rattle.lotos_report.specs.declared.outcome.EverEnded.{EverEnded}
 use Rattle.lotos_report.specs.declared.outcome.EverEnded.TheVariants.{Matched, NoMatch, Refused, Stopped}
@@ -18,7 +18,7 @@ use Rattle.lotos_report.specs.declared.outcome.EverWhy.TheVariants as why
 use Rattle.lotos_tool.specs.declared.rejection.Rejection.{Rejection}
 use Rattle.lotos_tool.specs.declared.rejection.Rejection.TheVariants as rejection
 use Rattle.lotos_command.specs.declared.command.EverRequest.{EverRequest}
-use Rattle.lotos_tool.proofs.Rejections.{ever_input_refused, gate_means, input_means, pattern_means, taken_all}
+use Rattle.lotos_tool.proofs.Rejections.{ever_input_refused, gate_means, interface_means, pattern_means, taken_asked}
 
 -- an outcome for a system and a pattern is no input fault
 pub told_was_read : (request : EverRequest) (system : System) (p : EverPattern) (got got' : Option (List ℕ)) (ended : EverEnded) →
@@ -67,7 +67,7 @@ module _ (request : EverRequest) (left left' : Option (List ℕ)) (system : Syst
   told_answered got got' NoMatch h = (h.0, asks_ever h.0 h.1, h.2)
   told_answered got got' (Refused cause) h = absurd h
   told_answered got got' (Stopped why.TooManyStates) h = (h.0, asks_ever h.0 h.1, h.2)
-  told_answered got got' (Stopped why.Memory) h = record { taken = taken_all left left' system parts.read.read; kept = h }
+  told_answered got got' (Stopped why.Memory) h = record { taken = taken_asked request.interface left left' system parts.read.read; kept = h }
   told_answered got got' (Stopped why.Write) h = (h.0, asks_ever h.0 h.1, h.2)
   told_answered got got' (Stopped why.Flush) h = (h.0, asks_ever h.0 h.1, h.2)
 
@@ -85,13 +85,14 @@ pub pattern_rejects : (request : EverRequest) (left : Option (List ℕ)) (u : Re
 pattern_rejects request left u h = pattern_means (IsEverRefusal request) request.strong (ever_words_of request.words) left u (λ fault is. is) h
 
 module _ (request : EverRequest) (left left' : Option (List ℕ)) where
-  -- a text that is refused
-  pub input_rejects : (u : Rejection) → IsRejectionBy IsInputRefusal left left' u → IsRejectionBy (IsEverRefusal request) left left' u
-  input_rejects u h = input_means (IsEverRefusal request) left left' u (ever_input_refused request left left') h
+  -- a text or an interface that is refused
+  pub input_rejects : (u : Rejection) → IsRejectionBy (IsInterfaceRefusal request.interface) left left' u →
+      IsRejectionBy (IsEverRefusal request) left left' u
+  input_rejects u h = interface_means (IsEverRefusal request) request.interface left left' u (ever_input_refused request left left') h
 
   -- a word that names an unknown gate
-  pub gate_rejects : (system : System) (p : Pattern) (u : Rejection) → ReadsAccepted left left' system →
+  pub gate_rejects : (system : System) (p : Pattern) (u : Rejection) → ReadsAsked request.interface left left' system →
       PatternOf request.strong (ever_words_of request.words) p → IsGateRejection system.formals (words_of request.words) u →
       IsRejectionBy (IsEverRefusal request) left left' u
-  gate_rejects system p u read spelled h = gate_means (IsEverRefusal request) (words_of request.words) left left' system u read
+  gate_rejects system p u read spelled h = gate_means (IsEverRefusal request) request.interface (words_of request.words) left left' system u read
       (λ n unknown. record { system = system; pattern = p; read = record { read = read; spelled = spelled }; unknown_gate = unknown }) h

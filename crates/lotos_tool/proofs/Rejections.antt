@@ -7,6 +7,7 @@ use Rattle.std.specs.declared.alloc.Global.{Global}
 use Rattle.lotos_text.specs.Limits.{max_text_length}
 use Rattle.lotos_text.specs.declared.fault.TextFault.{TextFault}
 use Rattle.lotos_text.specs.declared.fault.TextFault.TheVariants as text_fault
+use Rattle.lotos_check.specs.AcceptedText.{Accepted}
 use Rattle.lotos_check.specs.Flat.{System}
 use Rattle.lotos_check.specs.NameLists.{Name}
 use Rattle.lotos_pattern.specs.PatternFaults.{IsCause, SpellsNone}
@@ -17,11 +18,14 @@ use Rattle.lotos_listing.specs.declared.fault.MarkFault.{MarkFault}
 use Rattle.lotos_listing.specs.declared.fault.MarkFault.TheVariants as mark_fault
 use Rattle.lotos_device.specs.TextInput.{ReadsAll, TakesAtMost}
 use Rattle.lotos_command.specs.declared.command.EverRequest.{EverRequest}
-use Rattle.lotos_tool.specs.QuestionParts.{ReadsAccepted}
-use Rattle.lotos_tool.specs.RefusalCauses.{IsEverRefusal, IsInputRefusal, IsPatternRefused, IsRefusal, IsTextFault, IsTextRefusal}
-use Rattle.lotos_tool.specs.Rejections.{IsGateRejection, IsMarkRejection, IsPatternRejection, IsRejection, IsRejectionBy}
-use Rattle.lotos_tool.specs.Rejections.{is_input_failure, mark_rejection, pattern_rejection}
+use Rattle.lotos_command.specs.declared.command.Interface.{Interface}
+use Rattle.lotos_tool.specs.Interfaces.{names_given}
+use Rattle.lotos_tool.specs.QuestionParts.{ReadsAccepted, ReadsAsked}
+use Rattle.lotos_tool.specs.RefusalCauses.{IsEverRefusal, IsInputRefusal, IsInterfaceRefusal, IsPatternRefused, IsTextFault, IsTextRefusal}
+use Rattle.lotos_tool.specs.Rejections.{IsAskedRejection, IsGateRejection, IsListRejection, IsMarkRejection, IsPatternRejection, IsRejection}
+use Rattle.lotos_tool.specs.Rejections.{IsRejectionBy, is_input_failure, mark_rejection, pattern_rejection}
 use Rattle.lotos_tool.specs.Rejections.IsGateRejection.{gate_memory, no_gate}
+use Rattle.lotos_tool.specs.Rejections.IsListRejection.{list_memory, no_list}
 use Rattle.lotos_tool.specs.Rejections.IsMarkRejection.{mark_memory, no_mark}
 use Rattle.lotos_tool.specs.Rejections.IsPatternRejection.{no_pattern, pattern_memory}
 use Rattle.lotos_tool.specs.UnknownGates.{IsFirstUnknownGate}
@@ -39,6 +43,11 @@ nothing_taken left = ([], omega arith, Consumes-nil left)
 -- a whole text was
 pub taken_all : (left left' : Option (List ℕ)) (system : System) → ReadsAccepted left left' system → TakesAtMost left left' (max_text_length + 1)
 taken_all left left' system read = (read.text, (let w = read.read.within in omega arith), read.read.bytes)
+
+-- and so it was if a question is asked about one interface of its specification
+pub taken_asked : (interface : Interface) (left left' : Option (List ℕ)) (system : System) → ReadsAsked interface left left' system →
+    TakesAtMost left left' (max_text_length + 1)
+taken_asked interface left left' system asked = taken_all left left' asked.own asked.read
 
 -- a rejection that is passed on, and is none of the reader, is none where it is passed on to
 pub still_read : {T : Type 0} (r : Result T Rejection) (u : Rejection) → IsErrAnd r (λ v. v ≡ u) → is_input_failure {T = T} (Err u) ≡ false →
@@ -58,6 +67,7 @@ unread left left' text (Refused (refusal.E45 n)) r h = absurd h
 unread left left' text (Refused (refusal.Mark fault)) r h = absurd h
 unread left left' text (Refused refusal.E47) r h = absurd h
 unread left left' text (Refused (refusal.E49 n)) r h = absurd h
+unread left left' text (Refused (refusal.E52 name)) r h = absurd h
 unread left left' text (Refused (refusal.Text fault position)) r h = go fault h
   where
     go : (fault : TextFault) → IsTextFault text fault position → IsTextRefusal left left' fault position
@@ -81,6 +91,7 @@ text_was_read T text (Refused (refusal.E45 n)) h = absurd h
 text_was_read T text (Refused (refusal.Mark fault)) h = absurd h
 text_was_read T text (Refused refusal.E47) h = absurd h
 text_was_read T text (Refused (refusal.E49 n)) h = absurd h
+text_was_read T text (Refused (refusal.E52 name)) h = absurd h
 
 -- ---- the words of a pattern
 
@@ -145,29 +156,31 @@ gate_was_read T gates words _ (no_gate n h) = refl
 gate_was_read T gates words _ gate_memory = refl
 
 -- words that name unknown gates of a specification that was read are rejected as a part of any question
-pub gate_means : (Means : Option (List ℕ) → Option (List ℕ) → Refusal → Type 0) (words : List (List ℕ)) (left left' : Option (List ℕ)) (system : System)
-    (u : Rejection) → ReadsAccepted left left' system → ((n : ℕ) → IsFirstUnknownGate system.formals words n → Means left left' (refusal.E49 n)) →
+pub gate_means : (Means : Option (List ℕ) → Option (List ℕ) → Refusal → Type 0) (interface : Interface) (words : List (List ℕ)) (left left' : Option (List ℕ))
+    (system : System) (u : Rejection) → ReadsAsked interface left left' system →
+    ((n : ℕ) → IsFirstUnknownGate system.formals words n → Means left left' (refusal.E49 n)) →
     IsGateRejection system.formals words u → IsRejectionBy Means left left' u
-gate_means Means words left left' system _ read means (no_gate n h) = means n h
-gate_means Means words left left' system _ read means gate_memory = taken_all left left' system read
+gate_means Means interface words left left' system _ read means (no_gate n h) = means n h
+gate_means Means interface words left left' system _ read means gate_memory = taken_asked interface left left' system read
 
 -- ---- the input
 
--- what is refused of the input is refused of a question
-pub input_refused : (strong : Bool) (words : List (List ℕ)) (left left' : Option (List ℕ)) (cause : Refusal) → IsInputRefusal left left' cause →
-    IsRefusal strong words left left' cause
-input_refused strong words left left' (refusal.Text fault position) h = h
-input_refused strong words left left' (refusal.Check fault line column) h = h
-input_refused strong words left left' (refusal.Pattern fault) h = absurd h
-input_refused strong words left left' (refusal.E41 n) h = absurd h
-input_refused strong words left left' (refusal.E45 n) h = absurd h
-input_refused strong words left left' (refusal.Mark fault) h = absurd h
-input_refused strong words left left' refusal.E47 h = h
-input_refused strong words left left' (refusal.E49 n) h = absurd h
+-- what is refused of the input is refused whatever the interface is
+pub input_refused : (interface : Interface) (left left' : Option (List ℕ)) (cause : Refusal) → IsInputRefusal left left' cause →
+    IsInterfaceRefusal interface left left' cause
+input_refused interface left left' (refusal.Text fault position) h = h
+input_refused interface left left' (refusal.Check fault line column) h = h
+input_refused interface left left' (refusal.Pattern fault) h = absurd h
+input_refused interface left left' (refusal.E41 n) h = absurd h
+input_refused interface left left' (refusal.E45 n) h = absurd h
+input_refused interface left left' (refusal.Mark fault) h = absurd h
+input_refused interface left left' refusal.E47 h = h
+input_refused interface left left' (refusal.E49 n) h = absurd h
+input_refused interface left left' (refusal.E52 name) h = absurd h
 
--- and of a pattern of `ever` and a text
-pub ever_input_refused : (request : EverRequest) (left left' : Option (List ℕ)) (cause : Refusal) → IsInputRefusal left left' cause →
-    IsEverRefusal request left left' cause
+-- what is refused of a text and an interface is refused of a pattern of `ever` too
+pub ever_input_refused : (request : EverRequest) (left left' : Option (List ℕ)) (cause : Refusal) →
+    IsInterfaceRefusal request.interface left left' cause → IsEverRefusal request left left' cause
 ever_input_refused request left left' (refusal.Text fault position) h = h
 ever_input_refused request left left' (refusal.Check fault line column) h = h
 ever_input_refused request left left' (refusal.Pattern fault) h = absurd h
@@ -176,9 +189,43 @@ ever_input_refused request left left' (refusal.E45 n) h = absurd h
 ever_input_refused request left left' (refusal.Mark fault) h = absurd h
 ever_input_refused request left left' refusal.E47 h = h
 ever_input_refused request left left' (refusal.E49 n) h = absurd h
+ever_input_refused request left left' (refusal.E52 name) h = h
 
-pub input_means : (Means : Option (List ℕ) → Option (List ℕ) → Refusal → Type 0) (left left' : Option (List ℕ)) (u : Rejection) →
-    ((cause : Refusal) → IsInputRefusal left left' cause → Means left left' cause) → IsRejectionBy IsInputRefusal left left' u →
-    IsRejectionBy Means left left' u
-input_means Means left left' (Refused cause) means h = means cause h
-input_means Means left left' Memory means h = h
+module _ (Means : Option (List ℕ) → Option (List ℕ) → Refusal → Type 0) where
+  -- what is rejected of the input is rejected as a part of any question
+  pub input_means : (left left' : Option (List ℕ)) (u : Rejection) → ((cause : Refusal) → IsInputRefusal left left' cause → Means left left' cause) →
+      IsRejectionBy IsInputRefusal left left' u → IsRejectionBy Means left left' u
+  input_means left left' (Refused cause) means h = means cause h
+  input_means left left' Memory means h = h
+
+  -- and so is what is rejected of the input and an interface
+  pub interface_means : (interface : Interface) (left left' : Option (List ℕ)) (u : Rejection) →
+      ((cause : Refusal) → IsInterfaceRefusal interface left left' cause → Means left left' cause) →
+      IsRejectionBy (IsInterfaceRefusal interface) left left' u → IsRejectionBy Means left left' u
+  interface_means interface left left' (Refused cause) means h = means cause h
+  interface_means interface left left' Memory means h = h
+
+-- ---- from a text and an interface to the bytes that a reader had left
+
+-- the rejection of the names that the interface gives is one of the text and the interface, if the text is accepted
+pub list_asked : (interface : Interface) (text : List ℕ) (own : System) (u : Rejection) → Accepted text own →
+    IsListRejection own.formals (names_given interface) u → IsAskedRejection interface text u
+list_asked interface text own _ accepted (no_list given h) = record { own = own; accepted = accepted; no_gate = h }
+list_asked interface text own _ accepted list_memory = tt
+
+pub asked_unread : (interface : Interface) (left left' : Option (List ℕ)) (text : List ℕ) (u : Rejection) → ReadsAll left left' max_text_length text →
+    IsAskedRejection interface text u → IsRejectionBy (IsInterfaceRefusal interface) left left' u
+asked_unread interface left left' text Memory r h = unread left left' text Memory r h
+asked_unread interface left left' text (Refused (refusal.Text fault position)) r h = unread left left' text (Refused (refusal.Text fault position)) r h
+asked_unread interface left left' text (Refused (refusal.Check fault line column)) r h = unread left left' text (Refused (refusal.Check fault line column)) r h
+asked_unread interface left left' text (Refused (refusal.Pattern fault)) r h = absurd h
+asked_unread interface left left' text (Refused (refusal.E41 n)) r h = absurd h
+asked_unread interface left left' text (Refused (refusal.E45 n)) r h = absurd h
+asked_unread interface left left' text (Refused (refusal.Mark fault)) r h = absurd h
+asked_unread interface left left' text (Refused refusal.E47) r h = absurd h
+asked_unread interface left left' text (Refused (refusal.E49 n)) r h = absurd h
+asked_unread interface left left' text (Refused (refusal.E52 name)) r h = record {
+  own = h.own;
+  read = record { text = text; read = r; accepted = h.accepted };
+  no_gate = h.no_gate;
+}

@@ -15,8 +15,8 @@ use Rattle.lotos_tool.specs.ListingOutcome.{ListingOutcome}
 use Rattle.lotos_tool.specs.declared.listing_output.ListingOptions.{ListingOptions}
 use Rattle.lotos_tool.specs.ListingQuestions.{HasBoundsOf, IsOneSetTooMany, ListingQuestion, ListingState, by_cover, by_depth, by_length, depth_state}
 use Rattle.lotos_tool.specs.ListingQuestions.{length_state}
-use Rattle.lotos_tool.specs.QuestionParts.{IsMarkOf, ReadsAccepted, words_of}
-use Rattle.lotos_tool.specs.RefusalCauses.{IsInputRefusal, IsSearchRefusal}
+use Rattle.lotos_tool.specs.QuestionParts.{IsMarkOf, ReadsAsked, words_of}
+use Rattle.lotos_tool.specs.RefusalCauses.{IsInterfaceRefusal, IsSearchRefusal}
 use Rattle.lotos_tool.specs.Rejections.{IsGateRejection, IsMarkRejection, IsPatternRejection, IsRejectionBy, end_of, is_input_fault}
 use Rattle.lotos_tool.specs.SearchOutcome.{AreSearchParts, IsQuestionOfText, SearchOutcome, options_of}
 use Rattle.lotos_tool.specs.SearchParts.{IsOutcomeFor, IsSearchFor}
@@ -29,7 +29,7 @@ use Rattle.lotos_report.specs.declared.outcome.Ended.TheVariants.{Complete, Refu
 use Rattle.lotos_report.specs.declared.outcome.Why.TheVariants as why
 use Rattle.lotos_command.specs.declared.command.Extent.TheVariants.{Depth, Length}
 use Rattle.lotos_command.specs.declared.command.SearchRequest.{SearchRequest}
-use Rattle.lotos_tool.proofs.Rejections.{gate_means, input_means, mark_means, pattern_means, taken_all}
+use Rattle.lotos_tool.proofs.Rejections.{gate_means, interface_means, mark_means, pattern_means, taken_asked}
 
 -- a search of the system that began with the request's depth and terms is one for the request
 pub asked_of : (request : SearchRequest) (system : System) (held : TableView) (p : Pattern) (mark : Option (List Label)) (depth : ℕ) (search : SearchState) →
@@ -104,7 +104,7 @@ told request left left' got got' system p mark ended parts h = elim h [
   | inl begun ↦ answered request left left' got got' begun.0.question begun.0.cursor ended
       (asks request left left' system p mark begun.0 parts begun.1) begun.2
   | inr stopped ↦ subst (SearchOutcome request left left' got got') (sym stopped.0)
-      (inl (record { unwritten = record { taken = taken_all left left' system parts.read.read; kept = stopped.1 }; no_line = refl }))
+      (inl (record { unwritten = record { taken = taken_asked request.interface left left' system parts.read.read; kept = stopped.1 }; no_line = refl }))
 ]
 
 -- no outcome for the system is an input fault
@@ -135,11 +135,12 @@ module _ (request : SearchRequest) (left : Option (List ℕ)) where
       (λ line given none. record { kept = Keeps-refl left; pattern = p; spelled = spelled; line = line; given = given; never = none }) h
 
 module _ (request : SearchRequest) (left left' : Option (List ℕ)) where
-  -- a text that is refused
-  pub input_rejects : (u : Rejection) → IsRejectionBy IsInputRefusal left left' u → IsRejectionBy (IsSearchRefusal request) left left' u
-  input_rejects u h = input_means (IsSearchRefusal request) left left' u means h
+  -- a text or an interface that is refused
+  pub input_rejects : (u : Rejection) → IsRejectionBy (IsInterfaceRefusal request.interface) left left' u →
+      IsRejectionBy (IsSearchRefusal request) left left' u
+  input_rejects u h = interface_means (IsSearchRefusal request) request.interface left left' u means h
     where
-      means : (cause : Refusal) → IsInputRefusal left left' cause → IsSearchRefusal request left left' cause
+      means : (cause : Refusal) → IsInterfaceRefusal request.interface left left' cause → IsSearchRefusal request left left' cause
       means (refusal.Text fault position) h = h
       means (refusal.Check fault line column) h = h
       means (refusal.Pattern fault) h = absurd h
@@ -148,13 +149,14 @@ module _ (request : SearchRequest) (left left' : Option (List ℕ)) where
       means (refusal.Mark fault) h = absurd h
       means refusal.E47 h = h
       means (refusal.E49 n) h = absurd h
+      means (refusal.E52 name) h = h
 
   -- a word that names an unknown gate, if the request refuses that
-  pub gate_rejects : (system : System) (p : Pattern) (mark : Option (List Label)) (u : Rejection) → ReadsAccepted left left' system →
+  pub gate_rejects : (system : System) (p : Pattern) (mark : Option (List Label)) (u : Rejection) → ReadsAsked request.interface left left' system →
       PatternOf request.strong (words_of request.words) p → IsMarkOf request.strong request.after mark →
       (request.known ≡ true) × IsGateRejection system.formals (words_of request.words) u → IsRejectionBy (IsSearchRefusal request) left left' u
   gate_rejects system p mark u read spelled marked h =
-      gate_means (IsSearchRefusal request) (words_of request.words) left left' system u read
+      gate_means (IsSearchRefusal request) request.interface (words_of request.words) left left' system u read
       (λ n unknown. record {
         known_gates = h.0;
         mark = mark;

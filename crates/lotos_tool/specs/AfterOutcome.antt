@@ -10,7 +10,7 @@ use Rattle.lotos_after.specs.Behaviours.{Behaviour, CanBeObserved, CanComeAfter,
 use Rattle.lotos_after.specs.Behaviours.{IsFirstOversized, IsFollowedTo}
 use Rattle.lotos_device.specs.ByteOutput.{AppendsBeginning}
 use Rattle.lotos_output.specs.OutputLines.{IsTextOf, next_lines}
-use Rattle.lotos_tool.specs.QuestionParts.{ForQuestion, ReadsAccepted, words_of}
+use Rattle.lotos_tool.specs.QuestionParts.{ForQuestion, ReadsAsked, words_of}
 use Rattle.lotos_tool.specs.RefusalCauses.{IsAfterRefusal}
 use Rattle.lotos_tool.specs.Rejections.{IsOutOfMemory, is_unreadable}
 use Rattle.lotos_tool.specs.UnknownGates.{HasNoUnknownGate}
@@ -25,10 +25,10 @@ pub record IsSequenceOf (request : AfterRequest) (system : System) (s : List Lab
   pub named : NamesEach request.strong (words_of request.words) s
   pub known_gates : HasNoUnknownGate system.formals (words_of request.words)
 
--- what was read for the request: the text, which is accepted as the system, and the sequence of the words
+-- what was read for the request: the system that is asked, and the sequence of the words
 pub record AreAfterParts (request : AfterRequest) (left left' : Option (List ℕ)) (system : System) (s : List Label)
     : Type 0 where
-  pub read : ReadsAccepted left left' system
+  pub read : ReadsAsked request.interface left left' system
   pub sequence : IsSequenceOf request system s
 
 -- the question that the request asks of the text that was read: a behaviour, and the sequence that is followed in it

@@ -6,7 +6,7 @@ use Rattle.lotos_listing.specs.Order.{Label}
 use Rattle.lotos_cover.specs.CoverListings.{CoverQuestion, IsCoverQuestionOf}
 use Rattle.lotos_tool.specs.ListingOutcome.{IsCutShort, ListingOutcome}
 use Rattle.lotos_tool.specs.ListingQuestions.{by_cover}
-use Rattle.lotos_tool.specs.QuestionParts.{ForQuestion, IsMarkOf, ReadsAccepted}
+use Rattle.lotos_tool.specs.QuestionParts.{ForQuestion, IsMarkOf, ReadsAsked}
 use Rattle.lotos_tool.specs.RefusalCauses.{IsCoverRefusal}
 use Rattle.lotos_tool.specs.SearchOutcome.{IsNotStarted}
 use Rattle.lotos_tool.specs.declared.listing_output.ListingOptions.{ListingOptions}
@@ -15,10 +15,10 @@ use Rattle.lotos_report.specs.declared.outcome.Ended.TheVariants.{Refused, Stopp
 use Rattle.lotos_report.specs.declared.outcome.Why.TheVariants as why
 use Rattle.lotos_command.specs.declared.command.CoverRequest.{CoverRequest}
 
--- what was read for the request: the text, which is accepted as the system, and the mark of the line, if one is given
+-- what was read for the request: the system that is asked, and the mark of the line, if one is given
 pub record AreCoverParts (request : CoverRequest) (left left' : Option (List ℕ)) (system : System)
     (mark : Option (List Label)) : Type 0 where
-  pub read : ReadsAccepted left left' system
+  pub read : ReadsAsked request.interface left left' system
   pub marked : IsMarkOf request.strong request.after mark
 
 -- the question is about the behaviour of this system, with internal steps observed if the request says so, and it has

@@ -1,4 +1,5 @@
 pub mod UnknownGates
+pub mod Interfaces
 pub mod QuestionParts
 pub mod RefusalCauses
 pub mod Rejections

@@ -12,6 +12,8 @@ use Rattle.lotos_pattern.specs.Spelling.{PatternOf}
 use Rattle.lotos_listing.specs.Order.{Label}
 use Rattle.lotos_listing.specs.Marks.{MarkOf}
 use Rattle.lotos_device.specs.TextInput.{ReadsAll}
+use Rattle.lotos_command.specs.declared.command.Interface.{Interface}
+use Rattle.lotos_tool.specs.Interfaces.{IsInterfaceOf}
 
 -- the words of a pattern
 abbrev pub words_of : Vec (String Global) Global → List (List ℕ)
@@ -32,10 +34,17 @@ pub record ReadsAccepted (left left' : Option (List ℕ)) (system : System) : Ty
   pub read : ReadsAll left left' max_text_length text
   pub accepted : Accepted text system
 
--- all that the reader had left was read, and is accepted as this system, and the words spell this pattern
-pub record ReadsQuestion (strong : Bool) (words : List (List ℕ)) (left left' : Option (List ℕ)) (system : System)
-    (p : Pattern) : Type 0 where
-  pub read : ReadsAccepted left left' system
+-- all that the reader had left was read, and is accepted as a system of which the interface leaves this one
+pub record ReadsAsked (interface : Interface) (left left' : Option (List ℕ)) (system : System) : Type 0 where
+  pub own : System
+  pub read : ReadsAccepted left left' own
+  pub asked : IsInterfaceOf interface own system
+
+-- the question is about this system, which is that of the text or what the interface leaves of it, and the words spell
+-- this pattern
+pub record ReadsQuestion (interface : Interface) (strong : Bool) (words : List (List ℕ)) (left left' : Option (List ℕ))
+    (system : System) (p : Pattern) : Type 0 where
+  pub read : ReadsAsked interface left left' system
   pub spelled : PatternOf strong words p
 
 -- something is asked, and `Said` holds of it

@@ -1,17 +1,23 @@
 -- What a rejection means, by the part that is rejected, and how the commands end with it.
-use Rattle.std.specs.Prelude.{ℕ, ◌+◌, Bool, true, false, List, Option, None, Some, Result, Err, if◌then◌else◌, string_bytes}
+use Rattle.std.specs.Prelude.{◌≡◌, ℕ, ◌+◌, Bool, true, false, List, Option, None, Some, Result, Err, if◌then◌else◌, map}
+use Rattle.std.specs.Prelude.{string_bytes}
+use Rattle.std.specs.Char.{to_ascii_uppercase}
 use Rattle.std.specs.Io.KnownBytes.{Keeps}
 use Rattle.std.specs.declared.string.String.{String}
 use Rattle.std.specs.declared.alloc.Global.{Global}
 use Rattle.lotos_text.specs.Limits.{max_text_length}
-use Rattle.lotos_check.specs.NameLists.{Name}
+use Rattle.lotos_check.specs.AcceptedText.{Accepted}
+use Rattle.lotos_check.specs.Flat.{System}
+use Rattle.lotos_check.specs.NameLists.{In, Name}
 use Rattle.lotos_pattern.specs.declared.fault.PatternFault.{PatternFault}
 use Rattle.lotos_listing.specs.Marks.{IsMarkFault}
 use Rattle.lotos_listing.specs.declared.fault.MarkFault.{MarkFault}
 use Rattle.lotos_listing.specs.declared.fault.MarkFault.TheVariants as mark_fault
 use Rattle.lotos_device.specs.TextInput.{TakesAtMost}
+use Rattle.lotos_command.specs.declared.command.Interface.{Interface}
 use Rattle.lotos_after.specs.declared.label_words.WordFault.{WordFault}
 use Rattle.lotos_after.specs.declared.label_words.WordFault.TheVariants as word
+use Rattle.lotos_tool.specs.Interfaces.{IsFirstNoGate, IsInterfaceOf, names_given}
 use Rattle.lotos_tool.specs.RefusalCauses.{IsCheckFault, IsPatternRefused, IsTextFault, is_memory}
 use Rattle.lotos_tool.specs.UnknownGates.{IsFirstUnknownGate}
 use Rattle.lotos_report.specs.declared.outcome.Ended.{Ended}
@@ -34,6 +40,25 @@ IsRejection text (Refused (refusal.Text fault position)) = IsTextFault text faul
 IsRejection text (Refused (refusal.Check fault line column)) = IsCheckFault text fault line column
 IsRejection text (Refused _) = ⊥
 IsRejection text Memory = Unit {0}
+
+-- the text is accepted as a system of which the interface leaves this one
+pub record IsAskedOf (interface : Interface) (text : List ℕ) (system : System) : Type 0 where
+  pub own : System
+  pub accepted : Accepted text own
+  pub asked : IsInterfaceOf interface own system
+
+-- the text is accepted, and this is the first name that the interface gives and that is no gate of the specification's
+-- own list
+pub record IsNoGateOf (interface : Interface) (text name : List ℕ) : Type 0 where
+  pub own : System
+  pub accepted : Accepted text own
+  pub no_gate : IsFirstNoGate own.formals (names_given interface) name
+
+-- what a rejection of a text that is not too long means, if a question is asked about one interface of it
+abbrev pub IsAskedRejection : Interface → List ℕ → Rejection → Type 0
+IsAskedRejection interface text (Refused (refusal.E52 name)) = IsNoGateOf interface text (string_bytes name)
+IsAskedRejection interface text (Refused cause) = IsRejection text (Refused cause)
+IsAskedRejection interface text Memory = Unit {0}
 
 -- ---- the parts of a question
 
@@ -60,6 +85,18 @@ pub data IsMarkRejection (strong : Bool) : Option (String Global) → Rejection 
 pub data IsGateRejection (gates : List Name) (words : List (List ℕ)) : Rejection → Type 0 where
   no_gate : (n : ℕ) → IsFirstUnknownGate gates words n → IsGateRejection gates words (Refused (refusal.E49 n))
   gate_memory : IsGateRejection gates words Memory
+
+-- the name is no gate of the list, or memory ran out
+pub data IsNameRejection (gates : List Name) (name : List ℕ) : Rejection → Type 0 where
+  no_name : (given : String Global) → string_bytes given ≡ name → (In (map to_ascii_uppercase name) gates → ⊥) →
+      IsNameRejection gates name (Refused (refusal.E52 given))
+  name_memory : IsNameRejection gates name Memory
+
+-- one of these names is no gate of the list, or memory ran out
+pub data IsListRejection (gates : List Name) (names : List (List ℕ)) : Rejection → Type 0 where
+  no_list : (given : String Global) → IsFirstNoGate gates names (string_bytes given) →
+      IsListRejection gates names (Refused (refusal.E52 given))
+  list_memory : IsListRejection gates names Memory
 
 -- the rejection for a fault of the words of a pattern
 abbrev pub pattern_rejection : PatternFault → Rejection

@@ -15,7 +15,7 @@ ghost use Rattle.lotos_tool.specs.Rejections.{IsRejectionBy, is_input_failure};
 
 use crate::question_parts::refuse_unknown_gates;
 use crate::rejection::{Rejection, after_end_of};
-use crate::specification_input::read_specification;
+use crate::specification_input::read_asked;
 use lotos_after::{FollowFault, Followed, check_label_words, follow, labels_of_words};
 use lotos_check::Checked;
 use lotos_command::AfterRequest;
@@ -46,13 +46,13 @@ pub(crate) enum Answer {
 /// observed as the sequence, a line is written for each label that can come after it, in the order of the labels, and
 /// then `<deadlock>` if the system can be in a deadlock.
 ///
-/// The words are looked at first, each of which is to be a label; then the text is read, whose specification is checked,
-/// and then the gates that the words name are looked up in the specification's own list. The first of these to be refused
-/// is returned with nothing written, and words that are no labels are refused with nothing read. The lines are composed
-/// completely before the first byte is written, and one flush follows them. If the sequence cannot be observed, if a
-/// beginning of it reaches more normal forms than the request allows, and if memory runs out, nothing is written. At most
-/// one byte more than a text may have is taken from the reader, whatever it returns. Neither the reader nor the writer
-/// may have failed before.
+/// The words are looked at first, each of which is to be a label; then the text is read, whose specification is
+/// checked; then the gates are hidden that the request's interface leaves out, and then the gates that the words name
+/// are looked up among those that are left. The first of these to be refused is returned with nothing written, and
+/// words that are no labels are refused with nothing read. The lines are composed completely before the first byte is
+/// written, and one flush follows them. If the sequence cannot be observed, if a beginning of it reaches more normal
+/// forms than the request allows, and if memory runs out, nothing is written. At most one byte more than a text may
+/// have is taken from the reader, whatever it returns. Neither the reader nor the writer may have failed before.
 /// The observer is told when the text is accepted, of each label that was followed, and of the lines before they are
 /// written; `NoProgress` is one that does nothing.
 pub fn after<R: Source, W: Sink, P: OutputProgress>(
@@ -76,7 +76,7 @@ pub fn after<R: Source, W: Sink, P: OutputProgress>(
     }
 }
 
-/// The specification of the text, in whose own list are the gates that the words name. Each word names a label.
+/// The specification that is asked, in whose own list are the gates that the words name. Each word names a label.
 fn read_parts<R: Source, P: OutputProgress>(
     alloc: Global,
     request: &AfterRequest,
@@ -92,7 +92,7 @@ fn read_parts<R: Source, P: OutputProgress>(
     ensures failed { R.has_failed reader.new ≡ is_input_failure result }
 {
     check_label_words(request.words.as_slice(), request.strong)?;
-    let system = read_specification(alloc, reader, progress)?;
+    let system = read_asked(alloc, &request.interface, reader, progress)?;
     refuse_unknown_gates(alloc, &request.words, true, &system)?;
     Ok(system)
 }

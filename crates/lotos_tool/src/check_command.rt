@@ -10,7 +10,6 @@ use crate::rejection::end_of;
 use crate::specification_input::read_specification;
 use lotos_check::Checked;
 use lotos_device::{DeviceFailed, Sink, Source, write_bytes};
-use lotos_listing::NoProgress;
 use lotos_output::{flush_complete, format_processes};
 use lotos_report::{Ended, Why};
 use std::alloc::Global;
@@ -32,7 +31,7 @@ pub fn check_text<R: Source, W: Sink>(alloc: Global, reader: &mut R, writer: &mu
     ensures input { R.has_failed reader.new ≡ is_input_fault result }
     ensures output { W.has_failed writer.new ≡ is_output_fault result }
 {
-    let system = match read_specification(alloc, reader, &mut NoProgress) {
+    let system = match read_specification(alloc, reader) {
         Ok(system) => system,
         Err(rejection) => return end_of(rejection),
     };

@@ -13,7 +13,7 @@ use crate::listing_output::{ListingOptions, write_listing};
 use crate::question_parts::read_mark;
 use crate::rejection::{Rejection, end_of};
 use crate::search_command::out_of_memory;
-use crate::specification_input::read_specification;
+use crate::specification_input::read_asked;
 use lotos_check::Checked;
 use lotos_command::CoverRequest;
 use lotos_cover::CoverSearch;
@@ -30,13 +30,14 @@ use std::alloc::{AllocError, Global};
 /// which no longer one begins, each once, shorter ones first, then in the order of their labels. With a mark only the
 /// lines after it are written.
 ///
-/// The mark is read first, then the text, whose specification is checked. The first of these to be refused is returned
-/// with nothing written, and the mark is refused with nothing read. A line is composed completely before its first byte is
-/// written. The cover stops when as many lines as the limit are written, at the first sequence that reaches more normal
-/// forms than the request allows or leads to one set of them more than it allows, when memory runs out, and when the
-/// output cannot be written. A complete cover, be it without lines, and one that stops at the limit or at such a sequence,
-/// ends with one flush. At most one byte more than a text may have is taken from the reader, whatever it returns. Neither
-/// the reader nor the writer may have failed before.
+/// The mark is read first, then the text, whose specification is checked, and then the gates are hidden that the
+/// request's interface leaves out. The first of these to be refused is returned with nothing written, and the mark is
+/// refused with nothing read. A line is composed completely before its first byte is written. The cover stops when as
+/// many lines as the limit are written, at the first sequence that reaches more normal forms than the request allows or
+/// leads to one set of them more than it allows, when memory runs out, and when the output cannot be written. A
+/// complete cover, be it without lines, and one that stops at the limit or at such a sequence, ends with one flush. At
+/// most one byte more than a text may have is taken from the reader, whatever it returns. Neither the reader nor the
+/// writer may have failed before.
 /// The observer is told when the text is accepted, of each set of normal forms that comes up after that of the empty
 /// sequence, with the number of labels of its first sequence, and of each line before it is written; `NoProgress` is one
 /// that does nothing.
@@ -62,7 +63,7 @@ pub fn cover<R: Source, W: Sink, P: OutputProgress>(
     }
 }
 
-/// The mark of the line, and the specification of the text.
+/// The mark of the line, and the specification that is asked.
 fn read_parts<R: Source, P: OutputProgress>(
     alloc: Global,
     request: &CoverRequest,
@@ -78,7 +79,7 @@ fn read_parts<R: Source, P: OutputProgress>(
     ensures failed { R.has_failed reader.new ≡ is_input_failure result }
 {
     let mark = read_mark(alloc, &request.after, request.strong)?;
-    let system = read_specification(alloc, reader, progress)?;
+    let system = read_asked(alloc, &request.interface, reader, progress)?;
     Ok((mark, system))
 }
 

@@ -13,7 +13,7 @@ ghost use Rattle.lotos_tool.specs.Rejections.{IsRejectionBy, is_input_failure};
 
 use crate::question_parts::{read_ever_pattern, refuse_unknown_gates};
 use crate::rejection::{Rejection, ever_end_of};
-use crate::specification_input::read_specification;
+use crate::specification_input::read_asked;
 use lotos_check::Checked;
 use lotos_command::EverRequest;
 use lotos_device::{DeviceFailed, Sink, Source};
@@ -31,13 +31,14 @@ use std::alloc::{AllocError, Global};
 /// Reads a specification and searches it for a derivation, of any number of steps, that matches the request's pattern.
 /// If there is one, the line of one with the fewest steps is written.
 ///
-/// The words of the pattern are read first, then the text, whose specification is checked, and then the gates that the
-/// words name are looked up in the specification's own list. The first of these to be refused is returned with nothing
-/// written, and words that spell no pattern are refused with nothing read. The line is composed completely before its
-/// first byte is written. Nothing is written if no derivation matches, if more product states would be stored than the
-/// request allows, if more normal forms are reached where all of them must be found, or if memory runs out. One flush
-/// follows the line, and also ends a search without a match. At most one byte more than a text may have is taken from
-/// the reader, whatever it returns. Neither the reader nor the writer may have failed before.
+/// The words of the pattern are read first, then the text, whose specification is checked; then the gates are hidden
+/// that the request's interface leaves out, and then the gates that the words name are looked up among those that are
+/// left. The first of these to be refused is returned with nothing written, and words that spell no pattern are refused
+/// with nothing read. The line is composed completely before its first byte is written. Nothing is written if no
+/// derivation matches, if more product states would be stored than the request allows, if more normal forms are reached
+/// where all of them must be found, or if memory runs out. One flush follows the line, and also ends a search without a
+/// match. At most one byte more than a text may have is taken from the reader, whatever it returns. Neither the reader
+/// nor the writer may have failed before.
 /// The observer is told when the text is accepted, of each product state that the search stores, and of the line before
 /// it is written; `NoProgress` is one that does nothing.
 pub fn ever<R: Source, W: Sink, P: OutputProgress>(
@@ -61,7 +62,7 @@ pub fn ever<R: Source, W: Sink, P: OutputProgress>(
     }
 }
 
-/// The pattern of the words, and the specification of the text, in whose own list are the gates that the words name.
+/// The pattern of the words, and the specification that is asked, in whose own list are the gates that the words name.
 fn read_parts<R: Source, P: OutputProgress>(
     alloc: Global,
     request: &EverRequest,
@@ -78,7 +79,7 @@ fn read_parts<R: Source, P: OutputProgress>(
     ensures failed { R.has_failed reader.new ≡ is_input_failure result }
 {
     let pattern = read_ever_pattern(alloc, &request.words, request.strong)?;
-    let system = read_specification(alloc, reader, progress)?;
+    let system = read_asked(alloc, &request.interface, reader, progress)?;
     refuse_unknown_gates(alloc, &request.words, true, &system)?;
     Ok((pattern, system))
 }

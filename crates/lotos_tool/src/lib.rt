@@ -15,6 +15,7 @@ mod check_command;
 mod cover_command;
 mod diagnosis;
 mod ever_command;
+mod interface;
 mod listing_halt;
 mod listing_output;
 mod listing_search;
@@ -33,8 +34,8 @@ pub use check_command::check_text;
 pub use cover_command::cover;
 pub use ever_command::ever;
 pub use lotos_command::{
-    AfterRequest, CommandFault, CoverRequest, DiagnoseRequest, EverRequest, Extent, Request,
-    SearchRequest, request,
+    AfterRequest, CommandFault, CoverRequest, DiagnoseRequest, EverRequest, Extent, Interface,
+    Request, SearchRequest, request,
 };
 pub use lotos_device::{DeviceFailed, FromRead, FromWrite, Sink, Source};
 pub use lotos_listing::{NoProgress, Progress};

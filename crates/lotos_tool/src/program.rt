@@ -81,6 +81,7 @@ fn run_search<R: Source, W: Sink, E: Write>(
 {
     let observed = Observed {
         words: request.words.as_slice(),
+        interface: &request.interface,
         refuses_unknown: request.known,
         reports_progress: request.progress,
         visited: Visited::Prefixes,
@@ -122,6 +123,7 @@ fn run_ever<R: Source, W: Sink, E: Write>(
 {
     let observed = Observed {
         words: request.words.as_slice(),
+        interface: &request.interface,
         refuses_unknown: true,
         reports_progress: request.progress,
         visited: Visited::States,
@@ -160,6 +162,7 @@ fn run_after<R: Source, W: Sink, E: Write>(
     let words = request.words.as_slice();
     let observed = Observed {
         words,
+        interface: &request.interface,
         refuses_unknown: true,
         reports_progress: request.progress,
         visited: Visited::Labels,
@@ -197,6 +200,7 @@ fn run_cover<R: Source, W: Sink, E: Write>(
 {
     let observed = Observed {
         words: &[],
+        interface: &request.interface,
         refuses_unknown: false,
         reports_progress: request.progress,
         visited: Visited::Sets,

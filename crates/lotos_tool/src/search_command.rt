@@ -16,7 +16,7 @@ ghost use Rattle.lotos_report.specs.declared.outcome.Why.TheVariants.{Memory};
 use crate::listing_output::{ListingOptions, write_listing};
 use crate::question_parts::{read_mark, read_pattern, refuse_unknown_gates};
 use crate::rejection::{Rejection, end_of};
-use crate::specification_input::read_specification;
+use crate::specification_input::read_asked;
 use lotos_check::Checked;
 use lotos_command::{Extent, SearchRequest};
 use lotos_device::{Sink, Source};
@@ -37,14 +37,15 @@ use std::alloc::{AllocError, Global};
 /// of at most so many labels that are observed of any; each sequence once, shorter ones first, then in the order of
 /// their labels. With a mark only the sequences after it are listed.
 ///
-/// The words of the pattern are read first, then the mark, then the text, whose specification is checked; then, if the
-/// request refuses unknown gates, the gates that the words name are looked up in the specification's own list. The
-/// first of these to be refused is returned with nothing written, and the words and the mark are refused with nothing
-/// read. A line is composed completely before its first byte is written. The listing stops when as many lines as the
-/// limit are written, at the first prefix that can still match and reaches more terms than the request allows (normal
-/// forms, if it has a length), when memory runs out, and when the output cannot be written. A complete listing, be it
-/// without lines, and one that stops at the limit or at such a prefix, ends with one flush. At most one byte more than a
-/// text may have is taken from the reader, whatever it returns. Neither the reader nor the writer may have failed before.
+/// The words of the pattern are read first, then the mark, then the text, whose specification is checked; then the
+/// gates are hidden that the request's interface leaves out; then, if the request refuses unknown gates, the gates that
+/// the words name are looked up among those that are left. The first of these to be refused is returned with nothing
+/// written, and the words and the mark are refused with nothing read. A line is composed completely before its first
+/// byte is written. The listing stops when as many lines as the limit are written, at the first prefix that can still
+/// match and reaches more terms than the request allows (normal forms, if it has a length), when memory runs out, and
+/// when the output cannot be written. A complete listing, be it without lines, and one that stops at the limit or at
+/// such a prefix, ends with one flush. At most one byte more than a text may have is taken from the reader, whatever it
+/// returns. Neither the reader nor the writer may have failed before.
 /// The observer is told when the text is accepted, of each prefix that the search visits, and of each line before it is
 /// written; `NoProgress` is one that does nothing.
 pub fn list<R: Source, W: Sink, P: OutputProgress>(
@@ -71,7 +72,7 @@ pub fn list<R: Source, W: Sink, P: OutputProgress>(
     }
 }
 
-/// The pattern of the words, the mark of the line, and the specification of the text, whose gates are known if the
+/// The pattern of the words, the mark of the line, and the specification that is asked, whose gates are known if the
 /// request refuses others.
 fn read_parts<R: Source, P: OutputProgress>(
     alloc: Global,
@@ -90,7 +91,7 @@ fn read_parts<R: Source, P: OutputProgress>(
 {
     let pattern = read_pattern(alloc, &request.words, request.strong)?;
     let mark = read_mark(alloc, &request.after, request.strong)?;
-    let system = read_specification(alloc, reader, progress)?;
+    let system = read_asked(alloc, &request.interface, reader, progress)?;
     refuse_unknown_gates(alloc, &request.words, request.known, &system)?;
     Ok((pattern, mark, system))
 }

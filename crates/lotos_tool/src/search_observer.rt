@@ -2,6 +2,7 @@
 
 use crate::unknown_names::unknown_names;
 use lotos_check::AcceptedText;
+use lotos_command::Interface;
 use lotos_listing::Progress;
 use lotos_output::OutputProgress;
 use lotos_report::{
@@ -15,6 +16,8 @@ use std::io::Write;
 pub(crate) struct Observed<'a> {
     /// The words of the pattern.
     pub words: &'a [String],
+    /// Which gates of the specification's own list the question is about.
+    pub interface: &'a Interface,
     /// Whether words that name no gate of the specification are refused.
     pub refuses_unknown: bool,
     /// Whether reports of progress are asked for.
@@ -74,6 +77,7 @@ impl<E: Write> OutputProgress for SearchObserver<'_, '_, E> {
             gates,
             text,
             specification: &accepted_text.specification,
+            interface: self.observed.interface,
         };
         if self.observed.refuses_unknown {
             self.hint = first_name_hint(self.alloc, names.as_slice(), &places);

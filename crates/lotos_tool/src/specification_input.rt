@@ -4,13 +4,15 @@ ghost use Rattle.lotos_text.specs.Limits.{max_text_length};
 ghost use Rattle.lotos_check.specs.AcceptedText.{Accepted, IsRejectedFor, IsRejectedSpecification, accept_offset};
 ghost use Rattle.lotos_check.specs.CheckedView.{system_of};
 ghost use Rattle.lotos_check.specs.FaultOffsets.{offset_of};
-ghost use Rattle.lotos_tool.specs.QuestionParts.{ReadsAccepted};
-ghost use Rattle.lotos_tool.specs.RefusalCauses.{IsInputRefusal, IsPositionOf};
+ghost use Rattle.lotos_tool.specs.QuestionParts.{ReadsAccepted, ReadsAsked};
+ghost use Rattle.lotos_tool.specs.RefusalCauses.{IsInputRefusal, IsInterfaceRefusal, IsPositionOf};
 ghost use Rattle.lotos_device.specs.TextInput.{ReadsAll};
-ghost use Rattle.lotos_tool.specs.Rejections.{IsRejection, IsRejectionBy, is_input_failure};
+ghost use Rattle.lotos_tool.specs.Rejections.{IsAskedOf, IsAskedRejection, IsRejection, IsRejectionBy, is_input_failure};
 
+use crate::interface::seen_through;
 use crate::rejection::Rejection;
 use lotos_check::{AcceptFault, AcceptedText, CheckFault, Checked, accept};
+use lotos_command::Interface;
 use lotos_device::{ReadFault, Source, read_text};
 use lotos_output::OutputProgress;
 use lotos_report::Refusal;
@@ -19,12 +21,8 @@ use std::alloc::Global;
 
 /// Reads a whole text and returns its specification if it is accepted. At most one byte more than a text may have is
 /// taken from the reader, whatever it returns. The text is refused with E47 if the reader fails, with E03 if it is too
-/// long, and otherwise with the fault of the parser or of the static check. The observer is told of an accepted text.
-pub fn read_specification<R: Source, P: OutputProgress>(
-    alloc: Global,
-    reader: &mut R,
-    progress: &mut P,
-) -> Result<Checked, Rejection>
+/// long, and otherwise with the fault of the parser or of the static check.
+pub fn read_specification<R: Source>(alloc: Global, reader: &mut R) -> Result<Checked, Rejection>
     requires { R.has_failed reader.old ≡ false }
     ensures accepted { IfOk result (λ system.
         ReadsAccepted (R.remaining reader.old) (R.remaining reader.new) (system_of system)) }
@@ -35,8 +33,30 @@ pub fn read_specification<R: Source, P: OutputProgress>(
 {
     let text = read_input(alloc, reader)?;
     let accepted_text = accept_text(alloc, text.as_slice())?;
-    progress.accepted(text.as_slice(), &accepted_text);
     Ok(accepted_text.system)
+}
+
+/// Reads a whole text as [`read_specification`] does, and returns its specification with the gates hidden that the
+/// interface leaves out. If the text is accepted, the interface is refused with E52 where it has a name that is no gate
+/// of the specification's own list. Otherwise the observer is told of the text and of the specification that is returned.
+pub fn read_asked<R: Source, P: OutputProgress>(
+    alloc: Global,
+    interface: &Interface,
+    reader: &mut R,
+    progress: &mut P,
+) -> Result<Checked, Rejection>
+    requires { R.has_failed reader.old ≡ false }
+    ensures accepted { IfOk result (λ system.
+        ReadsAsked interface.now (R.remaining reader.old) (R.remaining reader.new) (system_of system)) }
+    ensures refused { IfErr result (IsRejectionBy (IsInterfaceRefusal interface.now)
+        (R.remaining reader.old) (R.remaining reader.new)) }
+    ensures given { R.given reader.new ≤ R.given reader.old + (max_text_length + 1) }
+    ensures failed { R.has_failed reader.new ≡ is_input_failure result }
+{
+    let text = read_input(alloc, reader)?;
+    let asked_text = accept_asked(alloc, text.as_slice(), interface)?;
+    progress.accepted(text.as_slice(), &asked_text);
+    Ok(asked_text.system)
 }
 
 /// Reads a whole text. At most one byte more than a text may have is taken from the reader, whatever it returns. The
@@ -71,6 +91,28 @@ fn accept_text(alloc: Global, text: &[u8]) -> Result<AcceptedText, Rejection>
         Ok(accepted_text) => Ok(accepted_text),
         Err(fault) => Err(reject(text, fault)),
     }
+}
+
+/// Accepts a text, and hides the gates of its specification that the interface leaves out.
+fn accept_asked(
+    alloc: Global,
+    text: &[u8],
+    interface: &Interface,
+) -> Result<AcceptedText, Rejection>
+    requires { length text.now ≤ max_text_length }
+    ensures accepted { IfOk result (λ asked_text. IsAskedOf interface.now text.now (system_of asked_text.system)) }
+    ensures refused { IfErr result (IsAskedRejection interface.now text.now) }
+    ensures unread { is_input_failure result ≡ false }
+{
+    let AcceptedText {
+        specification,
+        system: own,
+    } = accept_text(alloc, text)?;
+    let system = seen_through(alloc, interface, own)?;
+    Ok(AcceptedText {
+        specification,
+        system,
+    })
 }
 
 /// The rejection for a fault of a text, at the fault's position if it has one.

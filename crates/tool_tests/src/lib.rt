@@ -24,11 +24,15 @@ mod grammar_runs;
 #[cfg(test)]
 mod help;
 #[cfg(test)]
+mod help_summaries;
+#[cfg(test)]
 mod help_texts;
 #[cfg(test)]
 mod hints;
 #[cfg(test)]
 mod hostile;
+#[cfg(test)]
+mod interface_runs;
 #[cfg(test)]
 mod large_inputs;
 #[cfg(test)]

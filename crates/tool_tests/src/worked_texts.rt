@@ -27,3 +27,9 @@ process Q [h] : noexit := h; Q [h] endproc endspec";
 /// It grows for ever by internal steps.
 pub const GROWING: &[u8] = b"specification S [a] : noexit behaviour hide b in P [b]
 where process P [b] : noexit := b; (P [b] ||| P [b]) endproc endspec";
+
+/// A writer, and after a bell a reader, come in again and again.
+pub const TURNS: &[u8] =
+    b"specification T [win, wout, bell, rin, rout] : noexit behaviour R [win, wout, bell, rin, rout]
+where process R [win, wout, bell, rin, rout] : noexit
+:= win; bell; rin; rout; wout; R [win, wout, bell, rin, rout] endproc endspec";
