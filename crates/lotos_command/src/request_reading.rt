@@ -4,7 +4,7 @@ ghost use Rattle.std.specs.Option.{option_map_or};
 ghost use Rattle.clap.specs.Walk.{texts as texts_of};
 ghost use Rattle.clap.specs.declared.error.kind.ErrorKind.TheVariants as ErrorKind;
 ghost use Rattle.clap.specs.Words.{all_of, first_of, found_of, kind_of, one_of, rows_of, subcommand_rows_of};
-ghost use Rattle.lotos_command.specs.CommandFaults.{AreAccepted, IsNoRequestFault, IsFaultOf, IsFaultOfEntries, IsFaultOfKind};
+ghost use Rattle.lotos_command.specs.CommandFaults.{AreAccepted, IsFaultOf, IsFaultOfEntries, IsFaultOfKind, IsNoRequestFault};
 ghost use Rattle.lotos_command.specs.EntryRules.{FitsAfter, FitsCheck, FitsCover, FitsEver, FitsRequest, FitsSearch, IsNumberIn, IsTruthText};
 ghost use Rattle.lotos_command.specs.PatternWords.{parts_between_blanks, pattern_words, pattern_words_in};
 ghost use Rattle.lotos_command.specs.Request.{HasBounds, HasCoverBounds, HasSearchBounds, RequestOf, after_from, after_view, check_from, cover_from, cover_view, ever_from, ever_view, extent_from, flag, interface_from, interface_view, number, request_from, request_view, search_from, search_view};
@@ -35,8 +35,9 @@ const DEFAULT_STATES: usize = 1_000_000;
 /// # Errors
 ///
 /// [`CommandFault::Help`] if the words ask for help or for the version, [`CommandFault::Wrong`] if they fit no command,
-/// and [`CommandFault::Memory`] if an allocation fails, whatever the words are. Words that clap accepts fail with
-/// [`CommandFault::Memory`] alone.
+/// and [`CommandFault::Memory`] if an allocation fails, whatever the words are. Of the words that clap accepts, those of
+/// a search with both or neither of a depth and a length and those with both `--hide` and `--only` fit no command; all
+/// others fail with [`CommandFault::Memory`] alone.
 pub fn request(alloc: Global, words: &[&str]) -> Result<Request, CommandFault>
     ensures is { IfOk result (λ r. RequestOf (texts_of words.now) (request_view r)) }
     ensures bounds { IfOk result HasBounds }
@@ -192,7 +193,7 @@ fn read_extent(alloc: Global, found: &ArgMatches<'_>) -> Result<Extent, CommandF
     }
 }
 
-/// The gates that the question is about. It is that of this subcommand.
+/// Which gates a question is about. `question` says of which subcommand it is, since a fault has its usage line.
 fn read_interface(
     alloc: Global,
     question: Question,
