@@ -100,7 +100,8 @@ fn accept_asked(
     interface: &Interface,
 ) -> Result<AcceptedText, Rejection>
     requires { length text.now ≤ max_text_length }
-    ensures accepted { IfOk result (λ asked_text. IsAskedOf interface.now text.now (system_of asked_text.system)) }
+    ensures accepted { IfOk result (λ asked_text.
+        IsAskedOf interface.now text.now (system_of asked_text.system)) }
     ensures refused { IfErr result (IsAskedRejection interface.now text.now) }
     ensures unread { is_input_failure result ≡ false }
 {

@@ -69,7 +69,7 @@ impl Read for Blanks {
     }
 }
 
-const ROOM: usize = 8192;
+const ROOM: usize = 16384;
 
 /// What a full writer does with more bytes.
 #[derive(Clone, Copy)]
@@ -85,17 +85,17 @@ pub struct ArrayWriter {
     len: usize,
     /// The most bytes that a write takes.
     pub piece: usize,
-    /// The number of bytes after which it is full; it is full after 8192 in any case.
+    /// The number of bytes after which it is full; it is full after 16384 in any case.
     pub most: usize,
     pub when_full: WhenFull,
     pub flush_fails: bool,
     /// The number of flushes so far.
     pub flushes: usize,
-    ghost within: { len ≤ 8192 },
+    ghost within: { len ≤ 16384 },
 }
 
 impl ArrayWriter {
-    /// An empty writer that is full after 8192 bytes.
+    /// An empty writer that is full after 16384 bytes.
     pub fn new(piece: usize) -> ArrayWriter {
         ArrayWriter {
             bytes: [0; ROOM],

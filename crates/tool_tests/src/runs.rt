@@ -16,10 +16,10 @@ pub struct Taken {
     pub flush_fails: bool,
 }
 
-/// A writer that takes 8192 bytes, up to 4096 in a write, and does not fail before.
+/// A writer that takes 16384 bytes, up to 4096 in a write, and does not fail before.
 pub const WHOLE: Taken = Taken {
     piece: 4096,
-    most: 8192,
+    most: 16384,
     when_full: WhenFull::Fails,
     flush_fails: false,
 };
