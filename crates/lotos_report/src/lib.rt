@@ -9,6 +9,7 @@
 mod hints;
 mod messages;
 mod name_hints;
+mod no_match;
 mod outcome;
 mod progress_report;
 mod refusal;
@@ -17,9 +18,10 @@ mod warning_lines;
 pub use hints::{WordCommand, hint_after_fault, hint_after_refusal};
 pub use messages::{
     Bounds, Messages, report_after_stop, report_ever_stop, report_failure, report_label,
-    report_no_match, report_refusal, report_stop, report_text,
+    report_refusal, report_stop, report_text,
 };
 pub use name_hints::{NameHint, NamePlaces, UnknownName, first_name_hint, warn_of_names};
+pub use no_match::report_no_match;
 pub use outcome::{AfterEnded, AfterWhy, Ended, EverEnded, EverWhy, Why};
 pub use progress_report::{ProgressReport, Visited};
 pub use refusal::Refusal;

@@ -46,18 +46,13 @@ pub fn report_failure<E: Write>(err: &mut E, why: &Why) {
     let _ = writeln!(err, "lotosseq: {}", CauseText { why, bounds });
 }
 
-/// Reports that there is no match of any length.
-pub fn report_no_match<E: Write>(err: &mut E) {
-    let _ = writeln!(err, "lotosseq: it happens at no depth");
-}
-
 /// Reports why a search for a match stopped. `states` is the bound on the product states.
 pub fn report_ever_stop<E: Write>(err: &mut E, why: &EverWhy, states: usize) {
     match why {
         EverWhy::TooManyStates => {
             let _ = writeln!(
                 err,
-                "lotosseq: stopped: more than {} states",
+                "lotosseq: stopped: more than {} states; --states N allows more, and a system that grows for ever has no end",
                 NumberText(states)
             );
         }

@@ -38,7 +38,7 @@ pub use lotos_command::{
     Request, SearchRequest, request,
 };
 pub use lotos_device::{DeviceFailed, FromRead, FromWrite, Sink, Source};
-pub use lotos_listing::{NoProgress, Progress};
+pub use lotos_listing::{NoProgress, Progress, Searched};
 pub use lotos_output::OutputProgress;
 pub use lotos_report::{
     AfterEnded, AfterWhy, Bounds, Ended, EverEnded, EverWhy, Messages, Refusal, Why,

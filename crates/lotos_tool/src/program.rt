@@ -14,11 +14,12 @@ use crate::cover_command::cover;
 use crate::diagnosis::diagnose;
 use crate::ever_command::ever;
 use crate::search_command::list;
-use crate::search_observer::{Observed, SearchObserver};
+use crate::search_observer::{Noted, Observed, SearchObserver};
 use lotos_command::{
     AfterRequest, CommandFault, CoverRequest, EverRequest, Request, SearchRequest, request,
 };
 use lotos_device::{DeviceFailed, Sink, Source};
+use lotos_listing::Searched;
 use lotos_output::write_and_flush;
 use lotos_report::{
     AfterEnded, AfterWhy, Bounds, Ended, EverEnded, EverWhy, Messages, Visited, Why, WordCommand,
@@ -88,7 +89,7 @@ fn run_search<R: Source, W: Sink, E: Write>(
     };
     let mut observer = SearchObserver::new(alloc, observed, messages);
     let ended = list(alloc, request, reader, out, &mut observer);
-    let hint = observer.finish();
+    let Noted { hint, .. } = observer.finish();
     let bounds = Bounds {
         terms: request.terms,
         states: 0,
@@ -121,8 +122,9 @@ fn run_ever<R: Source, W: Sink, E: Write>(
     ensures given { R.given reader.new ≤ R.given reader.old + (max_text_length + 1) }
     ensures output { W.has_failed out.new ≡ (result == 6) }
 {
+    let words = request.words.as_slice();
     let observed = Observed {
-        words: request.words.as_slice(),
+        words,
         interface: &request.interface,
         refuses_unknown: true,
         reports_progress: request.progress,
@@ -130,13 +132,19 @@ fn run_ever<R: Source, W: Sink, E: Write>(
     };
     let mut observer = SearchObserver::new(alloc, observed, messages);
     let ended = ever(alloc, request, reader, out, &mut observer);
-    let hint = observer.finish();
-    let status = report_ever(&ended, request.states, &mut messages.stream);
+    let Noted { hint, searched } = observer.finish();
+    let status = report_ever(
+        &ended,
+        &searched,
+        words,
+        request.states,
+        &mut messages.stream,
+    );
     hint_after_refusal(
         alloc,
         WordCommand::Ever,
         ended.refusal(),
-        request.words.as_slice(),
+        words,
         &hint,
         messages,
     );
@@ -169,7 +177,7 @@ fn run_after<R: Source, W: Sink, E: Write>(
     };
     let mut observer = SearchObserver::new(alloc, observed, messages);
     let ended = after(alloc, request, reader, out, &mut observer);
-    let hint = observer.finish();
+    let Noted { hint, .. } = observer.finish();
     let status = report_after(&ended, words, request.terms, &mut messages.stream);
     hint_after_refusal(
         alloc,
@@ -289,16 +297,23 @@ pub fn report_check<E: Write>(ended: &Ended, err: &mut E) -> u8
     }
 }
 
-/// Reports a search for a match unless a match was written, and returns its status. `states` is the bound on the
+/// Reports a search for a match unless a match was written, and returns its status. `searched` is how much was looked at
+/// if there is no match, as far as that is known, `words` are those of the pattern, and `states` is the bound on the
 /// product states.
-pub fn report_ever<E: Write>(ended: &EverEnded, states: usize, err: &mut E) -> u8
+pub fn report_ever<E: Write>(
+    ended: &EverEnded,
+    searched: &Option<Searched>,
+    words: &[String],
+    states: usize,
+    err: &mut E,
+) -> u8
     ensures status { result ≡ ever_status_of ended.now }
     ensures output { is_ever_output_fault ended.now ≡ (result == 6) }
 {
     match ended {
         EverEnded::Matched => 0,
         EverEnded::NoMatch => {
-            report_no_match(err);
+            report_no_match(err, searched, words);
             1
         }
         EverEnded::Refused(refusal) => {

@@ -3,7 +3,7 @@
 use crate::unknown_names::unknown_names;
 use lotos_check::AcceptedText;
 use lotos_command::Interface;
-use lotos_listing::Progress;
+use lotos_listing::{Progress, Searched};
 use lotos_output::OutputProgress;
 use lotos_report::{
     Messages, NameHint, NamePlaces, ProgressReport, Visited, first_name_hint, warn_of_names,
@@ -34,6 +34,17 @@ pub(crate) struct SearchObserver<'w, 'm, E> {
     progress: ProgressReport<'m, E>,
     /// What is to be said if a word is refused because it names no gate.
     hint: Option<NameHint>,
+    /// How much was looked at, if no match was found.
+    searched: Option<Searched>,
+}
+
+/// What an observer has noted.
+#[derive(Drop)]
+pub(crate) struct Noted {
+    /// What is to be said if a word is refused because it names no gate.
+    pub hint: Option<NameHint>,
+    /// How much was looked at, if no match was found.
+    pub searched: Option<Searched>,
 }
 
 impl<'w, 'm, E: Write> SearchObserver<'w, 'm, E> {
@@ -48,13 +59,17 @@ impl<'w, 'm, E: Write> SearchObserver<'w, 'm, E> {
             observed,
             progress: ProgressReport::new(messages, observed.visited),
             hint: None,
+            searched: None,
         }
     }
 
-    /// Clears the line that a terminal shows, and returns what is to be said after the message of a refused word.
-    pub fn finish(mut self) -> Option<NameHint> {
+    /// Clears the line that a terminal shows, and returns what was noted.
+    pub fn finish(mut self) -> Noted {
         self.progress.clear();
-        self.hint.take()
+        Noted {
+            hint: self.hint.take(),
+            searched: self.searched,
+        }
     }
 }
 
@@ -64,6 +79,10 @@ impl<E: Write> Progress for SearchObserver<'_, '_, E> {
         if self.observed.reports_progress {
             self.progress.visit(length);
         }
+    }
+
+    fn found_none(&mut self, searched: Searched) {
+        self.searched = Some(searched);
     }
 }
 

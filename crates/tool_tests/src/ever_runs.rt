@@ -2,8 +2,8 @@
 
 use super::expected_output::{expect_output, repeated, repeated_words};
 use super::runs::{
-    Outcome, RUN, Run, SINGLE, Taken, WHOLE, expect, expect_broken, expect_refused_words,
-    expect_unflushed, expect_unreadable,
+    Bytes, NEVER, Parts, RUN, Run, SINGLE, Taken, WHOLE, expect_broken, expect_parts,
+    expect_refused_words, expect_unflushed, expect_unreadable, expected_message,
 };
 use super::worked_texts::{LINK, MEETING, SERVER, VANISHING};
 use std::alloc::{AllocError, Global};
@@ -18,8 +18,6 @@ struct Row {
     message: &'static [u8],
     status: u8,
 }
-
-const NEVER: &[u8] = b"lotosseq: it happens at no depth\n";
 
 /// A buffer for one item: filled by `a` and emptied by `b`, forever.
 const BUFFER: &[u8] =
@@ -438,7 +436,7 @@ const FUTURES: &[Row] = &[
         text: SERVER,
         words: &["lotosseq", "ever", "--states=2", "<never> EXIT"],
         output: b"",
-        message: b"lotosseq: stopped: more than 2 states\n",
+        message: b"lotosseq: stopped: more than 2 states; --states N allows more, and a system that grows for ever has no end\n",
         status: 4,
     },
 ];
@@ -450,7 +448,7 @@ const BOUNDS: &[Row] = &[
         text: b"specification S [a,b] : noexit behaviour a; b; stop endspec",
         words: &["lotosseq", "ever", "--states", "1", "A", "B"],
         output: b"",
-        message: b"lotosseq: stopped: more than 1 states\n",
+        message: b"lotosseq: stopped: more than 1 states; --states N allows more, and a system that grows for ever has no end\n",
         status: 4,
     },
     Row {
@@ -466,7 +464,7 @@ const BOUNDS: &[Row] = &[
         text: b"specification S [a] : noexit behaviour P[a] where process P [x] : noexit := x; (P[x] ||| P[x]) endproc endspec",
         words: &["lotosseq", "ever", "--states=20", "<until>", "<deadlock>"],
         output: b"",
-        message: b"lotosseq: stopped: more than 20 states\n",
+        message: b"lotosseq: stopped: more than 20 states; --states N allows more, and a system that grows for ever has no end\n",
         status: 4,
     },
 ];
@@ -552,13 +550,14 @@ fn expect_row(rt: &impl Abort, alloc: Global, row: &Row) {
         message: Taken { piece: 5, ..WHOLE },
         ..RUN
     };
-    let outcome = Outcome {
-        output: row.output,
-        message: row.message,
+    let parts = Parts {
+        output: Bytes::Are(row.output),
+        message: expected_message(row.message),
         status: row.status,
-        flushes: usize::from(row.status < 2),
+        reads: None,
+        flushes: Some(usize::from(row.status < 2)),
     };
-    expect(rt, alloc, &run, &outcome);
+    expect_parts(rt, alloc, &run, &parts);
 }
 
 fn expect_rows(rt: &impl Abort, alloc: Global, rows: &[Row]) {

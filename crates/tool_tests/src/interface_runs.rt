@@ -1,6 +1,8 @@
 //! Questions about one interface of a specification: the output, the message, and the status.
 
-use super::runs::{Outcome, RUN, Run, expect, expect_refused_words};
+use super::runs::{
+    Bytes, NEVER, Parts, RUN, Run, expect_parts, expect_refused_words, expected_message,
+};
 use super::worked_texts::{LINK, MEETING, SERVER, TURNS};
 use std::alloc::Global;
 use std::process::Abort;
@@ -22,7 +24,7 @@ const MATCHES: &[Row] = &[
         text: TURNS,
         words: &["lotosseq", "ever", "<while>", "<any>", "WIN", "RIN"],
         output: b"",
-        message: b"lotosseq: it happens at no depth\n",
+        message: NEVER,
         status: 1,
     },
     Row {
@@ -66,7 +68,7 @@ const MATCHES: &[Row] = &[
             "lotosseq", "ever", "--hide", "BELL", "<while>", "<any>", "RIN", "WOUT",
         ],
         output: b"",
-        message: b"lotosseq: it happens at no depth\n",
+        message: NEVER,
         status: 1,
     },
     Row {
@@ -111,7 +113,7 @@ const MATCHES: &[Row] = &[
             "lotosseq", "ever", "--strong", "--hide", "BELL", "<while>", "<any>", "WIN", "RIN",
         ],
         output: b"",
-        message: b"lotosseq: it happens at no depth\n",
+        message: NEVER,
         status: 1,
     },
     Row {
@@ -144,7 +146,7 @@ const MATCHES: &[Row] = &[
             "<livelock>",
         ],
         output: b"",
-        message: b"lotosseq: it happens at no depth\n",
+        message: NEVER,
         status: 1,
     },
     Row {
@@ -168,7 +170,7 @@ const MATCHES: &[Row] = &[
         text: SERVER,
         words: &["lotosseq", "ever", "--hide", "REQ,RSP,NAK", "<any>"],
         output: b"",
-        message: b"lotosseq: it happens at no depth\n",
+        message: NEVER,
         status: 1,
     },
 ];
@@ -624,13 +626,14 @@ fn expect_rows(rt: &impl Abort, alloc: Global, rows: &[Row]) {
             text: row.text,
             ..RUN
         };
-        let outcome = Outcome {
-            output: row.output,
-            message: row.message,
+        let parts = Parts {
+            output: Bytes::Are(row.output),
+            message: expected_message(row.message),
             status: row.status,
-            flushes: flushes_of(row),
+            reads: None,
+            flushes: Some(flushes_of(row)),
         };
-        expect(rt, alloc, &run, &outcome);
+        expect_parts(rt, alloc, &run, &parts);
     }
 }
 

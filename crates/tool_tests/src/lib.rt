@@ -44,6 +44,8 @@ mod message_numbers;
 #[cfg(test)]
 mod message_texts;
 #[cfg(test)]
+mod never_runs;
+#[cfg(test)]
 mod output_failures;
 #[cfg(test)]
 mod program_run;

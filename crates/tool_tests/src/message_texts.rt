@@ -164,10 +164,11 @@ fn checks(rt: HostRuntime) {
     expect_check(&rt, memory, b"lotosseq: E99 out of memory\n", 5);
 }
 
-/// Expects what a search for a match reports that ended so, with 300 as the bound on the states.
+/// Expects what a search for a match reports that ended so, with 300 as the bound on the states, if it is not known how
+/// much was looked at.
 fn expect_ever(rt: &impl Abort, ended: EverEnded, message: &[u8], status: u8) {
     let mut err = ArrayWriter::new(4096);
-    let found = report_ever(&ended, 300, &mut err);
+    let found = report_ever(&ended, &None, &[], 300, &mut err);
     expect_report(rt, &err, message, found, status);
 }
 
@@ -175,7 +176,7 @@ fn expect_ever(rt: &impl Abort, ended: EverEnded, message: &[u8], status: u8) {
 const EVER_STOPS: &[(EverWhy, &[u8], u8)] = &[
     (
         EverWhy::TooManyStates,
-        b"lotosseq: stopped: more than 300 states\n",
+        b"lotosseq: stopped: more than 300 states; --states N allows more, and a system that grows for ever has no end\n",
         4,
     ),
     (EverWhy::Memory, b"lotosseq: E99 out of memory\n", 5),

@@ -152,8 +152,8 @@ fn a_search_without_a_match_reports_states(rt: HostRuntime) -> Result<(), AllocE
         text.as_slice(),
         false,
         (
-            b"lotosseq: 44 steps, 1024 states\nlotosseq: 68 steps, 2048 states\nlotosseq: it happens at no depth\n",
-            b"\rlotosseq: 44 steps, 1024 states\rlotosseq: 68 steps, 2048 states\r\x1b[Klotosseq: it happens at no depth\n",
+            b"lotosseq: 44 steps, 1024 states\nlotosseq: 68 steps, 2048 states\nlotosseq: it happens at no depth; 2601 states; word 1 cannot be matched\n",
+            b"\rlotosseq: 44 steps, 1024 states\rlotosseq: 68 steps, 2048 states\r\x1b[Klotosseq: it happens at no depth; 2601 states; word 1 cannot be matched\n",
             1,
         ),
     );

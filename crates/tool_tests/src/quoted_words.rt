@@ -1,6 +1,8 @@
 //! Complete runs in which a word of the command line holds several words of the pattern.
 
-use super::runs::{Outcome, RUN, Run, expect, expect_refused_words};
+use super::runs::{
+    Bytes, NEVER, Parts, RUN, Run, expect_parts, expect_refused_words, expected_message,
+};
 use std::alloc::Global;
 use std::process::Abort;
 
@@ -13,8 +15,6 @@ struct Row {
     message: &'static [u8],
     status: u8,
 }
-
-const NEVER: &[u8] = b"lotosseq: it happens at no depth\n";
 
 /// A reader that comes in while the writer is in: a bell between them, forever.
 const BELL: &[u8] =
@@ -120,13 +120,14 @@ fn expect_rows(rt: &impl Abort, alloc: Global, rows: &[Row]) {
             text: row.text,
             ..RUN
         };
-        let outcome = Outcome {
-            output: row.output,
-            message: row.message,
+        let parts = Parts {
+            output: Bytes::Are(row.output),
+            message: expected_message(row.message),
             status: row.status,
-            flushes: usize::from(row.status != 2),
+            reads: None,
+            flushes: Some(usize::from(row.status != 2)),
         };
-        expect(rt, alloc, &run, &outcome);
+        expect_parts(rt, alloc, &run, &parts);
     }
 }
 

@@ -1,0 +1,92 @@
+//! What is said where a search for a match has found none. Write errors are ignored.
+
+use crate::messages::NumberText;
+use lotos_listing::Searched;
+use std::fmt;
+use std::io::Write;
+
+/// The words that are no element by themselves: each belongs to the word after it.
+const FRONT_WORDS: [&str; 6] = [
+    "<not>",
+    "<until>",
+    "<while>",
+    "<refuses>",
+    "<forever>",
+    "<never>",
+];
+
+/// Reports that there is no match of any length. If it is known how much was looked at, that is said too: how many
+/// states there are, and how far the pattern can be matched, whose words these are.
+pub fn report_no_match<E: Write>(err: &mut E, searched: &Option<Searched>, words: &[String]) {
+    let _ = match searched {
+        None => writeln!(err, "lotosseq: it happens at no depth"),
+        Some(searched) => {
+            let searched = *searched;
+            writeln!(
+                err,
+                "lotosseq: it happens at no depth; {}",
+                SearchedText { searched, words }
+            )
+        }
+    };
+}
+
+/// How much was looked at, in words.
+#[derive(Drop)]
+struct SearchedText<'a> {
+    searched: Searched,
+    words: &'a [String],
+}
+
+impl fmt::Display for SearchedText<'_> {
+    fn fmt<W: fmt::Write>(&self, f: &mut fmt::Formatter<W>) -> fmt::Result {
+        if self.searched.states == 1 {
+            f.write_str("1 state")?;
+        } else {
+            write!(f, "{} states", NumberText(self.searched.states))?;
+        }
+        if self.searched.is_stuck {
+            return f.write_str(
+                "; nothing can be matched, since the specification is in a deadlock from the start",
+            );
+        }
+        let before = words_before(self.words, self.searched.elements);
+        let (last, wanted) = (NumberText(before), NumberText(before.saturating_add(1)));
+        match before {
+            0 => write!(f, "; word {wanted} cannot be matched"),
+            1 => write!(
+                f,
+                "; word {last} can be matched, and then nothing that word {wanted} wants"
+            ),
+            _ => write!(
+                f,
+                "; words 1 to {last} can be matched, and then nothing that word {wanted} wants"
+            ),
+        }
+    }
+}
+
+/// The number of words before the element that cannot be matched, where the first `done` elements can: the words of
+/// these, or all before the last element if there are no more.
+fn words_before(words: &[String], done: usize) -> usize {
+    let mut elements: usize = 0;
+    let mut start = 0;
+    let mut is_inside = false;
+    for (number, word) in words.iter().enumerate() {
+        if !is_inside {
+            start = number;
+            if elements == done {
+                return start;
+            }
+            elements = elements.saturating_add(1);
+        }
+        is_inside = is_front_word(word.as_str());
+    }
+    start
+}
+
+fn is_front_word(word: &str) -> bool {
+    FRONT_WORDS
+        .iter()
+        .any(|front| word.eq_ignore_ascii_case(front))
+}
