@@ -4,18 +4,32 @@ use crate::messages::PositionText;
 use lotos_warn::Warning;
 use std::io::Write;
 
-/// Writes a line for each warning about the text. The warnings are in the order of their offsets, so the text is read
-/// once.
+/// How many warnings are written.
+const MOST: usize = 1000;
+
+/// Writes a line for each of the first warnings about the text, and one that says how many more there are. The warnings
+/// are in the order of their offsets, so the text is read once.
 pub fn write_warnings<E: Write>(err: &mut E, text: &[u8], warnings: &[Warning]) {
     let mut position = Position {
         at: 0,
         line: 1,
         column: 1,
     };
-    for warning in warnings {
+    let written = warnings.len().min(MOST);
+    for warning in &warnings[..written] {
         position = position.moved(text, warning.at());
         let position_text = PositionText(Some((position.line, position.column)));
         let _ = writeln!(err, "lotosseq: {position_text}warning: {warning}");
+    }
+    write_left_out(err, warnings.len() - written);
+}
+
+/// Writes how many warnings are left out, if any are.
+fn write_left_out<E: Write>(err: &mut E, count: usize) {
+    if count == 1 {
+        let _ = writeln!(err, "1 more warning is not written.");
+    } else if count > 1 {
+        let _ = writeln!(err, "{count} more warnings are not written.");
     }
 }
 

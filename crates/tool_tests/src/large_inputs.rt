@@ -2,4 +2,5 @@
 //! than 65,535 terms and states are the stored runs of `status_zero` and `status_one`.
 
 mod lines_and_runs;
+mod many_warnings;
 mod processes;

@@ -1,0 +1,79 @@
+//! Specifications with more warnings than are written.
+
+use super::super::runs::{Outcome, RUN, Run, Taken, WHOLE, expect};
+use std::alloc::{AllocError, Global};
+use std::process::Abort;
+
+const WARN: &[&str] = &["lotosseq", "check", "--warn"];
+
+/// A specification that does not use its gates, named `A1`, `A2` and so on, each of which is on the line after its
+/// number.
+fn unused_gates(alloc: Global, count: usize) -> Result<String, AllocError> {
+    let mut text = String::from_str(alloc, "specification S [")?;
+    for number in 1..=count {
+        if number > 1 {
+            text.push_str(",")?;
+        }
+        text.push_str(format!(in alloc; "\na{number}")?.as_str())?;
+    }
+    text.push_str("] : noexit behaviour stop endspec")?;
+    Ok(text)
+}
+
+/// The warnings about the first of these gates, and then the last line.
+fn lines(alloc: Global, count: usize, last: &str) -> Result<String, AllocError> {
+    let mut lines = String::new(alloc);
+    for number in 1..=count {
+        let line = number + 1;
+        lines.push_str(format!(in alloc;
+            "lotosseq: {line}:1: warning: gate A{number} of S is not used\n"
+        )?.as_str())?;
+    }
+    lines.push_str(last)?;
+    Ok(lines)
+}
+
+/// How many gates, how many warnings are written, and the last line.
+const ROWS: &[(usize, usize, &str)] = &[
+    (1000, 1000, ""),
+    (1001, 1000, "1 more warning is not written.\n"),
+    (1002, 1000, "2 more warnings are not written.\n"),
+    (4214, 1000, "3214 more warnings are not written.\n"),
+];
+
+fn expect_row(
+    rt: &impl Abort,
+    alloc: Global,
+    gates: usize,
+    written: usize,
+    last: &str,
+) -> Result<(), AllocError> {
+    let text = unused_gates(alloc, gates)?;
+    let message = lines(alloc, written, last)?;
+    let run = Run {
+        name: last,
+        words: WARN,
+        text: text.as_bytes(),
+        message: Taken {
+            most: 65536,
+            ..WHOLE
+        },
+        ..RUN
+    };
+    let outcome = Outcome {
+        output: b"",
+        message: message.as_bytes(),
+        status: 0,
+        flushes: 1,
+    };
+    expect(rt, alloc, &run, &outcome);
+    Ok(())
+}
+
+#[test]
+fn at_most_a_thousand_warnings(rt: HostRuntime) -> Result<(), AllocError> {
+    for (gates, written, last) in ROWS {
+        expect_row(&rt, rt.alloc(), *gates, *written, *last)?;
+    }
+    Ok(())
+}
