@@ -270,7 +270,7 @@ const REACHED_PROCESSES: &[Row] = &[
     (
         "after a behaviour that never terminates",
         "specification S : noexit behaviour P >> Q where process P : exit := i; P endproc process Q : noexit := i; Q endproc endspec",
-        "",
+        "56 P is declared exit, but can never terminate\n",
     ),
     (
         "reached under each operator of a process",
@@ -305,6 +305,139 @@ const LONG_NAMES: &[Row] = &[
         "a specification with a name of 64 bytes",
         "specification p012345678901234567890123456789012345678901234567890123456789123 [a] : noexit behaviour stop endspec",
         "80 gate A of P012345678901234567890123456789012345678901234567890123456789123 is not used\n",
+    ),
+];
+
+/// Definitions that are declared `exit`, and that may terminate or never do.
+const TERMINATION: &[Row] = &[
+    (
+        "a process that calls itself after an action",
+        "specification S [a] : noexit behaviour P[a] >> stop where process P [a] : exit := a; P[a] endproc endspec",
+        "66 P is declared exit, but can never terminate\n",
+    ),
+    (
+        "a process that may also exit",
+        "specification S [a] : noexit behaviour P[a] >> stop where process P [a] : exit := a; P[a] [] exit endproc endspec",
+        "",
+    ),
+    (
+        "a specification that calls it",
+        "specification S : exit behaviour P where process P : exit := i; P endproc endspec",
+        "14 S is declared exit, but can never terminate\n49 P is declared exit, but can never terminate\n",
+    ),
+    (
+        "a specification that exits",
+        "specification S : exit behaviour i; exit endspec",
+        "",
+    ),
+    (
+        "a specification that is declared noexit",
+        "specification S : noexit behaviour i; stop endspec",
+        "",
+    ),
+    (
+        "two processes that call each other",
+        "specification S : exit behaviour P where process P : exit := i; Q endproc process Q : exit := i; P endproc endspec",
+        "14 S is declared exit, but can never terminate\n49 P is declared exit, but can never terminate\n82 Q is declared exit, but can never terminate\n",
+    ),
+    (
+        "two processes that call each other, one of which may exit",
+        "specification S : exit behaviour P where process P : exit := i; Q endproc process Q : exit := i; P [] i; exit endproc endspec",
+        "",
+    ),
+    (
+        "processes that each call the next one, the last of which exits",
+        "specification S : exit behaviour P where process P : exit := i; Q endproc process Q : exit := i; R endproc process R : exit := exit endproc endspec",
+        "",
+    ),
+    (
+        "one side of a choice",
+        "specification S : exit behaviour P [] exit where process P : exit := i; P endproc endspec",
+        "57 P is declared exit, but can never terminate\n",
+    ),
+    (
+        "the other side of a choice",
+        "specification S : exit behaviour exit [] P where process P : exit := i; P endproc endspec",
+        "57 P is declared exit, but can never terminate\n",
+    ),
+    (
+        "one side of a parallel composition",
+        "specification S : exit behaviour exit ||| P where process P : exit := i; P endproc endspec",
+        "14 S is declared exit, but can never terminate\n58 P is declared exit, but can never terminate\n",
+    ),
+    (
+        "the other side of a parallel composition",
+        "specification S : exit behaviour P ||| exit where process P : exit := i; P endproc endspec",
+        "14 S is declared exit, but can never terminate\n58 P is declared exit, but can never terminate\n",
+    ),
+];
+
+/// The same under the other operators, and with other warnings.
+const TERMINATION_OF_PARTS: &[Row] = &[
+    (
+        "both sides of a parallel composition",
+        "specification S : exit behaviour exit || i; exit endspec",
+        "",
+    ),
+    (
+        "the left side of `>>`",
+        "specification S : exit behaviour P >> exit where process P : exit := i; P endproc endspec",
+        "14 S is declared exit, but can never terminate\n57 P is declared exit, but can never terminate\n",
+    ),
+    (
+        "the right side of `>>`",
+        "specification S : exit behaviour exit >> P where process P : exit := i; P endproc endspec",
+        "14 S is declared exit, but can never terminate\n57 P is declared exit, but can never terminate\n",
+    ),
+    (
+        "both sides of `>>`",
+        "specification S : exit behaviour exit >> i; exit endspec",
+        "",
+    ),
+    (
+        "the left side of `[>`",
+        "specification S : exit behaviour P [> exit where process P : exit := i; P endproc endspec",
+        "57 P is declared exit, but can never terminate\n",
+    ),
+    (
+        "the right side of `[>`",
+        "specification S : exit behaviour exit [> P where process P : exit := i; P endproc endspec",
+        "57 P is declared exit, but can never terminate\n",
+    ),
+    (
+        "inside a hiding",
+        "specification S : exit behaviour hide a in a; P where process P : exit := i; P endproc endspec",
+        "14 S is declared exit, but can never terminate\n62 P is declared exit, but can never terminate\n",
+    ),
+    (
+        "an exit inside a hiding",
+        "specification S : exit behaviour hide a in a; exit endspec",
+        "",
+    ),
+    (
+        "a process that is not reached either",
+        "specification S : noexit behaviour stop where process P : exit := i; P endproc endspec",
+        "54 process P is never reached from the behaviour of the specification\n54 P is declared exit, but can never terminate\n",
+    ),
+    (
+        "a process that is not called either",
+        "specification S : noexit behaviour stop where process Q : exit := P where process P : exit := i; P endproc endproc endspec",
+        "54 process Q is never called\n54 Q is declared exit, but can never terminate\n82 process P is never reached from the behaviour of the specification\n82 P is declared exit, but can never terminate\n",
+    ),
+    (
+        "of two processes of one name the inner one is called, which never terminates",
+        "specification S : exit behaviour Q where process P : exit := exit endproc process Q : exit := P where process P : exit := i; P endproc endproc endspec",
+        "14 S is declared exit, but can never terminate\n49 process P is never called\n82 Q is declared exit, but can never terminate\n110 P is declared exit, but can never terminate\n",
+    ),
+    (
+        "of two processes of one name the inner one is called, which terminates",
+        "specification S : exit behaviour Q where process P : exit := i; P endproc process Q : exit := P where process P : exit := exit endproc endproc endspec",
+        "49 process P is never reached from the behaviour of the specification\n49 P is declared exit, but can never terminate\n",
+    ),
+    (
+        "a long name",
+        "specification S : exit behaviour exit [] p0123456789012345678901234567890123456789012345678901234567891234 where process p0123456789012345678901234567890123456789012345678901234567891234 : exit := i; p0123456789012345678901234567890123456789012345678901234567891234 endproc endspec",
+        "121 P012345678901234567890123456789012345678901234567890123456789123... is declared exit, but can never terminate\n",
     ),
 ];
 
@@ -396,6 +529,16 @@ fn warns_about_processes_that_are_not_reached(rt: HostRuntime) -> Result<(), Fai
 #[test]
 fn cuts_names_that_are_long(rt: HostRuntime) -> Result<(), Fail> {
     Ok(assert_rows(&rt, rt.alloc(), LONG_NAMES)?)
+}
+
+#[test]
+fn warns_about_definitions_that_never_terminate(rt: HostRuntime) -> Result<(), Fail> {
+    Ok(assert_rows(&rt, rt.alloc(), TERMINATION)?)
+}
+
+#[test]
+fn warns_about_parts_that_never_terminate(rt: HostRuntime) -> Result<(), Fail> {
+    Ok(assert_rows(&rt, rt.alloc(), TERMINATION_OF_PARTS)?)
 }
 
 /// A piece of text with each of the numbers after it, the pieces separated.

@@ -1,20 +1,22 @@
 -- The warnings about definitions, one after the other.
-use Rattle.std.proofs.Common.{◌≡◌, ◌↔◌, ◌⊎◌, ℕ, ◌+◌, ◌<◌, suc, List, [], ◌∷◌, map, length, drop, get_or, refl, sym, subst, inl, inr, arith}
-use Rattle.lotos_text.specs.AstView.{DefinitionView, name_of, formals_of, body_of}
+use Rattle.std.proofs.Common.{◌≡◌, ◌↔◌, ◌⊎◌, ℕ, ◌+◌, ◌<◌, suc, List, [], ◌∷◌, map, length, drop, get_or, refl, sym, ◌∙◌, subst, inl, inr, Bool, true, false, arith}
+use Rattle.lotos_text.specs.AstView.{DefinitionView, name_of, formals_of, declared_of, body_of}
 use Rattle.lotos_text.specs.declared.ast.Placed.{Placed}
+use Rattle.lotos_text.specs.declared.ast.Functionality.TheVariants.{Exit, NoExit}
 use Rattle.lotos_check.specs.NameLists.{Name, In}
 use Rattle.lotos_check.proofs.Pairs.{drop_at}
 use Rattle.lotos_warn.specs.declared.warning.Warning.{Warning}
-use Rattle.lotos_warn.specs.declared.warning.Warning.TheVariants.{UncalledProcess, UnreachedProcess, UnusedGate, UnofferedGate}
+use Rattle.lotos_warn.specs.declared.warning.Warning.TheVariants.{UncalledProcess, UnreachedProcess, NeverExits, UnusedGate, UnofferedGate}
 use Rattle.lotos_warn.specs.ShownNames.{shown_name}
 use Rattle.lotos_warn.specs.Warnings.{UsesFree}
-use Rattle.lotos_warn.specs.Additions.{IsUnusedAmong, IsUnusedIn, IsGateWarning, IsGateWarningOfAny, IsUncalledAt, IsUnreachedAt, IsProcessWarning, IsProcessWarningOfAny}
+use Rattle.lotos_warn.specs.Additions.{IsUnusedAmong, IsUnusedIn, IsGateWarning, IsGateWarningOfAny, IsUncalledAt, IsUnreachedAt, IsEndlessAt, IsEndlessWhole, IsProcessWarning, IsProcessWarningOfAny}
 
 -- an unused gate of a list is the first, or one of the others
 pub unused_split : (used : List Name) (name : Name) (g : Placed) (gs : List Placed) (w : Warning) →
     IsUnusedAmong used name (g ∷ gs) w ↔ (IsUnusedAmong used name (g ∷ []) w ⊎ IsUnusedAmong used name gs w)
 unused_split used name g gs (UncalledProcess p) = ((λ h. absurd h), (λ h. elim h [ inl i ↦ i | inr i ↦ i ]))
 unused_split used name g gs (UnreachedProcess p) = ((λ h. absurd h), (λ h. elim h [ inl i ↦ i | inr i ↦ i ]))
+unused_split used name g gs (NeverExits p) = ((λ h. absurd h), (λ h. elim h [ inl i ↦ i | inr i ↦ i ]))
 unused_split used name g gs (UnofferedGate p s) = ((λ h. absurd h), (λ h. elim h [ inl i ↦ i | inr i ↦ i ]))
 unused_split used name g gs (UnusedGate gate d) = (
   (λ h. elim h.0 [ inl e ↦ inl (inl e, h.1, h.2) | inr i ↦ inr (i, h.1, h.2) ]),
@@ -27,6 +29,7 @@ unused_split used name g gs (UnusedGate gate d) = (
 pub unused_none : (used : List Name) (name : Name) (w : Warning) → IsUnusedAmong used name [] w → ⊥
 unused_none used name (UncalledProcess p) h = h
 unused_none used name (UnreachedProcess p) h = h
+unused_none used name (NeverExits p) h = h
 unused_none used name (UnofferedGate p s) h = h
 unused_none used name (UnusedGate gate d) h = h.0
 
@@ -35,6 +38,7 @@ pub unused_one : (used : List Name) (name : Name) (gate : Placed) → (In gate.n
     (UnusedGate gate (shown_name name) ≡ w) ↔ IsUnusedAmong used name (gate ∷ []) w
 unused_one used name gate none (UncalledProcess p) = ((λ e. cc), (λ h. absurd h))
 unused_one used name gate none (UnreachedProcess p) = ((λ e. cc), (λ h. absurd h))
+unused_one used name gate none (NeverExits p) = ((λ e. cc), (λ h. absurd h))
 unused_one used name gate none (UnofferedGate p s) = ((λ e. cc), (λ h. absurd h))
 unused_one used name gate none (UnusedGate other d) = (
   (λ e. let same : gate ≡ other = cc in let named : d ≡ shown_name name = cc in (inl same, named, subst (λ g. In g.name used → ⊥) same none)),
@@ -45,6 +49,7 @@ unused_one used name gate none (UnusedGate other d) = (
 pub unused_never : (used : List Name) (name : Name) (gate : Placed) → In gate.name used → (w : Warning) → IsUnusedAmong used name (gate ∷ []) w → ⊥
 unused_never used name gate some (UncalledProcess p) h = h
 unused_never used name gate some (UnreachedProcess p) h = h
+unused_never used name gate some (NeverExits p) h = h
 unused_never used name gate some (UnofferedGate p s) h = h
 unused_never used name gate some (UnusedGate other d) h = elim h.0 [ inl same ↦ h.2 (subst (λ g. In g.name used) same some) | inr i ↦ i ]
 
@@ -53,6 +58,7 @@ pub unused_in : (d : DefinitionView) (used : List Name) → ((n : Name) → In n
     IsUnusedAmong used (name_of d).name (formals_of d) w ↔ IsUnusedIn d w
 unused_in d used same (UncalledProcess p) = ((λ h. h), (λ h. h))
 unused_in d used same (UnreachedProcess p) = ((λ h. h), (λ h. h))
+unused_in d used same (NeverExits p) = ((λ h. h), (λ h. h))
 unused_in d used same (UnofferedGate p s) = ((λ h. h), (λ h. h))
 unused_in d used same (UnusedGate gate name) = (
   (λ h. (h.0, h.1, (λ u. h.2 ((same gate.name).1 u)))),
@@ -71,6 +77,7 @@ pub uncalled_one : (called : List ℕ) (number : ℕ) (d : DefinitionView) → (
     (UncalledProcess (name_of d) ≡ w) ↔ IsUncalledAt called number d w
 uncalled_one called number d none (UncalledProcess p) = ((λ e. ((let named : p ≡ name_of d = cc in named), none)), (λ h. let named = h.0 in cc))
 uncalled_one called number d none (UnreachedProcess p) = ((λ e. cc), (λ h. absurd h))
+uncalled_one called number d none (NeverExits p) = ((λ e. cc), (λ h. absurd h))
 uncalled_one called number d none (UnusedGate gate name) = ((λ e. cc), (λ h. absurd h))
 uncalled_one called number d none (UnofferedGate gate side) = ((λ e. cc), (λ h. absurd h))
 
@@ -78,6 +85,7 @@ uncalled_one called number d none (UnofferedGate gate side) = ((λ e. cc), (λ h
 pub uncalled_never : (called : List ℕ) (number : ℕ) (d : DefinitionView) → In number called → (w : Warning) → IsUncalledAt called number d w → ⊥
 uncalled_never called number d some (UncalledProcess p) h = h.1 some
 uncalled_never called number d some (UnreachedProcess p) h = h
+uncalled_never called number d some (NeverExits p) h = h
 uncalled_never called number d some (UnusedGate gate name) h = h
 uncalled_never called number d some (UnofferedGate gate side) h = h
 
@@ -89,6 +97,7 @@ unreached_one called reached number d here (UnreachedProcess p) = (
   (λ e. ((let named : p ≡ name_of d = cc in named), here.0, here.1)),
   (λ h. let named = h.0 in cc),
 )
+unreached_one called reached number d here (NeverExits p) = ((λ e. cc), (λ h. absurd h))
 unreached_one called reached number d here (UnusedGate gate name) = ((λ e. cc), (λ h. absurd h))
 unreached_one called reached number d here (UnofferedGate gate side) = ((λ e. cc), (λ h. absurd h))
 
@@ -97,24 +106,72 @@ pub unreached_never : (called reached : List ℕ) (number : ℕ) (d : Definition
     IsUnreachedAt called reached number d w → ⊥
 unreached_never called reached number d other (UncalledProcess p) h = h
 unreached_never called reached number d other (UnreachedProcess p) h = elim other [ inl none ↦ none h.1 | inr some ↦ h.2 some ]
+unreached_never called reached number d other (NeverExits p) h = h
 unreached_never called reached number d other (UnusedGate gate name) h = h
 unreached_never called reached number d other (UnofferedGate gate side) h = h
 
+-- the warning about a process that is declared exit and not one that exits
+pub endless_one : (exiting : List ℕ) (number : ℕ) (d : DefinitionView) → declared_of d ≡ Exit → (In number exiting → ⊥) → (w : Warning) →
+    (NeverExits (name_of d) ≡ w) ↔ IsEndlessAt exiting number d w
+endless_one exiting number d declared none (UncalledProcess p) = ((λ e. cc), (λ h. absurd h))
+endless_one exiting number d declared none (UnreachedProcess p) = ((λ e. cc), (λ h. absurd h))
+endless_one exiting number d declared none (NeverExits p) = (
+  (λ e. ((let named : p ≡ name_of d = cc in named), declared, none)),
+  (λ h. let named = h.0 in cc),
+)
+endless_one exiting number d declared none (UnusedGate gate name) = ((λ e. cc), (λ h. absurd h))
+endless_one exiting number d declared none (UnofferedGate gate side) = ((λ e. cc), (λ h. absurd h))
+
+-- none about one that is declared otherwise, or that exits
+pub endless_never : (exiting : List ℕ) (number : ℕ) (d : DefinitionView) → (declared_of d ≡ NoExit) ⊎ In number exiting → (w : Warning) →
+    IsEndlessAt exiting number d w → ⊥
+endless_never exiting number d other (UncalledProcess p) h = h
+endless_never exiting number d other (UnreachedProcess p) h = h
+endless_never exiting number d other (NeverExits p) h = elim other [
+  | inl declared ↦ (let e : Exit ≡ NoExit = sym h.1 ∙ declared in cc)
+  | inr some ↦ h.2 some
+]
+endless_never exiting number d other (UnusedGate gate name) h = h
+endless_never exiting number d other (UnofferedGate gate side) h = h
+
+-- the same of the specification
+pub endless_whole : (exits : Bool) (d : DefinitionView) → declared_of d ≡ Exit → exits ≡ false → (w : Warning) →
+    (NeverExits (name_of d) ≡ w) ↔ IsEndlessWhole exits d w
+endless_whole exits d declared none (UncalledProcess p) = ((λ e. cc), (λ h. absurd h))
+endless_whole exits d declared none (UnreachedProcess p) = ((λ e. cc), (λ h. absurd h))
+endless_whole exits d declared none (NeverExits p) = (
+  (λ e. ((let named : p ≡ name_of d = cc in named), declared, none)),
+  (λ h. let named = h.0 in cc),
+)
+endless_whole exits d declared none (UnusedGate gate name) = ((λ e. cc), (λ h. absurd h))
+endless_whole exits d declared none (UnofferedGate gate side) = ((λ e. cc), (λ h. absurd h))
+
+pub endless_whole_never : (exits : Bool) (d : DefinitionView) → (declared_of d ≡ NoExit) ⊎ (exits ≡ true) → (w : Warning) → IsEndlessWhole exits d w → ⊥
+endless_whole_never exits d other (UncalledProcess p) h = h
+endless_whole_never exits d other (UnreachedProcess p) h = h
+endless_whole_never exits d other (NeverExits p) h = elim other [
+  | inl declared ↦ (let e : Exit ≡ NoExit = sym h.1 ∙ declared in cc)
+  | inr some ↦ (let e : true ≡ false = sym some ∙ h.2 in cc)
+]
+endless_whole_never exits d other (UnusedGate gate name) h = h
+endless_whole_never exits d other (UnofferedGate gate side) h = h
+
 -- of the processes from a number on, one that has a warning is the first, or one of the others
-pub process_next : {K : Type 0} (view : K → DefinitionView) (called reached : List ℕ) (ps : List K) (n : ℕ) (d y : K) →
+pub process_next : {K : Type 0} (view : K → DefinitionView) (called reached exiting : List ℕ) (ps : List K) (n : ℕ) (d y : K) →
     n < length ps → y ≡ get_or ps n d → (w : Warning) →
-    IsProcessWarningOfAny called reached n (map view (drop n ps)) w
-    ↔ (IsProcessWarning called reached n (view y) w ⊎ IsProcessWarningOfAny called reached (n + 1) (map view (drop (n + 1) ps)) w)
-process_next view called reached ps n d y within at w =
+    IsProcessWarningOfAny called reached exiting n (map view (drop n ps)) w
+    ↔ (IsProcessWarning called reached exiting n (view y) w ⊎ IsProcessWarningOfAny called reached exiting (n + 1) (map view (drop (n + 1) ps)) w)
+process_next view called reached exiting ps n d y within at w =
     let next = drop_at ps n d y within at in
     let step : suc n ≡ n + 1 = omega arith in
-    let first = IsProcessWarning called reached n (view y) w in
+    let first = IsProcessWarning called reached exiting n (view y) w in
     let rest = map view (drop (n + 1) ps) in
-    subst (λ xs. IsProcessWarningOfAny called reached n (map view xs) w ↔ (first ⊎ IsProcessWarningOfAny called reached (n + 1) rest w)) (sym next)
-    (subst (λ m. (first ⊎ IsProcessWarningOfAny called reached (suc n) rest w) ↔ (first ⊎ IsProcessWarningOfAny called reached m rest w)) step
+    subst (λ xs. IsProcessWarningOfAny called reached exiting n (map view xs) w ↔ (first ⊎ IsProcessWarningOfAny called reached exiting (n + 1) rest w))
+    (sym next)
+    (subst (λ m. (first ⊎ IsProcessWarningOfAny called reached exiting (suc n) rest w) ↔ (first ⊎ IsProcessWarningOfAny called reached exiting m rest w)) step
     ((λ h. h), (λ h. h)))
 
 -- there is none after the last
-pub process_end : {K : Type 0} (view : K → DefinitionView) (called reached : List ℕ) (n : ℕ) (ps : List K) → ps ≡ [] → (w : Warning) →
-    IsProcessWarningOfAny called reached n (map view ps) w → ⊥
-process_end view called reached n ps none w h = subst (λ xs. IsProcessWarningOfAny called reached n (map view xs) w) none h
+pub process_end : {K : Type 0} (view : K → DefinitionView) (called reached exiting : List ℕ) (n : ℕ) (ps : List K) → ps ≡ [] → (w : Warning) →
+    IsProcessWarningOfAny called reached exiting n (map view ps) w → ⊥
+process_end view called reached exiting n ps none w h = subst (λ xs. IsProcessWarningOfAny called reached exiting n (map view xs) w) none h

@@ -7,5 +7,7 @@ pub mod ListWarnings
 pub mod SortedWarnings
 pub mod CalledNames
 pub mod ReachedNumbers
+pub mod ExitingNumbers
+pub mod TerminatingNames
 pub mod WholeWarnings
 pub mod DefinitionWarnings

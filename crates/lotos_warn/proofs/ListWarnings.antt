@@ -9,7 +9,7 @@ use Rattle.lotos_check.specs.Subexpressions.{IsSubexpression, in_prefix, in_choi
 use Rattle.lotos_warn.specs.declared.warning.Side.{Side}
 use Rattle.lotos_warn.specs.declared.warning.Side.TheVariants.{Left, Right}
 use Rattle.lotos_warn.specs.declared.warning.Warning.{Warning}
-use Rattle.lotos_warn.specs.declared.warning.Warning.TheVariants.{UncalledProcess, UnreachedProcess, UnusedGate, UnofferedGate}
+use Rattle.lotos_warn.specs.declared.warning.Warning.TheVariants.{UncalledProcess, UnreachedProcess, NeverExits, UnusedGate, UnofferedGate}
 use Rattle.lotos_warn.specs.Warnings.{OffersFree, operand, IsFirstOfName, IsUnofferedIn, IsListWarning}
 use Rattle.lotos_warn.specs.Additions.{Adds, IsMissingOn, IsMissingUnseen, IsMissingGate, IsMissing, names_of}
 use Rattle.lotos_warn.proofs.Additions.{adds_as, adds_both, adds_nothing, adds_alone}
@@ -122,6 +122,7 @@ AreBoth l r whole = (g : Placed) (s : Side) → (IsUnofferedIn l g s ⊎ IsUnoff
 both_lists : (l r whole : BehaviourView) → AreBoth l r whole → (w : Warning) → (IsListWarning l w ⊎ IsListWarning r w) ↔ IsListWarning whole w
 both_lists l r whole same (UncalledProcess p) = ((λ h. elim h [ inl i ↦ i | inr i ↦ i ]), (λ h. absurd h))
 both_lists l r whole same (UnreachedProcess p) = ((λ h. elim h [ inl i ↦ i | inr i ↦ i ]), (λ h. absurd h))
+both_lists l r whole same (NeverExits p) = ((λ h. elim h [ inl i ↦ i | inr i ↦ i ]), (λ h. absurd h))
 both_lists l r whole same (UnusedGate g d) = ((λ h. elim h [ inl i ↦ i | inr i ↦ i ]), (λ h. absurd h))
 both_lists l r whole same (UnofferedGate g s) = same g s
 
@@ -134,6 +135,7 @@ by_both l r whole form g s = (
 one_list : (b whole : BehaviourView) → ((g : Placed) (s : Side) → WarnsIn g s whole ↔ WarnsIn g s b) → (w : Warning) → IsListWarning b w ↔ IsListWarning whole w
 one_list b whole form (UncalledProcess p) = ((λ h. h), (λ h. h))
 one_list b whole form (UnreachedProcess p) = ((λ h. h), (λ h. h))
+one_list b whole form (NeverExits p) = ((λ h. h), (λ h. h))
 one_list b whole form (UnusedGate g d) = ((λ h. h), (λ h. h))
 one_list b whole form (UnofferedGate g s) = (
   (λ h. (warns_by_form g s whole).1 ((form g s).1 ((warns_by_form g s b).0 h))),
@@ -143,6 +145,7 @@ one_list b whole form (UnofferedGate g s) = (
 no_list : (whole : BehaviourView) → ((g : Placed) (s : Side) → WarnsIn g s whole → ⊥) → (w : Warning) → IsListWarning whole w → ⊥
 no_list whole none (UncalledProcess p) h = h
 no_list whole none (UnreachedProcess p) h = h
+no_list whole none (NeverExits p) h = h
 no_list whole none (UnusedGate g d) h = h
 no_list whole none (UnofferedGate g s) h = none g s ((warns_by_form g s whole).0 h)
 
@@ -199,6 +202,10 @@ module _ (l r : BehaviourView) (by_left by_right : List Name) (left : (n : Name)
   no_unreached (gates gs) p h = h
   no_unreached all p h = h
 
+  no_endless : (sync : SyncView) (p : Placed) → IsMissing by_left by_right sync (NeverExits p) → ⊥
+  no_endless (gates gs) p h = h
+  no_endless all p h = h
+
   no_unused : (sync : SyncView) (g : Placed) (d : Name) → IsMissing by_left by_right sync (UnusedGate g d) → ⊥
   no_unused (gates gs) g d h = h
   no_unused all g d h = h
@@ -207,6 +214,7 @@ module _ (l r : BehaviourView) (by_left by_right : List Name) (left : (n : Name)
       (IsListWarning l w ⊎ (IsListWarning r w ⊎ IsMissing by_left by_right sync w)) ↔ IsListWarning (par l sync r) w
   par_lists sync (UncalledProcess p) = ((λ h. elim h [ inl i ↦ i | inr (inl i) ↦ i | inr (inr i) ↦ no_other sync p i ]), (λ h. absurd h))
   par_lists sync (UnreachedProcess p) = ((λ h. elim h [ inl i ↦ i | inr (inl i) ↦ i | inr (inr i) ↦ no_unreached sync p i ]), (λ h. absurd h))
+  par_lists sync (NeverExits p) = ((λ h. elim h [ inl i ↦ i | inr (inl i) ↦ i | inr (inr i) ↦ no_endless sync p i ]), (λ h. absurd h))
   par_lists sync (UnusedGate g d) = ((λ h. elim h [ inl i ↦ i | inr (inl i) ↦ i | inr (inr i) ↦ no_unused sync g d i ]), (λ h. absurd h))
   par_lists sync (UnofferedGate g s) = (
     (λ h. (warns_by_form g s (par l sync r)).1 (elim h [
@@ -281,6 +289,7 @@ module _ (by_left by_right seen more : List Name) (g : Placed) (gs : List Placed
       IsMissingGate by_left by_right seen (g ∷ gs) w ↔ (IsMissingUnseen by_left by_right seen g w ⊎ IsMissingGate by_left by_right more gs w)
   missing_split (UncalledProcess p) = ((λ h. absurd h), (λ h. elim h [ inl m ↦ no_missing (UncalledProcess p) (λ i. i) (λ i. i) m | inr m ↦ m ]))
   missing_split (UnreachedProcess p) = ((λ h. absurd h), (λ h. elim h [ inl m ↦ no_missing (UnreachedProcess p) (λ i. i) (λ i. i) m | inr m ↦ m ]))
+  missing_split (NeverExits p) = ((λ h. absurd h), (λ h. elim h [ inl m ↦ no_missing (NeverExits p) (λ i. i) (λ i. i) m | inr m ↦ m ]))
   missing_split (UnusedGate other d) = ((λ h. absurd h), (λ h. elim h [ inl m ↦ no_missing (UnusedGate other d) (λ i. i) (λ i. i) m | inr m ↦ m ]))
   missing_split (UnofferedGate other place) = missing_side other place
 
@@ -295,6 +304,7 @@ missing_sides by_left by_right seen g old mid new none first second =
 pub missing_none : (by_left by_right seen : List Name) (w : Warning) → IsMissingGate by_left by_right seen [] w → ⊥
 missing_none by_left by_right seen (UncalledProcess p) h = h
 missing_none by_left by_right seen (UnreachedProcess p) h = h
+missing_none by_left by_right seen (NeverExits p) h = h
 missing_none by_left by_right seen (UnusedGate other d) h = h
 missing_none by_left by_right seen (UnofferedGate other place) h = h.1
 
@@ -303,6 +313,7 @@ pub missing_one : (names : List Name) (side : Side) (gate : Placed) → (In gate
     (UnofferedGate gate side ≡ w) ↔ IsMissingOn names side gate w
 missing_one names side gate none (UncalledProcess p) = ((λ e. cc), (λ h. absurd h))
 missing_one names side gate none (UnreachedProcess p) = ((λ e. cc), (λ h. absurd h))
+missing_one names side gate none (NeverExits p) = ((λ e. cc), (λ h. absurd h))
 missing_one names side gate none (UnusedGate other d) = ((λ e. cc), (λ h. absurd h))
 missing_one names side gate none (UnofferedGate other place) = (
   (λ e. let same : gate ≡ other = cc in let there : side ≡ place = cc in (same, there, subst (λ g. In g.name names → ⊥) same none)),
@@ -313,5 +324,6 @@ missing_one names side gate none (UnofferedGate other place) = (
 pub missing_never : (names : List Name) (side : Side) (gate : Placed) → In gate.name names → (w : Warning) → IsMissingOn names side gate w → ⊥
 missing_never names side gate some (UncalledProcess p) h = h
 missing_never names side gate some (UnreachedProcess p) h = h
+missing_never names side gate some (NeverExits p) h = h
 missing_never names side gate some (UnusedGate other d) h = h
 missing_never names side gate some (UnofferedGate other place) h = h.2 (subst (λ g. In g.name names) h.0 some)

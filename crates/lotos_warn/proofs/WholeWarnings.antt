@@ -1,7 +1,7 @@
 -- The warnings about a specification are those about its definitions.
-use Rattle.std.proofs.Common.{◌≡◌, ◌↔◌, ◌⊎◌, ℕ, ◌+◌, ◌-◌, ◌≤◌, length, take, drop, zero, suc, List, [], ◌∷◌, Some, slice_get, map, refl, sym, ◌∙◌, ap, subst, inl, inr, arith}
+use Rattle.std.proofs.Common.{◌≡◌, ◌↔◌, ◌⊎◌, ℕ, ◌+◌, ◌-◌, ◌≤◌, length, take, drop, zero, suc, List, [], ◌∷◌, Some, slice_get, map, refl, sym, ◌∙◌, ap, subst, inl, inr, Bool, true, false, arith}
 use Rattle.std.proofs.lemmas.List.{take_all}
-use Rattle.lotos_text.specs.AstView.{DefinitionView, formals_of, body_of, inner_of}
+use Rattle.lotos_text.specs.AstView.{DefinitionView, name_of, formals_of, declared_of, body_of, inner_of}
 use Rattle.lotos_text.specs.declared.ast.Placed.{Placed}
 use Rattle.lotos_check.specs.NameLists.{Name, In, texts}
 use Rattle.lotos_check.specs.Scope.{Scope, ScopedDefinition, IsDefinition, within, processes_of, all_definitions, definitions_in, definitions_in_list}
@@ -9,9 +9,12 @@ use Rattle.lotos_check.proofs.DefinitionOrder.{in_order}
 use Rattle.lotos_check.proofs.ScopedDefinitions.{everywhere_in_order, listed_row, scope_of, without_scope}
 use Rattle.lotos_warn.specs.declared.warning.Side.{Side}
 use Rattle.lotos_warn.specs.declared.warning.Warning.{Warning}
-use Rattle.lotos_warn.specs.declared.warning.Warning.TheVariants.{UncalledProcess, UnreachedProcess, UnusedGate, UnofferedGate}
-use Rattle.lotos_warn.specs.Warnings.{IsUnusedGate, IsUnofferedGate, IsUncalledProcess, IsUnreachedProcess, IsCalled, IsReached, IsWarning}
-use Rattle.lotos_warn.specs.Additions.{IsGateWarningOfAny, IsProcessWarning, IsProcessWarningOfAny}
+use Rattle.lotos_warn.specs.declared.warning.Warning.TheVariants.{UncalledProcess, UnreachedProcess, NeverExits, UnusedGate, UnofferedGate}
+use Rattle.lotos_warn.specs.Warnings.{IsUnusedGate, IsUnofferedGate, IsUncalledProcess, IsUnreachedProcess, IsNeverExit, IsCalled, IsReached, IsWarning}
+use Rattle.lotos_text.specs.declared.ast.Functionality.TheVariants.{Exit}
+use Rattle.lotos_check.proofs.ListIndices.{get_in, in_get}
+use Rattle.lotos_warn.specs.Termination.{MayTerminate}
+use Rattle.lotos_warn.specs.Additions.{IsEndlessWhole, IsGateWarningOfAny, IsProcessWarning, IsProcessWarningOfAny}
 use Rattle.lotos_warn.proofs.ListWarnings.{to_form, from_form, warns_by_form, WarnsFrom}
 
 -- the definitions after the first are those inside it
@@ -69,65 +72,69 @@ module _ (whole : DefinitionView) where
     )
 
 -- of the processes one has the warning
-record IsWarnedFrom (called reached : List ℕ) (first : ℕ) (vs : List ScopedDefinition) (w : Warning) : Type 0 where
+record IsWarnedFrom (called reached exiting : List ℕ) (first : ℕ) (vs : List ScopedDefinition) (w : Warning) : Type 0 where
   index : ℕ
   scoped : ScopedDefinition
   located : slice_get vs index ≡ Some scoped
   number : ℕ
   counted : number ≡ first + index
-  warned : IsProcessWarning called reached number scoped.definition w
+  warned : IsProcessWarning called reached exiting number scoped.definition w
 
-warned_at : (called reached : List ℕ) (w : Warning) (vs : List ScopedDefinition) (first : ℕ) →
-    IsProcessWarningOfAny called reached first (map (λ v. v.definition) vs) w → IsWarnedFrom called reached first vs w
-warned_at called reached w [] first h = absurd h
-warned_at called reached w (v ∷ vs) first (inl h) =
+warned_at : (called reached exiting : List ℕ) (w : Warning) (vs : List ScopedDefinition) (first : ℕ) →
+    IsProcessWarningOfAny called reached exiting first (map (λ v. v.definition) vs) w → IsWarnedFrom called reached exiting first vs w
+warned_at called reached exiting w [] first h = absurd h
+warned_at called reached exiting w (v ∷ vs) first (inl h) =
     record { index = 0; scoped = v; located = refl; number = first; counted = omega arith; warned = h }
-warned_at called reached w (v ∷ vs) first (inr h) =
-    let r = warned_at called reached w vs (suc first) h in
+warned_at called reached exiting w (v ∷ vs) first (inr h) =
+    let r = warned_at called reached exiting w vs (suc first) h in
     let e = r.counted in
     record { index = suc r.index; scoped = r.scoped; located = r.located; number = r.number; counted = omega arith; warned = r.warned }
 
-warned_from : (called reached : List ℕ) (w : Warning) (vs : List ScopedDefinition) (first index : ℕ) (v : ScopedDefinition) (number : ℕ) →
-    slice_get vs index ≡ Some v → number ≡ first + index → IsProcessWarning called reached number v.definition w →
-    IsProcessWarningOfAny called reached first (map (λ v. v.definition) vs) w
-warned_from called reached w [] first index v number e counted h = cc
-warned_from called reached w (u ∷ vs) first zero v number e counted h =
+warned_from : (called reached exiting : List ℕ) (w : Warning) (vs : List ScopedDefinition) (first index : ℕ) (v : ScopedDefinition) (number : ℕ) →
+    slice_get vs index ≡ Some v → number ≡ first + index → IsProcessWarning called reached exiting number v.definition w →
+    IsProcessWarningOfAny called reached exiting first (map (λ v. v.definition) vs) w
+warned_from called reached exiting w [] first index v number e counted h = cc
+warned_from called reached exiting w (u ∷ vs) first zero v number e counted h =
     let same : v ≡ u = cc in
     let n : number ≡ first = omega arith in
-    inl (subst (λ x. IsProcessWarning called reached first x.definition w) same (subst (λ k. IsProcessWarning called reached k v.definition w) n h))
-warned_from called reached w (u ∷ vs) first (suc index) v number e counted h =
-    inr (warned_from called reached w vs (suc first) index v number e (omega arith) h)
+    inl (subst (λ x. IsProcessWarning called reached exiting first x.definition w) same
+    (subst (λ k. IsProcessWarning called reached exiting k v.definition w) n h))
+warned_from called reached exiting w (u ∷ vs) first (suc index) v number e counted h =
+    inr (warned_from called reached exiting w vs (suc first) index v number e (omega arith) h)
 
 -- a process of the specification has the warning
-record IsWarned (whole : DefinitionView) (called reached : List ℕ) (w : Warning) : Type 0 where
+record IsWarned (whole : DefinitionView) (called reached exiting : List ℕ) (w : Warning) : Type 0 where
   process : ℕ
   scoped : ScopedDefinition
   located : slice_get (processes_of whole) process ≡ Some scoped
-  warned : IsProcessWarning called reached process scoped.definition w
+  warned : IsProcessWarning called reached exiting process scoped.definition w
 
-module _ (whole : DefinitionView) (called reached : List ℕ) (by_name : (k : ℕ) → In k called ↔ IsCalled whole k)
-    (by_reach : (k : ℕ) → In k reached ↔ IsReached whole k) where
+module _ (whole : DefinitionView) (called reached exiting : List ℕ) (by_name : (k : ℕ) → In k called ↔ IsCalled whole k)
+    (by_reach : (k : ℕ) → In k reached ↔ IsReached whole k)
+    (by_exit : (k : ℕ) (v : ScopedDefinition) → slice_get (processes_of whole) k ≡ Some v →
+    In k exiting ↔ MayTerminate whole v.scope (body_of v.definition))
+    (exits : Bool) (by_start : (exits ≡ true) ↔ MayTerminate whole (within whole 0 []) (body_of whole)) where
   inner_row : definitions_in_list (inner_of whole) ≡ map (λ v. v.definition) (processes_of whole)
   inner_row = listed_row (within whole 0 []) 0 (inner_of whole)
 
-  found : (w : Warning) → IsProcessWarningOfAny called reached 0 (definitions_in_list (inner_of whole)) w → IsWarned whole called reached w
+  found : (w : Warning) → IsProcessWarningOfAny called reached exiting 0 (definitions_in_list (inner_of whole)) w → IsWarned whole called reached exiting w
   found w h =
-      let r = warned_at called reached w (processes_of whole) 0 (subst (λ ds. IsProcessWarningOfAny called reached 0 ds w) inner_row h) in
+      let r = warned_at called reached exiting w (processes_of whole) 0 (subst (λ ds. IsProcessWarningOfAny called reached exiting 0 ds w) inner_row h) in
       let counted = r.counted in
       let n : r.number ≡ r.index = omega arith in
       record {
         process = r.index;
         scoped = r.scoped;
         located = r.located;
-        warned = subst (λ k. IsProcessWarning called reached k r.scoped.definition w) n r.warned;
+        warned = subst (λ k. IsProcessWarning called reached exiting k r.scoped.definition w) n r.warned;
       }
 
   lost : (w : Warning) (process : ℕ) (v : ScopedDefinition) → slice_get (processes_of whole) process ≡ Some v →
-      IsProcessWarning called reached process v.definition w → IsProcessWarningOfAny called reached 0 (definitions_in_list (inner_of whole)) w
-  lost w process v at h = subst (λ ds. IsProcessWarningOfAny called reached 0 ds w) (sym inner_row)
-      (warned_from called reached w (processes_of whole) 0 process v process at (omega arith) h)
+      IsProcessWarning called reached exiting process v.definition w → IsProcessWarningOfAny called reached exiting 0 (definitions_in_list (inner_of whole)) w
+  lost w process v at h = subst (λ ds. IsProcessWarningOfAny called reached exiting 0 ds w) (sym inner_row)
+      (warned_from called reached exiting w (processes_of whole) 0 process v process at (omega arith) h)
 
-  uncalled : (name : Placed) → IsProcessWarningOfAny called reached 0 (definitions_in_list (inner_of whole)) (UncalledProcess name) ↔
+  uncalled : (name : Placed) → IsProcessWarningOfAny called reached exiting 0 (definitions_in_list (inner_of whole)) (UncalledProcess name) ↔
       IsUncalledProcess whole name
   uncalled name = (
     (λ h. let r = found (UncalledProcess name) h in elim r.warned [
@@ -146,7 +153,8 @@ module _ (whole : DefinitionView) (called reached : List ℕ) (by_name : (k : �
           means = means;
         }));
       }
-      | inr none ↦ absurd none
+      | inr (inl none) ↦ absurd none
+      | inr (inr none) ↦ absurd none
     ]),
     (λ h. lost (UncalledProcess name) h.process h.scoped h.located (inl (
       h.named,
@@ -154,12 +162,13 @@ module _ (whole : DefinitionView) (called reached : List ℕ) (by_name : (k : �
     ))),
   )
 
-  unreached : (name : Placed) → IsProcessWarningOfAny called reached 0 (definitions_in_list (inner_of whole)) (UnreachedProcess name) ↔
+  unreached : (name : Placed) → IsProcessWarningOfAny called reached exiting 0 (definitions_in_list (inner_of whole)) (UnreachedProcess name) ↔
       IsUnreachedProcess whole name
   unreached name = (
     (λ h. let r = found (UnreachedProcess name) h in elim r.warned [
       | inl none ↦ absurd none
-      | inr u ↦ record {
+      | inr (inr none) ↦ absurd none
+      | inr (inl u) ↦ record {
         process = r.process;
         scoped = r.scoped;
         located = r.located;
@@ -168,35 +177,104 @@ module _ (whole : DefinitionView) (called reached : List ℕ) (by_name : (k : �
         unreached = λ i. u.2 ((by_reach r.process).1 i);
       }
     ]),
-    (λ h. lost (UnreachedProcess name) h.process h.scoped h.located (inr (
+    (λ h. lost (UnreachedProcess name) h.process h.scoped h.located (inr (inl (
       h.named,
       (by_name h.process).1 h.called,
       (λ i. h.unreached ((by_reach h.process).0 i)),
-    ))),
+    )))),
   )
 
-  not_gate : (gate : Placed) (name : Name) → IsProcessWarningOfAny called reached 0 (definitions_in_list (inner_of whole)) (UnusedGate gate name) → ⊥
-  not_gate gate name h = elim (found (UnusedGate gate name) h).warned [ inl none ↦ none | inr none ↦ none ]
+  not_true : (b : Bool) → (b ≡ true → ⊥) → b ≡ false
+  not_true true h = absurd (h refl)
+  not_true false h = refl
 
-  not_side : (gate : Placed) (side : Side) → IsProcessWarningOfAny called reached 0 (definitions_in_list (inner_of whole)) (UnofferedGate gate side) → ⊥
-  not_side gate side h = elim (found (UnofferedGate gate side) h).warned [ inl none ↦ none | inr none ↦ none ]
+  placed : (name : Placed) (v : ScopedDefinition) → In v (all_definitions whole) → name ≡ name_of v.definition → declared_of v.definition ≡ Exit →
+      (MayTerminate whole v.scope (body_of v.definition) → ⊥) →
+      IsProcessWarningOfAny called reached exiting 0 (definitions_in_list (inner_of whole)) (NeverExits name) ⊎ IsEndlessWhole exits whole (NeverExits name)
+  placed name v i named declared never =
+      let of_process = (λ (k : ℕ) (at : slice_get (processes_of whole) k ≡ Some v). lost (NeverExits name) k v at
+      (inr (inr (named, declared, (λ j. never ((by_exit k v at).0 j)))))) in
+      elim i [
+        | inl e ↦ (
+            let own = sym e in
+            let here = subst (λ (u : ScopedDefinition). name ≡ name_of u.definition) own named in
+            let exit = subst (λ (u : ScopedDefinition). declared_of u.definition ≡ Exit) own declared in
+            let none = subst (λ (u : ScopedDefinition). MayTerminate whole u.scope (body_of u.definition) → ⊥) own never in
+            inr (here, exit, not_true exits (λ t. none (by_start.0 t))))
+        | inr j ↦ (let at = in_get (processes_of whole) v j in inl (of_process at.0 at.1))
+      ]
 
-  -- the warnings about the gates of all definitions, and those about the processes, are all
-  pub all_warnings : (w : Warning) →
-      (IsGateWarningOfAny (definitions_in whole) w ⊎ IsProcessWarningOfAny called reached 0 (definitions_in_list (inner_of whole)) w) ↔ IsWarning whole w
+  endless : (name : Placed) →
+      (IsProcessWarningOfAny called reached exiting 0 (definitions_in_list (inner_of whole)) (NeverExits name) ⊎ IsEndlessWhole exits whole (NeverExits name))
+      ↔ IsNeverExit whole name
+  endless name = (
+    (λ h. elim h [
+      | inl p ↦ (let r = found (NeverExits name) p in elim r.warned [
+        | inl none ↦ absurd none
+        | inr (inl none) ↦ absurd none
+        | inr (inr u) ↦ record {
+          scope = r.scoped.scope;
+          definition = r.scoped.definition;
+          located = inr (get_in (processes_of whole) r.process r.scoped r.located);
+          named = u.0;
+          declared = u.1;
+          never = λ t. u.2 ((by_exit r.process r.scoped r.located).1 t);
+        }
+      ])
+      | inr u ↦ record {
+        scope = within whole 0 [];
+        definition = whole;
+        located = inl refl;
+        named = u.0;
+        declared = u.1;
+        never = λ t. (let e : true ≡ false = sym (by_start.1 t) ∙ u.2 in cc);
+      }
+    ]),
+    (λ h. placed name (record { scope = h.scope; definition = h.definition }) h.located h.named h.declared h.never),
+  )
+
+  not_gate : (gate : Placed) (name : Name) → IsProcessWarningOfAny called reached exiting 0 (definitions_in_list (inner_of whole)) (UnusedGate gate name) → ⊥
+  not_gate gate name h = elim (found (UnusedGate gate name) h).warned [ inl none ↦ none | inr (inl none) ↦ none | inr (inr none) ↦ none ]
+
+  not_side : (gate : Placed) (side : Side) → IsProcessWarningOfAny called reached exiting 0 (definitions_in_list (inner_of whole)) (UnofferedGate gate side) → ⊥
+  not_side gate side h = elim (found (UnofferedGate gate side) h).warned [ inl none ↦ none | inr (inl none) ↦ none | inr (inr none) ↦ none ]
+
+  -- the warnings about the gates of all definitions, those about the processes, and that about the specification are all
+  pub all_warnings : (w : Warning) → (IsGateWarningOfAny (definitions_in whole) w
+      ⊎ (IsProcessWarningOfAny called reached exiting 0 (definitions_in_list (inner_of whole)) w ⊎ IsEndlessWhole exits whole w)) ↔ IsWarning whole w
   all_warnings (UncalledProcess name) = (
-    (λ h. elim h [ inl (d, i, g) ↦ elim g [ inl none ↦ absurd none | inr none ↦ absurd none ] | inr u ↦ (uncalled name).0 u ]),
-    (λ h. inr ((uncalled name).1 h)),
+    (λ h. elim h [
+      | inl (d, i, g) ↦ elim g [ inl none ↦ absurd none | inr none ↦ absurd none ]
+      | inr (inl u) ↦ (uncalled name).0 u
+      | inr (inr none) ↦ absurd none
+    ]),
+    (λ h. inr (inl ((uncalled name).1 h))),
   )
   all_warnings (UnreachedProcess name) = (
-    (λ h. elim h [ inl (d, i, g) ↦ elim g [ inl none ↦ absurd none | inr none ↦ absurd none ] | inr u ↦ (unreached name).0 u ]),
-    (λ h. inr ((unreached name).1 h)),
+    (λ h. elim h [
+      | inl (d, i, g) ↦ elim g [ inl none ↦ absurd none | inr none ↦ absurd none ]
+      | inr (inl u) ↦ (unreached name).0 u
+      | inr (inr none) ↦ absurd none
+    ]),
+    (λ h. inr (inl ((unreached name).1 h))),
+  )
+  all_warnings (NeverExits name) = (
+    (λ h. elim h [ inl (d, i, g) ↦ elim g [ inl none ↦ absurd none | inr none ↦ absurd none ] | inr u ↦ (endless name).0 u ]),
+    (λ h. inr ((endless name).1 h)),
   )
   all_warnings (UnusedGate gate name) = (
-    (λ h. elim h [ inl g ↦ (unused whole gate name).0 g | inr u ↦ absurd (not_gate gate name u) ]),
+    (λ h. elim h [
+      | inl g ↦ (unused whole gate name).0 g
+      | inr (inl u) ↦ absurd (not_gate gate name u)
+      | inr (inr none) ↦ absurd none
+    ]),
     (λ h. inl ((unused whole gate name).1 h)),
   )
   all_warnings (UnofferedGate gate side) = (
-    (λ h. elim h [ inl g ↦ (unoffered whole gate side).0 g | inr u ↦ absurd (not_side gate side u) ]),
+    (λ h. elim h [
+      | inl g ↦ (unoffered whole gate side).0 g
+      | inr (inl u) ↦ absurd (not_side gate side u)
+      | inr (inr none) ↦ absurd none
+    ]),
     (λ h. inl ((unoffered whole gate side).1 h)),
   )

@@ -1,6 +1,6 @@
 -- What each step adds to a set of names or of numbers, or to a list of warnings.
-use Rattle.std.specs.Prelude.{◌≡◌, ◌↔◌, ◌⊎◌, ℕ, suc, List, [], ◌∷◌, Some, map, slice_get}
-use Rattle.lotos_text.specs.AstView.{SyncView, gates, all, DefinitionView, name_of, formals_of, body_of}
+use Rattle.std.specs.Prelude.{◌≡◌, ◌↔◌, ◌⊎◌, ◌<◌, ◌++◌, ℕ, suc, Bool, true, false, List, [], ◌∷◌, Some, map, slice_get}
+use Rattle.lotos_text.specs.AstView.{SyncView, gates, all, DefinitionView, name_of, formals_of, declared_of, body_of}
 use Rattle.lotos_text.specs.declared.ast.Placed.{Placed}
 use Rattle.lotos_text.specs.declared.ast.Action.{Action}
 use Rattle.lotos_text.specs.declared.ast.Action.TheVariants.{Internal, Gate}
@@ -10,8 +10,10 @@ use Rattle.lotos_check.specs.Bodies.{ContainsCall, IsBodyOf}
 use Rattle.lotos_warn.specs.declared.warning.Side.{Side}
 use Rattle.lotos_warn.specs.declared.warning.Side.TheVariants.{Left, Right}
 use Rattle.lotos_warn.specs.declared.warning.Warning.{Warning}
-use Rattle.lotos_warn.specs.declared.warning.Warning.TheVariants.{UncalledProcess, UnreachedProcess, UnusedGate, UnofferedGate}
+use Rattle.lotos_warn.specs.declared.warning.Warning.TheVariants.{UncalledProcess, UnreachedProcess, NeverExits, UnusedGate, UnofferedGate}
+use Rattle.lotos_text.specs.declared.ast.Functionality.TheVariants.{Exit}
 use Rattle.lotos_warn.specs.ShownNames.{shown_name}
+use Rattle.lotos_warn.specs.Termination.{IsExiting, exits_by}
 use Rattle.lotos_warn.specs.Warnings.{UsesFree, IsFirstOfName, IsListWarning}
 
 -- the second list has exactly the items of the first and those with the property
@@ -40,6 +42,7 @@ IsVisible hidden names n = (In n hidden → ⊥) × In n names
 abbrev pub IsMissingOn : List Name → Side → Placed → Warning → Type 0
 IsMissingOn names side gate (UncalledProcess process) = ⊥
 IsMissingOn names side gate (UnreachedProcess process) = ⊥
+IsMissingOn names side gate (NeverExits exiting) = ⊥
 IsMissingOn names side gate (UnusedGate other definition) = ⊥
 IsMissingOn names side gate (UnofferedGate other place) = (gate ≡ other) × (side ≡ place) × (In other.name names → ⊥)
 
@@ -58,6 +61,7 @@ IsMissingUnseen by_left by_right seen gate w =
 abbrev pub IsMissingGate : List Name → List Name → List Name → List Placed → Warning → Type 0
 IsMissingGate by_left by_right seen list (UncalledProcess process) = ⊥
 IsMissingGate by_left by_right seen list (UnreachedProcess process) = ⊥
+IsMissingGate by_left by_right seen list (NeverExits exiting) = ⊥
 IsMissingGate by_left by_right seen list (UnusedGate gate definition) = ⊥
 IsMissingGate by_left by_right seen list (UnofferedGate gate side) =
     (In gate.name seen → ⊥) × IsFirstOfName gate list × (In gate.name (names_of side by_left by_right) → ⊥)
@@ -102,6 +106,7 @@ pub data IsReachedIn (system : System) : ℕ → Type 0 where
 abbrev pub IsUnusedAmong : List Name → Name → List Placed → Warning → Type 0
 IsUnusedAmong used name formals (UncalledProcess process) = ⊥
 IsUnusedAmong used name formals (UnreachedProcess process) = ⊥
+IsUnusedAmong used name formals (NeverExits exiting) = ⊥
 IsUnusedAmong used name formals (UnusedGate gate definition) =
     In gate formals × (definition ≡ shown_name name) × (In gate.name used → ⊥)
 IsUnusedAmong used name formals (UnofferedGate gate side) = ⊥
@@ -110,6 +115,7 @@ IsUnusedAmong used name formals (UnofferedGate gate side) = ⊥
 abbrev pub IsUnusedIn : DefinitionView → Warning → Type 0
 IsUnusedIn d (UncalledProcess process) = ⊥
 IsUnusedIn d (UnreachedProcess process) = ⊥
+IsUnusedIn d (NeverExits exiting) = ⊥
 IsUnusedIn d (UnusedGate gate definition) =
     In gate (formals_of d) × (definition ≡ shown_name (name_of d).name) × (UsesFree (body_of d) gate.name → ⊥)
 IsUnusedIn d (UnofferedGate gate side) = ⊥
@@ -126,6 +132,7 @@ IsGateWarningOfAny definitions w = (d : DefinitionView) × In d definitions × I
 abbrev pub IsUncalledAt : List ℕ → ℕ → DefinitionView → Warning → Type 0
 IsUncalledAt called number d (UncalledProcess process) = (process ≡ name_of d) × (In number called → ⊥)
 IsUncalledAt called number d (UnreachedProcess process) = ⊥
+IsUncalledAt called number d (NeverExits exiting) = ⊥
 IsUncalledAt called number d (UnusedGate gate definition) = ⊥
 IsUncalledAt called number d (UnofferedGate gate side) = ⊥
 
@@ -134,15 +141,50 @@ abbrev pub IsUnreachedAt : List ℕ → List ℕ → ℕ → DefinitionView → 
 IsUnreachedAt called reached number d (UncalledProcess process) = ⊥
 IsUnreachedAt called reached number d (UnreachedProcess process) =
     (process ≡ name_of d) × In number called × (In number reached → ⊥)
+IsUnreachedAt called reached number d (NeverExits exiting) = ⊥
 IsUnreachedAt called reached number d (UnusedGate gate definition) = ⊥
 IsUnreachedAt called reached number d (UnofferedGate gate side) = ⊥
 
+-- the warning says that the definition is declared exit and never terminates; the number is not one that exits
+abbrev pub IsEndlessAt : List ℕ → ℕ → DefinitionView → Warning → Type 0
+IsEndlessAt exiting number d (UncalledProcess process) = ⊥
+IsEndlessAt exiting number d (UnreachedProcess process) = ⊥
+IsEndlessAt exiting number d (NeverExits name) =
+    (name ≡ name_of d) × (declared_of d ≡ Exit) × (In number exiting → ⊥)
+IsEndlessAt exiting number d (UnusedGate gate definition) = ⊥
+IsEndlessAt exiting number d (UnofferedGate gate side) = ⊥
+
+-- the same of the specification, whose behaviour exits or not
+abbrev pub IsEndlessWhole : Bool → DefinitionView → Warning → Type 0
+IsEndlessWhole exits d (UncalledProcess process) = ⊥
+IsEndlessWhole exits d (UnreachedProcess process) = ⊥
+IsEndlessWhole exits d (NeverExits name) = (name ≡ name_of d) × (declared_of d ≡ Exit) × (exits ≡ false)
+IsEndlessWhole exits d (UnusedGate gate definition) = ⊥
+IsEndlessWhole exits d (UnofferedGate gate side) = ⊥
+
 -- the process with this number and definition has this warning
-abbrev pub IsProcessWarning : List ℕ → List ℕ → ℕ → DefinitionView → Warning → Type 0
-IsProcessWarning called reached number d w = IsUncalledAt called number d w ⊎ IsUnreachedAt called reached number d w
+abbrev pub IsProcessWarning : List ℕ → List ℕ → List ℕ → ℕ → DefinitionView → Warning → Type 0
+IsProcessWarning called reached exiting number d w =
+    IsUncalledAt called number d w ⊎ (IsUnreachedAt called reached number d w ⊎ IsEndlessAt exiting number d w)
 
 -- the same of some definition of the list, which are numbered from this number on
-abbrev pub IsProcessWarningOfAny : List ℕ → List ℕ → ℕ → List DefinitionView → Warning → Type 0
-IsProcessWarningOfAny called reached number [] w = ⊥
-IsProcessWarningOfAny called reached number (d ∷ ds) w =
-    IsProcessWarning called reached number d w ⊎ IsProcessWarningOfAny called reached (suc number) ds w
+abbrev pub IsProcessWarningOfAny : List ℕ → List ℕ → List ℕ → ℕ → List DefinitionView → Warning → Type 0
+IsProcessWarningOfAny called reached exiting number [] w = ⊥
+IsProcessWarningOfAny called reached exiting number (d ∷ ds) w =
+    IsProcessWarning called reached exiting number d w
+    ⊎ IsProcessWarningOfAny called reached exiting (suc number) ds w
+
+-- the number is added if the behaviour may terminate by those that are there
+abbrev pub AddsExiting : ℕ → Flat → List ℕ → List ℕ → Type 0
+AddsExiting number body old new =
+    ((new ≡ old) × (exits_by old body ≡ true → In number old))
+    ⊎ ((new ≡ old ++ number ∷ []) × (exits_by old body ≡ true))
+
+-- each number is that of a process that may terminate
+abbrev pub AreExiting : List FlatProcess → List ℕ → Type 0
+AreExiting processes numbers = (k : ℕ) → In k numbers → IsExiting processes k
+
+-- the processes below this number that may terminate by these numbers are among them
+abbrev pub IsClosedBelow : List FlatProcess → List ℕ → ℕ → Type 0
+IsClosedBelow processes numbers bound = (k : ℕ) (process : FlatProcess) → k < bound →
+    slice_get processes k ≡ Some process → exits_by numbers process.body ≡ true → In k numbers

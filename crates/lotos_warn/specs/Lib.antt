@@ -1,4 +1,5 @@
 pub mod ShownNames
+pub mod Termination
 pub mod Warnings
 pub mod WarningOrder
 pub mod Additions

@@ -1,17 +1,19 @@
 -- What an accepted specification has a warning about.
 use Rattle.std.specs.Prelude.{◌≡◌, ◌⊎◌, ℕ, List, [], ◌∷◌, Some, slice_get}
-use Rattle.lotos_text.specs.AstView.{BehaviourView, gates, prefix, par, call, DefinitionView, name_of, formals_of, body_of}
+use Rattle.lotos_text.specs.AstView.{BehaviourView, gates, prefix, par, call, DefinitionView, name_of, formals_of, declared_of, body_of}
 use Rattle.lotos_text.specs.declared.ast.Placed.{Placed}
 use Rattle.lotos_text.specs.declared.ast.Action.TheVariants.{Gate}
+use Rattle.lotos_text.specs.declared.ast.Functionality.TheVariants.{Exit}
 use Rattle.lotos_check.specs.NameLists.{Name, In, texts}
 use Rattle.lotos_check.specs.Scope.{Scope, ScopedDefinition, Binds, IsDefinition, within, processes_of}
 use Rattle.lotos_check.specs.Subexpressions.{IsSubexpression, UsesGate}
 use Rattle.lotos_check.specs.StaticFaults.{Occurs}
 use Rattle.lotos_warn.specs.ShownNames.{shown_name}
+use Rattle.lotos_warn.specs.Termination.{MayTerminate}
 use Rattle.lotos_warn.specs.declared.warning.Side.{Side}
 use Rattle.lotos_warn.specs.declared.warning.Side.TheVariants.{Left, Right}
 use Rattle.lotos_warn.specs.declared.warning.Warning.{Warning}
-use Rattle.lotos_warn.specs.declared.warning.Warning.TheVariants.{UncalledProcess, UnreachedProcess, UnusedGate, UnofferedGate}
+use Rattle.lotos_warn.specs.declared.warning.Warning.TheVariants.{UncalledProcess, UnreachedProcess, NeverExits, UnusedGate, UnofferedGate}
 
 -- the behaviour itself, and not only a part of it, offers the gate: in a prefix, or to the process that it calls
 pub data OffersGate : BehaviourView → Placed → Type 0 where
@@ -85,6 +87,15 @@ pub record IsUnreachedProcess (whole : DefinitionView) (name : Placed) : Type 0 
   pub called : IsCalled whole process
   pub unreached : IsReached whole process → ⊥
 
+-- the name is that of the specification or of a process that is declared exit, and whose body can never terminate
+pub record IsNeverExit (whole : DefinitionView) (name : Placed) : Type 0 where
+  pub scope : Scope
+  pub definition : DefinitionView
+  pub located : IsDefinition whole scope definition
+  pub named : name ≡ name_of definition
+  pub declared : declared_of definition ≡ Exit
+  pub never : MayTerminate whole scope (body_of definition) → ⊥
+
 -- the gate is a formal one of a definition, whose body does not use it, and whose name is shown so
 pub record IsUnusedGate (whole : DefinitionView) (gate : Placed) (name : Name) : Type 0 where
   pub scope : Scope
@@ -120,6 +131,7 @@ pub record IsUnofferedGate (whole : DefinitionView) (gate : Placed) (side : Side
 abbrev pub IsWarning : DefinitionView → Warning → Type 0
 IsWarning whole (UncalledProcess process) = IsUncalledProcess whole process
 IsWarning whole (UnreachedProcess process) = IsUnreachedProcess whole process
+IsWarning whole (NeverExits name) = IsNeverExit whole name
 IsWarning whole (UnusedGate gate definition) = IsUnusedGate whole gate definition
 IsWarning whole (UnofferedGate gate side) = IsUnofferedGate whole gate side
 
@@ -138,5 +150,6 @@ pub record IsUnofferedIn (behaviour : BehaviourView) (gate : Placed) (side : Sid
 abbrev pub IsListWarning : BehaviourView → Warning → Type 0
 IsListWarning behaviour (UncalledProcess process) = ⊥
 IsListWarning behaviour (UnreachedProcess process) = ⊥
+IsListWarning behaviour (NeverExits name) = ⊥
 IsListWarning behaviour (UnusedGate gate definition) = ⊥
 IsListWarning behaviour (UnofferedGate gate side) = IsUnofferedIn behaviour gate side

@@ -1,15 +1,17 @@
 //! The warnings about each definition.
-ghost use Rattle.std.specs.Prelude.{◌∷◌, ◌⊎◌, [], MatchBool, OnOk, map};
+ghost use Rattle.std.specs.Prelude.{◌≡◌, ◌∷◌, ◌⊎◌, [], MatchBool, OnOk, map};
 ghost use Rattle.lotos_text.specs.AstOf.{definition_view};
+ghost use Rattle.lotos_text.specs.AstView.{declared_of};
+ghost use Rattle.lotos_text.specs.declared.ast.Functionality.TheVariants.{Exit, NoExit};
 ghost use Rattle.lotos_check.specs.NameLists.{In};
-ghost use Rattle.lotos_warn.specs.Additions.{Adds, IsGateWarning, IsGateWarningOfAny, IsProcessWarningOfAny, IsUncalledAt, IsUnreachedAt, IsUnusedAmong, IsUnusedIn};
+ghost use Rattle.lotos_warn.specs.Additions.{Adds, IsEndlessAt, IsEndlessWhole, IsGateWarning, IsGateWarningOfAny, IsProcessWarningOfAny, IsUncalledAt, IsUnreachedAt, IsUnusedAmong, IsUnusedIn};
 
 use crate::offered_gates::warn_of_lists;
 use crate::shown_name::ShownName;
 use crate::used_gates::add_used;
 use crate::warning::Warning;
 use indexmap::IndexSet;
-use lotos_text::{Definition, Name, Placed};
+use lotos_text::{Definition, Functionality, Name, Placed};
 use std::alloc::{AllocError, Global};
 
 /// Appends the warnings about the gates of the definitions.
@@ -98,22 +100,25 @@ fn warn_if_unused(
     Ok(())
 }
 
-/// Appends the warnings about the processes that are not called or not reached. The number of a process is its index.
+/// Appends the warnings about the processes that are not called or not reached, and about those that are declared `exit`
+/// and never terminate. The number of a process is its index.
 pub(crate) fn warn_of_processes(
     alloc: Global,
     processes: &[&Definition],
     called: &IndexSet<usize>,
     reached: &IndexSet<usize>,
+    exiting: &IndexSet<usize>,
     warnings: &mut Vec<Warning>,
 ) -> Result<(), AllocError>
     ensures { OnOk result (Adds warnings.old.items warnings.new.items
-        (IsProcessWarningOfAny called.now.keys reached.now.keys 0
+        (IsProcessWarningOfAny called.now.keys reached.now.keys exiting.now.keys 0
         (map (λ d. definition_view d.now) processes.now))) }
 {
     for number in 0..processes.len() {
         let process = processes[number];
         warn_if_uncalled(alloc, number, process, called, warnings)?;
         warn_if_unreached(alloc, number, process, called, reached, warnings)?;
+        warn_if_endless(alloc, number, process, exiting, warnings)?;
     }
     Ok(())
 }
@@ -161,4 +166,54 @@ fn is_unreached(number: usize, called: &IndexSet<usize>, reached: &IndexSet<usiz
         ((In number called.now.keys → ⊥) ⊎ In number reached.now.keys) }
 {
     called.contains(&number) && !reached.contains(&number)
+}
+
+/// Appends the warning about the process with this number if it is declared `exit`, and not one that may terminate.
+fn warn_if_endless(
+    alloc: Global,
+    number: usize,
+    process: &Definition,
+    exiting: &IndexSet<usize>,
+    warnings: &mut Vec<Warning>,
+) -> Result<(), AllocError>
+    ensures { OnOk result (Adds warnings.old.items warnings.new.items
+        (IsEndlessAt exiting.now.keys number (definition_view process.now))) }
+{
+    if is_declared_exit(process) {
+        if !exiting.contains(&number) {
+            let name = process.name.copy(alloc)?;
+            warnings.push(Warning::NeverExits(name))?;
+        }
+    }
+    Ok(())
+}
+
+/// Appends the warning about the specification if it is declared `exit`, and its behaviour never terminates.
+pub(crate) fn warn_if_endless_whole(
+    alloc: Global,
+    whole: &Definition,
+    exits: bool,
+    warnings: &mut Vec<Warning>,
+) -> Result<(), AllocError>
+    ensures { OnOk result (Adds warnings.old.items warnings.new.items
+        (IsEndlessWhole exits (definition_view whole.now))) }
+{
+    if is_declared_exit(whole) {
+        if !exits {
+            let name = whole.name.copy(alloc)?;
+            warnings.push(Warning::NeverExits(name))?;
+        }
+    }
+    Ok(())
+}
+
+/// Whether the definition is declared `exit`.
+fn is_declared_exit(definition: &Definition) -> bool
+    ensures { MatchBool result (declared_of (definition_view definition.now) ≡ Exit)
+        (declared_of (definition_view definition.now) ≡ NoExit) }
+{
+    match definition.functionality {
+        Functionality::Exit => true,
+        Functionality::NoExit => false,
+    }
 }

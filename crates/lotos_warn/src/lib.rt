@@ -1,7 +1,8 @@
 //! Warnings about accepted specifications.
 //!
 //! [`warnings`] takes the AST of an accepted specification and the checked one, and returns what the static rules allow
-//! and is still likely to be a mistake: a process that no call names, or that is not reached from the behaviour, a formal gate that is not used, and a gate of a
+//! and is still likely to be a mistake: a process that no call names, or that is not reached from the behaviour, a
+//! definition that is declared `exit` and never terminates, a formal gate that is not used, and a gate of a
 //! parallel composition that one side never offers. The definitions that the contracts cite are in `specs/`.
 #![tactic(auto)]
 
@@ -11,6 +12,7 @@ mod offered_gates;
 mod process_calls;
 mod shown_name;
 mod specification_warnings;
+mod termination;
 mod used_gates;
 mod warning;
 

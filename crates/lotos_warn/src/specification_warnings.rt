@@ -9,8 +9,9 @@ ghost use Rattle.lotos_warn.specs.Warnings.{IsWarning};
 ghost use Rattle.lotos_warn.specs.WarningOrder.{warning_cmp};
 ghost use Rattle.lotos_warn.specs.declared.warning.Warning.{Warning as AnyWarning};
 
-use crate::definition_warnings::{warn_of_gates, warn_of_processes};
+use crate::definition_warnings::{warn_if_endless_whole, warn_of_gates, warn_of_processes};
 use crate::process_calls::{called_processes, reached_processes};
+use crate::termination::{exiting_processes, may_exit};
 use crate::warning::Warning;
 use lotos_check::laws::{binding_is_unique, calls_fit};
 use lotos_check::{Checked, add_definitions};
@@ -54,8 +55,18 @@ fn unsorted_warnings(
     add_definitions(whole, &mut definitions)?;
     let called = called_processes(alloc, system)?;
     let reached = reached_processes(alloc, system)?;
+    let exiting = exiting_processes(alloc, system.processes())?;
     let mut warnings = Vec::new(alloc);
     warn_of_gates(alloc, definitions.as_slice(), &mut warnings)?;
-    warn_of_processes(alloc, &definitions[1..], &called, &reached, &mut warnings)?;
+    warn_of_processes(
+        alloc,
+        &definitions[1..],
+        &called,
+        &reached,
+        &exiting,
+        &mut warnings,
+    )?;
+    let exits = may_exit(system.start(), &exiting);
+    warn_if_endless_whole(alloc, whole, exits, &mut warnings)?;
     Ok(warnings)
 }

@@ -23,8 +23,8 @@ impl Side {
         ensures { result ≡ side_rank self }
     {
         match self {
-            Side::Left => 3,
-            Side::Right => 4,
+            Side::Left => 4,
+            Side::Right => 5,
         }
     }
 }
@@ -39,6 +39,8 @@ pub enum Warning {
     UncalledProcess(Placed),
     /// Calls name the process, but none in the behaviour of the specification or in a process that is reached from there.
     UnreachedProcess(Placed),
+    /// The specification or a process that is declared `exit`, and whose behaviour can never terminate.
+    NeverExits(Placed),
     /// A formal gate that the behaviour of its definition does not use.
     UnusedGate { gate: Placed, definition: ShownName },
     /// A gate in the list of a parallel composition, the first of its name there, that one side never offers.
@@ -53,6 +55,7 @@ impl Warning {
         match self {
             Warning::UncalledProcess(process) => process.at,
             Warning::UnreachedProcess(process) => process.at,
+            Warning::NeverExits(name) => name.at,
             Warning::UnusedGate { gate, .. } => gate.at,
             Warning::UnofferedGate { gate, .. } => gate.at,
         }
@@ -64,7 +67,8 @@ impl Warning {
         match self {
             Warning::UncalledProcess(_) => 0,
             Warning::UnreachedProcess(_) => 1,
-            Warning::UnusedGate { .. } => 2,
+            Warning::NeverExits(_) => 2,
+            Warning::UnusedGate { .. } => 3,
             Warning::UnofferedGate { side, .. } => side.rank(),
         }
     }
@@ -76,6 +80,7 @@ impl Warning {
         match self {
             Warning::UncalledProcess(process) => &process.name,
             Warning::UnreachedProcess(process) => &process.name,
+            Warning::NeverExits(name) => &name.name,
             Warning::UnusedGate { gate, .. } => &gate.name,
             Warning::UnofferedGate { gate, .. } => &gate.name,
         }
@@ -88,6 +93,7 @@ impl Warning {
         match self {
             Warning::UncalledProcess(process) => process.name.text(),
             Warning::UnreachedProcess(process) => process.name.text(),
+            Warning::NeverExits(name) => name.name.text(),
             Warning::UnusedGate { definition, .. } => definition.text(),
             Warning::UnofferedGate { gate, .. } => gate.name.text(),
         }
@@ -147,6 +153,11 @@ impl fmt::Display for Warning {
                 f,
                 "process {} is never reached from the behaviour of the specification",
                 Shown(&process.name)
+            ),
+            Warning::NeverExits(name) => write!(
+                f,
+                "{} is declared exit, but can never terminate",
+                Shown(&name.name)
             ),
             Warning::UnusedGate { gate, definition } => write!(
                 f,
