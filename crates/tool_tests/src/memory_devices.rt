@@ -206,13 +206,13 @@ pub fn run_on<R: Read, W: Write>(
 }
 
 /// The same with messages to a terminal or to another stream.
-pub fn run_with<R: Read, W: Write>(
+pub fn run_with<R: Read, W: Write, E: Write>(
     alloc: Global,
     words: &[&str],
     reader: R,
     out: W,
-    messages: Messages<ArrayWriter>,
-) -> (u8, R, W, ArrayWriter) {
+    messages: Messages<E>,
+) -> (u8, R, W, E) {
     let mut source = FromRead::new(reader);
     let mut sink = FromWrite::new(out);
     let mut messages = messages;

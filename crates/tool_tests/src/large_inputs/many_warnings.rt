@@ -1,6 +1,8 @@
 //! Specifications with more warnings than are written.
 
-use super::super::runs::{Outcome, RUN, Run, Taken, WHOLE, expect};
+use super::super::expected_output::ExpectedOutput;
+use super::super::memory_devices::{ArrayWriter, SliceReader, run_with};
+use lotos_report::Messages;
 use std::alloc::{AllocError, Global};
 use std::process::Abort;
 
@@ -41,6 +43,20 @@ const ROWS: &[(usize, usize, &str)] = &[
     (4214, 1000, "3214 more warnings are not written.\n"),
 ];
 
+/// Runs the words on the text, and expects no output, this message and status 0.
+fn expect_warnings(rt: &impl Abort, alloc: Global, text: &[u8], message: &[u8]) {
+    let reader = SliceReader::new(text, 4096);
+    let out = ArrayWriter::new(4096);
+    let messages = Messages {
+        stream: ExpectedOutput::new(message),
+        terminal: false,
+    };
+    let (status, _reader, out, err) = run_with(alloc, WARN, reader, out, messages);
+    assert_eq!(rt; out.got(), b"".as_slice());
+    assert!(rt; err.is_complete());
+    assert_eq!(rt; status, 0);
+}
+
 fn expect_row(
     rt: &impl Abort,
     alloc: Global,
@@ -50,23 +66,7 @@ fn expect_row(
 ) -> Result<(), AllocError> {
     let text = unused_gates(alloc, gates)?;
     let message = lines(alloc, written, last)?;
-    let run = Run {
-        name: last,
-        words: WARN,
-        text: text.as_bytes(),
-        message: Taken {
-            most: 65536,
-            ..WHOLE
-        },
-        ..RUN
-    };
-    let outcome = Outcome {
-        output: b"",
-        message: message.as_bytes(),
-        status: 0,
-        flushes: 1,
-    };
-    expect(rt, alloc, &run, &outcome);
+    expect_warnings(rt, alloc, text.as_bytes(), message.as_bytes());
     Ok(())
 }
 
