@@ -2,7 +2,7 @@
 use lotos_check::check;
 use lotos_explain::{explain_check_fault, explain_text_fault};
 use lotos_text::{Specification, TextFault, parse};
-use std::alloc::Global;
+use std::alloc::{AllocError, Global};
 use std::process::Abort;
 
 /// What is tested, a text, and the lines.
@@ -13,7 +13,27 @@ const MISSING: &[Row] = &[
     (
         "no semicolon after a gate",
         b"specification S [a] : noexit\nbehaviour a stop\nendspec\n",
-        b"  behaviour a stop\n              ^\n  `stop` is a reserved word\n  could be here, among others: `;` `[` `[]` `|[` `||` `|||` `[>` `>>` `where` `endspec`\n  Put what is missing before it, or remove it.\n",
+        b"  behaviour a stop\n              ^\n  `stop` is a reserved word\n  a `;` may be missing between `a` and it\n  Put `;` after `a` if it is a gate, or an operator as `[]` if it is a process.\n",
+    ),
+    (
+        "no semicolon before another gate",
+        b"specification S [a, bell] : noexit\nbehaviour a; bell (* no sign *) a; stop\nendspec\n",
+        b"  behaviour a; bell (* no sign *) a; stop\n                                  ^\n  `a` is an identifier\n  a `;` may be missing between `bell` and it\n  Put `;` after `bell` if it is a gate, or an operator as `[]` if it is a process.\n",
+    ),
+    (
+        "no semicolon before a parenthesis",
+        b"specification S [a] : noexit\nbehaviour a (a; stop)\nendspec\n",
+        b"  behaviour a (a; stop)\n              ^\n  `(` is a sign\n  a `;` may be missing between `a` and it\n  Put `;` after `a` if it is a gate, or an operator as `[]` if it is a process.\n",
+    ),
+    (
+        "no operator after a call with gates",
+        b"specification S [a] : noexit\nbehaviour P[a] stop\nendspec\n",
+        b"  behaviour P[a] stop\n                 ^\n  `stop` is a reserved word\n  could be here, among others: `[]` `|[` `||` `|||` `[>` `>>` `where` `endspec`\n  Put what is missing before it, or remove it.\n",
+    ),
+    (
+        "no semicolon after the internal action",
+        b"specification S : noexit\nbehaviour i stop\nendspec\n",
+        b"  behaviour i stop\n              ^\n  `stop` is a reserved word\n  could be here, among others: `;`\n  Put what is missing before it, or remove it.\n",
     ),
     (
         "an equals sign for a definition",
@@ -28,22 +48,72 @@ const MISSING: &[Row] = &[
     (
         "a byte order mark",
         b"\xef\xbb\xbfspecification S : noexit behaviour stop endspec",
-        b"  ???specification S : noexit behaviour stop endspec\n  ^\n  a byte order mark\n  could be here, among others: `specification`\n  Save the text without a byte order mark.\n",
+        b"  ?specification S : noexit behaviour stop endspec\n  ^\n  a byte order mark\n  could be here, among others: `specification`\n  Save the text without a byte order mark.\n",
     ),
     (
         "no endproc",
         b"specification S [a] : noexit\nbehaviour P[a]\nwhere\nprocess P [x] : noexit := x; stop\nendspec\n",
-        b"  endspec\n  ^\n  `endspec` is a reserved word\n  could be here, among others: `[]` `|[` `||` `|||` `[>` `>>` `where` `endproc`\n  Put what is missing before it, or remove it.\n",
+        b"  endspec\n  ^\n  `endspec` is a reserved word\n  could be here, among others: `[]` `|[` `||` `|||` `[>` `>>` `where` `endproc`\n  `process` `P`, which begins at 4:1, has no `endproc` before it\n  Put what is missing before it, or remove it.\n",
+    ),
+    (
+        "no endproc before another process",
+        b"specification S [a] : noexit\nbehaviour P[a]\nwhere\nprocess P [x] : noexit := x; stop\nprocess (* the other *) Q [x] : noexit := x; stop endproc\nendspec\n",
+        b"  process (* the other *) Q [x] : noexit := x; stop endproc\n  ^\n  `process` is a reserved word\n  could be here, among others: `[]` `|[` `||` `|||` `[>` `>>` `where` `endproc`\n  `process` `P`, which begins at 4:1, has no `endproc` before it\n  Put what is missing before it, or remove it.\n",
+    ),
+    (
+        "no endproc of an inner process",
+        b"specification S [a] : noexit\nbehaviour P[a]\nwhere\nprocess P [x] : noexit := Q[x] where\nprocess Q [x] : noexit := x; stop\nendproc\nendspec\n",
+        b"  endspec\n  ^\n  `endspec` is a reserved word\n  could be here, among others: `process` `endproc`\n  `process` `P`, which begins at 4:1, has no `endproc` before it\n  Put what is missing before it, or remove it.\n",
+    ),
+    (
+        "an endproc too many",
+        b"specification S [a] : noexit\nbehaviour a; stop\nendproc\nendspec\n",
+        b"  endproc\n  ^\n  `endproc` is a reserved word\n  could be here, among others: `[]` `|[` `||` `|||` `[>` `>>` `where` `endspec`\n  Put what is missing before it, or remove it.\n",
     ),
     (
         "no endspec",
         b"specification S [a] : noexit\nbehaviour a; stop",
-        b"  behaviour a; stop\n                   ^\n  the text ends here\n  could be here, among others: `[]` `|[` `||` `|||` `[>` `>>` `where` `endspec`\n  Put what is missing at the end: close each parenthesis, each process and the specification.\n",
+        b"  behaviour a; stop\n                   ^\n  the text ends here\n  could be here, among others: `[]` `|[` `||` `|||` `[>` `>>` `where` `endspec`\n  `specification` `S`, which begins at 1:1, has no `endspec`\n  Put what is missing at the end: close each parenthesis, each process and the specification.\n",
+    ),
+    (
+        "nothing after a sign",
+        b"specification S [a] : noexit\nbehaviour a;",
+        b"  behaviour a;\n              ^\n  the text ends here\n  could be here, among others: a name `stop` `exit` `i` `hide` `(`\n  Put what is missing at the end: close each parenthesis, each process and the specification.\n",
+    ),
+    (
+        "a parenthesis that the text does not close",
+        b"specification S [a] : noexit\nbehaviour stop [] (a; (stop)",
+        b"  behaviour stop [] (a; (stop)\n                              ^\n  the text ends here\n  could be here, among others: `)` `[]` `|[` `||` `|||` `[>` `>>`\n  `(` at 2:19 is not closed\n  Put what is missing at the end: close each parenthesis, each process and the specification.\n",
     ),
     (
         "a misspelt word",
         b"specification S [a] : noexit behavoir a; stop endspec",
-        b"  specification S [a] : noexit behavoir a; stop endspec\n                               ^\n  `behavoir` is an identifier\n  could be here, among others: `behaviour`\n  Correct it if it is misspelt, or put what is missing before it.\n",
+        b"  specification S [a] : noexit behavoir a; stop endspec\n                               ^\n  `behavoir` is an identifier\n  could be here, among others: `behaviour`\n  Did you mean `behaviour`? If not, put what is missing before it.\n",
+    ),
+    (
+        "a misspelt process",
+        b"specification S [a] : noexit behaviour P[a]\nwhere PROCES P [x] : noexit := x; stop endproc\nendspec",
+        b"  where PROCES P [x] : noexit := x; stop endproc\n        ^\n  `PROCES` is an identifier\n  could be here, among others: `process`\n  Did you mean `process`? If not, put what is missing before it.\n",
+    ),
+    (
+        "a misspelt specification",
+        b"specificaton S : noexit behaviour stop endspec",
+        b"  specificaton S : noexit behaviour stop endspec\n  ^\n  `specificaton` is an identifier\n  could be here, among others: `specification`\n  Did you mean `specification`? If not, put what is missing before it.\n",
+    ),
+    (
+        "end for endspec",
+        b"specification S [a] : noexit\nbehaviour a; stop\nend",
+        b"  end\n  ^\n  `end` is an identifier\n  could be here, among others: `[]` `|[` `||` `|||` `[>` `>>` `where` `endspec`\n  Did you mean `endspec`? If not, put what is missing before it.\n",
+    ),
+    (
+        "a misspelt where after a call",
+        b"specification S : noexit behaviour P\nwehre process P : noexit := stop endproc\nendspec",
+        b"  wehre process P : noexit := stop endproc\n  ^\n  `wehre` is an identifier\n  could be here, among others: `;` `[` `[]` `|[` `||` `|||` `[>` `>>` `where` `endspec`\n  Did you mean `where`? If not, put what is missing before it.\n",
+    ),
+    (
+        "a name where none is expected",
+        b"specification S [a] : noexit\nbehaviour a; stop en",
+        b"  behaviour a; stop en\n                    ^\n  `en` is an identifier\n  could be here, among others: `[]` `|[` `||` `|||` `[>` `>>` `where` `endspec`\n  Correct it if it is misspelt, or put what is missing before it.\n",
     ),
     (
         "no functionality",
@@ -68,7 +138,12 @@ const MISSING: &[Row] = &[
     (
         "a parenthesis that is not closed",
         b"specification S [a] : noexit\nbehaviour (a; stop\nendspec",
-        b"  endspec\n  ^\n  `endspec` is a reserved word\n  could be here, among others: `)` `[]` `|[` `||` `|||` `[>` `>>`\n  Put what is missing before it, or remove it.\n",
+        b"  endspec\n  ^\n  `endspec` is a reserved word\n  could be here, among others: `)` `[]` `|[` `||` `|||` `[>` `>>`\n  `(` at 2:11 is not closed before it\n  Put what is missing before it, or remove it.\n",
+    ),
+    (
+        "a parenthesis that is not closed in a process",
+        b"specification S [a] : noexit\nbehaviour P[a]\nwhere process P [x] : noexit := ((x; stop) [] x; stop\nendproc\nendspec",
+        b"  endproc\n  ^\n  `endproc` is a reserved word\n  could be here, among others: `)` `[]` `|[` `||` `|||` `[>` `>>`\n  `(` at 3:33 is not closed before it\n  Put what is missing before it, or remove it.\n",
     ),
     (
         "a parenthesis too many",
@@ -98,6 +173,36 @@ const SPELLINGS: &[Row] = &[
         "a hyphen in a name",
         b"specification My-Link : noexit behaviour stop endspec",
         b"  specification My-Link : noexit behaviour stop endspec\n                  ^\n  `-` begins no word and no sign\n  could be here, among others: `:` `[`\n  Write an underscore in a name; a comment is written between `(*` and `*)`.\n",
+    ),
+    (
+        "a comment of two hyphens",
+        b"specification S : noexit -- a link\nbehaviour stop endspec",
+        b"  specification S : noexit -- a link\n                           ^\n  `-` begins no word and no sign\n  could be here, among others: `behaviour`\n  Write an underscore in a name; a comment is written between `(*` and `*)`.\n",
+    ),
+    (
+        "a guard",
+        b"specification S [a] : noexit\nbehaviour a; [a] -> stop\nendspec",
+        b"  behaviour a; [a] -> stop\n                   ^\n  `-` begins no word and no sign\n  Guards of full LOTOS are not read here: write a choice, with a gate for each case.\n",
+    ),
+    (
+        "a guard with an equation",
+        b"specification S [a] : noexit\nbehaviour a; [x = y] -> stop\nendspec",
+        b"  behaviour a; [x = y] -> stop\n                  ^\n  `=` begins no word and no sign\n  Write `:=` in a definition; values and guards of full LOTOS are not read here.\n",
+    ),
+    (
+        "a letter that is not in ASCII",
+        b"specification S [\xc3\xa9nter] : noexit\nbehaviour stop endspec",
+        b"  specification S [\xc3\xa9nter] : noexit\n                   ^\n  the byte 195, which is not ASCII, begins no word and no sign\n  could be here, among others: a name\n  Write a name in letters of ASCII, digits and underscores; only comments have other characters.\n",
+    ),
+    (
+        "letters that are not in ASCII, in a comment before the place",
+        b"specification S : noexit (* \xd0\xb1\xd1\x83\xe2\x86\x92\xe4\xb8\xad *) 2\nbehaviour stop endspec",
+        b"  specification S : noexit (* \xd0\xb1\xd1\x83\xe2\x86\x92? *) 2\n                                      ^\n  `2` begins no word and no sign\n  could be here, among others: `behaviour`\n  Begin the name with a letter.\n",
+    ),
+    (
+        "a letter of Latin 1",
+        b"specification S [\xe9] : noexit\nbehaviour stop endspec",
+        b"  specification S [?] : noexit\n                   ^\n  the byte 233, which is not ASCII, begins no word and no sign\n  could be here, among others: a name\n  Write a name in letters of ASCII, digits and underscores; only comments have other characters.\n",
     ),
     (
         "a name that begins with a digit",
@@ -146,32 +251,101 @@ const SPELLINGS: &[Row] = &[
     ),
 ];
 
+/// Two hundred constructs that are open.
+const DEEP: &[(&str, &[u8], &[u8])] = &[
+    (
+        "a long sequence",
+        b"a; ",
+        b"  Each `;` opens a construct: divide a long sequence among processes, each of which calls the next.\n",
+    ),
+    (
+        "many parentheses",
+        b"(",
+        b"  Make an inner part a process of its own.\n",
+    ),
+];
+
 /// Static rules.
 const RULES: &[Row] = &[
     (
         "a gate of the specification in a process",
         b"specification S [a] : noexit\nbehaviour P[a]\nwhere process P [x] : noexit := a; P[x] endproc\nendspec",
-        b"  where process P [x] : noexit := a; P[x] endproc\n                                  ^\n  Correct the name, or add the gate to the definition and to its calls: a process sees its own gates alone.\n",
+        b"  where process P [x] : noexit := a; P[x] endproc\n                                  ^\n  A is a gate of the specification, at 1:18, and not of the process here\n  Hand it on: add it to the gates of the process and to those of its calls.\n",
+    ),
+    (
+        "a gate of the specification in the call of an inner process",
+        b"specification S [put, get] : noexit\nbehaviour P[put]\nwhere process P [x] : noexit := x; Q[x, Get]\nwhere process Q [y, z] : noexit := y; z; stop endproc endproc\nendspec",
+        b"  where process P [x] : noexit := x; Q[x, Get]\n                                          ^\n  GET is a gate of the specification, at 1:23, and not of the process here\n  Hand it on: add it to the gates of the process and to those of its calls.\n",
+    ),
+    (
+        "a gate of another process in a process",
+        b"specification S [a] : noexit\nbehaviour P[a]\nwhere process P [x] : noexit := x; y; stop endproc\nprocess Q [y] : noexit := y; stop endproc\nendspec",
+        b"  where process P [x] : noexit := x; y; stop endproc\n                                     ^\n  Correct the name, or add the gate to the definition and to its calls: a process sees its own gates alone.\n",
     ),
     (
         "a gate without a semicolon before a choice",
         b"specification S [a] : noexit\nbehaviour a [] stop\nendspec",
-        b"  behaviour a [] stop\n            ^\n  Correct the name, or define the process in a `where` around the call; if it is a gate, put `;` after it.\n",
+        b"  behaviour a [] stop\n            ^\n  A is a gate here\n  Put `;` after it, and then what comes next; a name without `;` is a call of a process.\n",
+    ),
+    (
+        "a hidden gate without a semicolon",
+        b"specification S [a] : noexit\nbehaviour hide frame in a; (Frame ||| stop)\nendspec",
+        b"  behaviour hide frame in a; (Frame ||| stop)\n                              ^\n  FRAME is a gate here\n  Put `;` after it, and then what comes next; a name without `;` is a call of a process.\n",
+    ),
+    (
+        "a gate without a semicolon, and a process with a similar name",
+        b"specification S [send] : noexit\nbehaviour send\nwhere process Sends [x] : noexit := x; stop endproc\nendspec",
+        b"  behaviour send\n            ^\n  a process that is visible here has a similar name: SENDS\n  SEND is a gate here\n  Put `;` after it, and then what comes next; a name without `;` is a call of a process.\n",
+    ),
+    (
+        "a gate that is hidden elsewhere, without a semicolon",
+        b"specification S [a] : noexit\nbehaviour (hide frame in frame; stop) [] frame\nendspec",
+        b"  behaviour (hide frame in frame; stop) [] frame\n                                           ^\n  Correct the name, or define the process in a `where` around the call; if it is a gate, put `;` after it.\n",
+    ),
+    (
+        "a misspelt gate without a semicolon",
+        b"specification S [frame] : noexit\nbehaviour fram\nendspec",
+        b"  behaviour fram\n            ^\n  Correct the name, or define the process in a `where` around the call; if it is a gate, put `;` after it.\n",
     ),
     (
         "a call with too few gates",
         b"specification S [a] : noexit\nbehaviour P[a]\nwhere process P [x,y] : noexit := x; y; stop endproc\nendspec",
-        b"  behaviour P[a]\n            ^\n  Give as many gates as the definition has, in its order.\n",
+        b"  behaviour P[a]\n            ^\n  it is defined at 3:15 with the gates X Y\n  Give as many gates as the definition has, in its order.\n",
+    ),
+    (
+        "a call with gates of a process without gates",
+        b"specification S [a] : noexit\nbehaviour P[a]\nwhere process P : noexit := stop endproc\nendspec",
+        b"  behaviour P[a]\n            ^\n  it is defined at 3:15 without gates\n  Give as many gates as the definition has, in its order.\n",
+    ),
+    (
+        "a call with too many gates, and two processes of the name",
+        b"specification S [a] : noexit\nbehaviour P[a]\nwhere process P [x] : noexit := x; Q[x,x] where\nprocess Q [y] : noexit := y; stop endproc endproc\nprocess Q [u,v,w] : noexit := u; v; w; stop endproc\nendspec",
+        b"  where process P [x] : noexit := x; Q[x,x] where\n                                     ^\n  it is defined at 4:9 with the gates Y\n  Give as many gates as the definition has, in its order.\n",
+    ),
+    (
+        "a call with too few of many gates",
+        b"specification S [a] : noexit\nbehaviour P[a]\nwhere process P [b,c,d,e,f,g,h,j,k,l,m,n,o] : noexit := b; stop endproc\nendspec",
+        b"  behaviour P[a]\n            ^\n  it is defined at 3:15 with the gates B C D E F G H J K L M N ..\n  Give as many gates as the definition has, in its order.\n",
     ),
     (
         "a gate that is declared twice",
         b"specification S [a,b,a] : noexit behaviour stop endspec",
-        b"  specification S [a,b,a] : noexit behaviour stop endspec\n                       ^\n  Rename one of the two gates, here and in the behaviour.\n",
+        b"  specification S [a,b,a] : noexit behaviour stop endspec\n                       ^\n  it is declared first at 1:18\n  Rename one of the two gates, here and in the behaviour.\n",
+    ),
+    (
+        "a gate that is declared twice in an inner process",
+        b"specification S [a] : noexit behaviour stop\nwhere process P [b] : noexit := stop where\nprocess Q [a,b,\nB] : noexit := stop endproc endproc\nendspec",
+        b"  B] : noexit := stop endproc endproc\n  ^\n  it is declared first at 3:14\n  Rename one of the two gates, here and in the behaviour.\n",
     ),
     (
         "a process that is declared twice",
         b"specification S : noexit behaviour stop where\nprocess P : noexit := stop endproc\nprocess P : noexit := stop endproc\nendspec",
-        b"  process P : noexit := stop endproc\n          ^\n  Rename one of the two processes, here and in its calls.\n",
+        b"  process P : noexit := stop endproc\n          ^\n  it is declared first at 2:9\n  Rename one of the two processes, here and in its calls.\n",
+    ),
+    (
+        "a process that is declared twice inside another of the name",
+        b"specification S : noexit behaviour stop where\nprocess P : noexit := stop where\nprocess Q : noexit := stop endproc\nprocess P : noexit := stop endproc\nprocess p : noexit := stop endproc endproc\nendspec",
+        b"  process p : noexit := stop endproc endproc\n          ^\n  it is declared first at 4:9\n  Rename one of the two processes, here and in its calls.\n",
     ),
     (
         "a left side that never exits",
@@ -181,7 +355,17 @@ const RULES: &[Row] = &[
     (
         "a process that calls itself at once",
         b"specification S [a] : noexit\nbehaviour P[a]\nwhere process P [x] : noexit := P[x] [] x; stop endproc\nendspec",
-        b"  where process P [x] : noexit := P[x] [] x; stop endproc\n                ^\n  Put an action before one of the calls, as in `a; P[a]`, or the call to the right of `>>`.\n",
+        b"  where process P [x] : noexit := P[x] [] x; stop endproc\n                ^\n  P calls itself at 3:33\n  Put an action before one of the calls, as in `a; P[a]`, or the call to the right of `>>`.\n",
+    ),
+    (
+        "three processes that call each other at once",
+        b"specification S [a] : noexit\nbehaviour P[a] where\nprocess P [x] : noexit := x; R[x] [] Q[x] endproc\nprocess Q [x] : noexit := x; stop ||| (hide y in R[x]) endproc\nprocess R [x] : noexit := P[x] [> x; P[x] endproc\nendspec",
+        b"  process P [x] : noexit := x; R[x] [] Q[x] endproc\n          ^\n  P calls Q at 3:38\n  Q calls R at 4:50\n  R calls P at 5:27\n  Put an action before one of the calls, as in `a; P[a]`, or the call to the right of `>>`.\n",
+    ),
+    (
+        "a process that calls another one, which goes round",
+        b"specification S [a] : noexit\nbehaviour P[a] where\nprocess P [x] : noexit := T[x] [] Q[x] endproc\nprocess Q [x] : noexit := Q[x] >> P[x] where\nprocess Q [x] : exit := T[x] >> Q[x] where\nprocess T [x] : exit := x; exit endproc endproc endproc\nprocess T [x] : noexit := T[x] endproc\nendspec",
+        b"  process P [x] : noexit := T[x] [] Q[x] endproc\n          ^\n  T calls itself at 7:27\n  Put an action before one of the calls, as in `a; P[a]`, or the call to the right of `>>`.\n",
     ),
 ];
 
@@ -329,6 +513,36 @@ fn assert_explained(rt: &impl Abort, alloc: Global, row: &str, text: &[u8], want
 fn assert_each_explained(rt: &impl Abort, alloc: Global, rows: &[Row]) {
     for (row, text, want) in rows {
         assert_explained(rt, alloc, row, text, want);
+    }
+}
+
+/// The text of a specification with 201 times the beginning of a behaviour.
+fn deep_text(alloc: Global, front: &[u8]) -> Result<Vec<u8>, AllocError> {
+    let mut text = Vec::new(alloc);
+    text.extend_from_slice(b"specification S [a] : noexit behaviour\n")?;
+    for _ in 0..201 {
+        text.extend_from_slice(front)?;
+    }
+    text.extend_from_slice(b"stop")?;
+    Ok(text)
+}
+
+/// Asserts the last line that explains a text in which 201 constructs are open.
+fn assert_deep(rt: &impl Abort, alloc: Global, row: &str, front: &[u8], want: &[u8]) {
+    if let Ok(text) = deep_text(alloc, front) {
+        let lines = explained(alloc, text.as_slice());
+        assert!(rt;
+            lines.as_slice().ends_with(want),
+            "{row}: {:?}",
+            str::from_utf8(lines.as_slice())
+        );
+    }
+}
+
+#[test]
+fn explains_deep_nesting(rt: HostRuntime) {
+    for (row, front, want) in DEEP {
+        assert_deep(&rt, rt.alloc(), *row, *front, *want);
     }
 }
 

@@ -1,6 +1,6 @@
 -- Definitions with their scopes, and the names that a scope binds.
 use Rattle.std.specs.Prelude.{◌≡◌, ℕ, ◌<◌, ◌+◌, List, [], ◌∷◌, length, get_or, drop, Option, IfSome, option_map}
-use Rattle.std.proofs.Common.{zero, suc, inl, inr, refl, sym, subst, arith, ap}
+use Rattle.std.proofs.Common.{zero, suc, inl, inr, refl, sym, subst, arith, ap, ◌∙◌}
 use Rattle.lotos_text.specs.AstView.{DefinitionView, DefinitionListView, no_defs, more_defs, name_of, formals_of, body_of, inner_of}
 use Rattle.lotos_text.specs.AstOf.{definition_view, definitions_view}
 use Rattle.lotos_text.specs.declared.ast.Definition.{Definition, out-Definition}
@@ -11,7 +11,9 @@ use Rattle.lotos_check.proofs.JoinedLists.{in_back, in_front}
 use Rattle.lotos_check.proofs.NameTests.{in_or_not}
 use Rattle.lotos_check.proofs.Pairs.{drop_at}
 use Rattle.lotos_check.proofs.ScopedDefinitions.{listed_more}
-use Rattle.lotos_explain.specs.SimilarNames.{IsFrom, IsBound, IsInScopeAt, IsInScopeInAny, IsGateInScopeAt, CallsAt, IsBoundInAny, IsProcessVisibleAt}
+use Rattle.lotos_explain.specs.SimilarNames.{IsFrom, IsBound, IsInScopeAt, IsInScopeInAny, IsGateInScopeAt, IsGateInScopeAtCall, CallsAt, IsBoundInAny, IsProcessVisibleAt}
+use Rattle.lotos_explain.specs.declared.similar_gates.Occurrence.{Occurrence}
+use Rattle.lotos_explain.specs.declared.similar_gates.Occurrence.TheVariants as occurrence
 use Rattle.lotos_text.proofs.DefinitionParts.{name_shown}
 use Rattle.lotos_explain.proofs.SimilarNames.{some_weaker, of_some}
 
@@ -50,14 +52,14 @@ module _ (items : List Definition) (index : ℕ) (item : Definition) (below : in
         )
 
 -- what is in scope in the body of a definition, or of one inside it
-pub gate_here : (scope : Scope) (first : ℕ) (d : DefinitionView) (at : ℕ) (n : Name) →
-    IsInScopeAt (texts (formals_of d)) (body_of d) at n → IsInScopeInAny (definition_in_scope scope first d) at n
-gate_here scope first d at n h = record { scoped = record { scope = within d first scope; definition = d }; located = inl refl; inside = h }
+pub gate_here : (scope : Scope) (first : ℕ) (d : DefinitionView) (place : Occurrence) (n : Name) →
+    IsInScopeAt (texts (formals_of d)) (body_of d) place n → IsInScopeInAny (definition_in_scope scope first d) place n
+gate_here scope first d place n h = record { scoped = record { scope = within d first scope; definition = d }; located = inl refl; inside = h }
 
-pub gate_inside : (scope : Scope) (first k : ℕ) (d one : DefinitionView) (at : ℕ) (n : Name) →
+pub gate_inside : (scope : Scope) (first k : ℕ) (d one : DefinitionView) (place : Occurrence) (n : Name) →
     ((v : ScopedDefinition) → In v (definition_in_scope (within d first scope) k one) → In v (definitions_in_scope (within d first scope) first (inner_of d))) →
-    IsInScopeInAny (definition_in_scope (within d first scope) k one) at n → IsInScopeInAny (definition_in_scope scope first d) at n
-gate_inside scope first k d one at n f h = record { scoped = h.scoped; located = inr (f h.scoped h.located); inside = h.inside }
+    IsInScopeInAny (definition_in_scope (within d first scope) k one) place n → IsInScopeInAny (definition_in_scope scope first d) place n
+gate_inside scope first k d one place n f h = record { scoped = h.scoped; located = inr (f h.scoped h.located); inside = h.inside }
 
 pub process_here : (scope : Scope) (first : ℕ) (d : DefinitionView) (at : ℕ) (n : Name) →
     CallsAt (texts (formals_of d)) (body_of d) at → IsBound (within d first scope) n → IsBoundInAny (definition_in_scope scope first d) at n
@@ -80,6 +82,13 @@ pub declared_item : (items : List Definition) (i : ℕ) (item : Definition) → 
 declared_item [] i item below is = absurd (omega (arith, below))
 declared_item (d ∷ ds) zero item below is = inl (subst (λ x. (name_of (definition_view d)).name ≡ x.name) (sym (name_shown item)) (ap (λ x. (name_of (definition_view x)).name) (sym is)))
 declared_item (d ∷ ds) (suc i) item below is = inr (declared_item ds i item (omega (arith, below)) is)
+
+-- the same of the name with its offset
+pub declared_placed : (items : List Definition) (i : ℕ) (item : Definition) → i < length items → item ≡ get_or items i item →
+    In (out-Definition item).name (declared_names (definitions_view items))
+declared_placed [] i item below is = absurd (omega (arith, below))
+declared_placed (d ∷ ds) zero item below is = inl (ap (λ x. name_of (definition_view x)) (sym is) ∙ sym (name_shown item))
+declared_placed (d ∷ ds) (suc i) item below is = inr (declared_placed ds i item (omega (arith, below)) is)
 
 -- a name that is declared has a definition
 declares_some : (ds : DefinitionListView) (first : ℕ) (n : Name) → In n (texts (declared_names ds)) → (k : ℕ) × (d : DefinitionView) × Declares ds first n k d
@@ -118,13 +127,25 @@ bound_inside now best found d ds first scope same outer more =
     ]) more
 
 -- what is found in the whole specification
-pub gate_in_whole : (whole : DefinitionView) (at : ℕ) (n : Name) → IsInScopeInAny (definition_in_scope [] 0 whole) at n → IsGateInScopeAt whole at n
+pub gate_in_whole : (whole : DefinitionView) (at : ℕ) (n : Name) → IsInScopeInAny (definition_in_scope [] 0 whole) (occurrence.Gate at) n →
+    IsGateInScopeAt whole at n
 gate_in_whole whole at n h = record {
   scope = h.scoped.scope;
   in_scope = h.inside.there;
   part = h.inside.part;
   occurs = record { definition = h.scoped.definition; located = h.located; inside = h.inside.inside };
   uses = h.inside.uses;
+  visible = h.inside.visible;
+}
+
+pub gate_at_call_in_whole : (whole : DefinitionView) (at : ℕ) (n : Name) → IsInScopeInAny (definition_in_scope [] 0 whole) (occurrence.Call at) n →
+    IsGateInScopeAtCall whole at n
+gate_at_call_in_whole whole at n h = record {
+  scope = h.scoped.scope;
+  in_scope = h.inside.there;
+  part = h.inside.part;
+  occurs = record { definition = h.scoped.definition; located = h.located; inside = h.inside.inside };
+  calls = h.inside.uses;
   visible = h.inside.visible;
 }
 

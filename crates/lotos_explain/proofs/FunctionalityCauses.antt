@@ -2,21 +2,21 @@
 use Rattle.std.specs.Prelude.{◌≡◌, ℕ, ◌+◌, List, [], ◌∷◌, Bool, true, false, IfSome, Option}
 use Rattle.std.specs.Str.{bytes_eq}
 use Rattle.std.specs.Borrow.{Bor}
-use Rattle.std.proofs.Common.{inl, inr, refl, sym, subst, ap, ◌∙◌}
+use Rattle.std.proofs.Common.{refl, sym, subst, ap, ◌∙◌}
 use Rattle.std.proofs.lemmas.Slice.Eq.{bytes_eq-Decides}
-use Rattle.lotos_text.specs.AstView.{BehaviourView, SyncView, stop, exit, prefix, choice, par, hide, enable, disable, call, DefinitionView, DefinitionListView, no_defs, more_defs, name_of, body_of, inner_of}
+use Rattle.lotos_text.specs.AstView.{BehaviourView, SyncView, stop, exit, prefix, choice, par, hide, enable, disable, call, DefinitionView, DefinitionListView, no_defs, more_defs, name_of, inner_of}
 use Rattle.lotos_text.specs.AstOf.{definition_view}
 use Rattle.lotos_text.specs.declared.ast.Definition.{Definition, out-Definition}
 use Rattle.lotos_text.specs.declared.ast.Action.{Action}
 use Rattle.lotos_text.specs.declared.ast.Functionality.{Functionality}
 use Rattle.lotos_text.specs.declared.ast.Functionality.TheVariants.{Exit, NoExit}
 use Rattle.lotos_text.specs.declared.ast.Placed.{Placed}
-use Rattle.lotos_check.specs.NameLists.{Name, In}
-use Rattle.lotos_check.specs.Scope.{Scope, ScopedDefinition, Declares, here, later, nearest, outward, count, within, definitions_in_scope, definition_in_scope}
+use Rattle.lotos_check.specs.NameLists.{Name}
+use Rattle.lotos_check.specs.Scope.{Scope, Declares, here, later, nearest, outward, count}
 use Rattle.lotos_check.specs.Functionality.{Func, of_stop, of_exit, of_prefix, of_hide, of_choice, of_disable, of_par, of_enable, of_call}
 use Rattle.lotos_explain.specs.declared.functionality_causes.Cause.{Cause}
 use Rattle.lotos_explain.specs.declared.functionality_causes.Leaf.TheVariants as leaf
-use Rattle.lotos_explain.specs.FunctionalityCauses.{IsReached, itself, under_prefix, under_hide, left_choice, right_choice, left_disable, right_disable, left_par, right_par, right_enable, HasCause, HasCauseInAny, IsCauseAt, IsEnclosing, IsBoundTo, IsDeclared}
+use Rattle.lotos_explain.specs.FunctionalityCauses.{IsReached, itself, under_prefix, under_hide, left_choice, right_choice, left_disable, right_disable, left_par, right_par, right_enable, HasCause, IsEnclosing, IsBoundTo, IsDeclared}
 use Rattle.lotos_text.proofs.DefinitionParts.{name_shown, declared_shown}
 use Rattle.lotos_explain.proofs.SimilarNames.{some_weaker}
 
@@ -149,27 +149,3 @@ stop_caused scope = record { part = stop; is = refl; reached = itself of_stop }
 
 pub exit_caused : (scope : Scope) → HasCause scope exit (record { functionality = Exit; leaf = leaf.Exit })
 exit_caused scope = record { part = exit; is = refl; reached = itself of_exit }
-
--- the cause of a definition, or of one inside it
-pub cause_here : (scope : Scope) (first : ℕ) (d : DefinitionView) (at : ℕ) (c : Cause) → (name_of d).at ≡ at →
-    HasCause (within d first scope) (body_of d) c → HasCauseInAny (definition_in_scope scope first d) at c
-cause_here scope first d at c e h = record { scoped = record { scope = within d first scope; definition = d }; located = inl refl; offset = e; has = h }
-
-pub cause_inside : (scope : Scope) (first k : ℕ) (d one : DefinitionView) (at : ℕ) (c : Cause) →
-    ((v : ScopedDefinition) → In v (definition_in_scope (within d first scope) k one) → In v (definitions_in_scope (within d first scope) first (inner_of d))) →
-    HasCauseInAny (definition_in_scope (within d first scope) k one) at c → HasCauseInAny (definition_in_scope scope first d) at c
-cause_inside scope first k d one at c f h = record { scoped = h.scoped; located = inr (f h.scoped h.located); offset = h.offset; has = h.has }
-
-pub cause_in_whole : (whole : DefinitionView) (at : ℕ) (c : Cause) → HasCauseInAny (definition_in_scope [] 0 whole) at c → IsCauseAt whole at c
-cause_in_whole whole at c h = record {
-  scope = h.scoped.scope;
-  definition = h.scoped.definition;
-  located = h.located;
-  offset = h.offset;
-  has = h.has;
-}
-
--- the scope inside a definition is that of it and those around it
-pub enclosing_inside : (scopes outer : List DefinitionView) (d : DefinitionView) (first : ℕ) (scope : Scope) → scopes ≡ d ∷ outer → IsEnclosing outer scope →
-    IsEnclosing scopes (within d first scope)
-enclosing_inside scopes outer d first scope e h = rw e (refl, h)

@@ -2,5 +2,8 @@ mod LexedRests
 mod Places
 mod SimilarNames
 mod DefinitionScopes
+mod EnclosingDefinitions
 mod FunctionalityCauses
 mod InnerGates
+mod FirstDeclarations
+mod UnguardedCalls

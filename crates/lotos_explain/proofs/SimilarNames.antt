@@ -1,7 +1,8 @@
 -- Names that are in scope at a part of a behaviour.
-use Rattle.std.specs.Prelude.{◌≡◌, ◌⊎◌, ℕ, ◌<◌, List, [], ◌∷◌, ◌++◌, length, get_or, IfSome, Option, None, Some, option_map, Box}
+use Rattle.std.specs.Prelude.{◌≡◌, ◌⊎◌, ℕ, ◌<◌, List, [], ◌∷◌, ◌++◌, length, get_or, map, slice_index_or, IfSome, Option, None, Some, option_map, Box}
+use Rattle.std.specs.Borrow.{Bor}
 use Rattle.std.specs.declared.alloc.Global.{Global}
-use Rattle.std.proofs.Common.{inl, inr, sym, subst}
+use Rattle.std.proofs.Common.{zero, suc, inl, inr, refl, sym, subst, arith}
 use Rattle.lotos_text.specs.AstView.{BehaviourView, gates, prefix, par, call}
 use Rattle.lotos_text.specs.AstOf.{behaviour_view}
 use Rattle.lotos_text.specs.declared.ast.Behaviour as code
@@ -15,7 +16,8 @@ use Rattle.lotos_check.specs.Subexpressions.{IsSubexpression, whole, in_choice_l
 use Rattle.lotos_check.proofs.JoinedLists.{in_back, in_front}
 use Rattle.lotos_check.proofs.ListIndices.{contains_in}
 use Rattle.lotos_check.proofs.MappedLists.{in_map}
-use Rattle.lotos_explain.specs.SimilarNames.{IsFrom, IsAmongAt, UsesGateAt, IsInScopeAt, CallsAt}
+use Rattle.lotos_explain.specs.SimilarNames.{IsFrom, IsAmongAt, UsesGateAt, IsCallAt, OccursAt, IsInScopeAt, CallsAt}
+use Rattle.lotos_explain.specs.declared.similar_gates.Occurrence.{Occurrence}
 
 -- what holds of a name that is there, if there is one
 pub some_weaker : {A : Type 0} {P Q : A → Type 0} (o : Option A) → ((a : A) → P a → Q a) → IfSome o P → IfSome o Q
@@ -25,6 +27,12 @@ some_weaker (Some a) f h = f a h
 -- the name of a gate of a list is one of their names
 pub text_of_item : (gs : List Placed) (i : ℕ) (g : Placed) → i < length gs → g ≡ get_or gs i g → In g.name (texts gs)
 text_of_item gs i g below is = in_map (λ (p : Placed). p.name) g gs (contains_in gs g (i, below, sym is))
+
+-- a word of a list is one of their texts
+pub word_located : (words : List (Bor Name)) (i : ℕ) (d : Bor Name) → i < length words → In (slice_index_or words i d).now (map (λ w. w.now) words)
+word_located [] i d below = absurd (omega (arith, below))
+word_located (w ∷ ws) zero d below = inl refl
+word_located (w ∷ ws) (suc i) d below = inr (word_located ws i d (omega (arith, below)))
 
 pub among_item : (gs : List Placed) (i : ℕ) (g : Placed) (at : ℕ) → i < length gs → g ≡ get_or gs i g → g.at ≡ at → IsAmongAt gs at
 among_item gs i g at below is offset = record { gate = g; located = contains_in gs g (i, below, sym is); offset = offset }
@@ -70,10 +78,13 @@ synchronizes_at l r gs at h = record { gate = h.gate; uses = synchronizes h.loca
 pub passes_at : (p : Placed) (gs : List Placed) (at : ℕ) → IsAmongAt gs at → UsesGateAt (call p gs) at
 passes_at p gs at h = record { gate = h.gate; uses = passes h.located; offset = h.offset }
 
-module _ (around : List Name) (at : ℕ) where
+pub call_at : (p : Placed) (gs : List Placed) (at : ℕ) → p.at ≡ at → IsCallAt (call p gs) at
+call_at p gs at e = record { called = p; actuals = gs; is = refl; offset = e }
+
+module _ (around : List Name) (place : Occurrence) where
   -- what is in scope inside an operand is in scope inside the whole
   pub deeper : (inside : List Name) (b c : BehaviourView) → ((there : List Name) (t : BehaviourView) → IsSubexpression inside b there t →
-      IsSubexpression around c there t) → (n : Name) → IsInScopeAt inside b at n → IsInScopeAt around c at n
+      IsSubexpression around c there t) → (n : Name) → IsInScopeAt inside b place n → IsInScopeAt around c place n
   deeper inside b c f n h = record {
     there = h.there;
     part = h.part;
@@ -82,6 +93,11 @@ module _ (around : List Name) (at : ℕ) where
     visible = h.visible;
   }
 
+  -- a name in scope around a behaviour in which a name occurs
+  pub at_once : (b : BehaviourView) → OccursAt b place → (n : Name) → In n around → IsInScopeAt around b place n
+  at_once b uses n visible = record { there = around; part = b; inside = whole; uses = uses; visible = visible }
+
+module _ (around : List Name) (at : ℕ) where
   pub calls_deeper : (inside : List Name) (b c : BehaviourView) → ((there : List Name) (t : BehaviourView) → IsSubexpression inside b there t →
       IsSubexpression around c there t) → CallsAt inside b at → CallsAt around c at
   calls_deeper inside b c f h = record {
@@ -91,10 +107,6 @@ module _ (around : List Name) (at : ℕ) where
     inside = f h.there (call h.called h.actuals) h.inside;
     offset = h.offset;
   }
-
-  -- a name in scope around a behaviour that uses the gate itself
-  pub at_once : (b : BehaviourView) → UsesGateAt b at → (n : Name) → In n around → IsInScopeAt around b at n
-  at_once b uses n visible = record { there = around; part = b; inside = whole; uses = uses; visible = visible }
 
   pub calls_itself : (p : Placed) (gs : List Placed) → p.at ≡ at → CallsAt around (call p gs) at
   calls_itself p gs e = record { there = around; called = p; actuals = gs; inside = whole; offset = e }

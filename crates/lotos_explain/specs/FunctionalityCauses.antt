@@ -4,8 +4,8 @@ use Rattle.lotos_text.specs.AstView.{BehaviourView, DefinitionListView, SyncView
 use Rattle.lotos_text.specs.declared.ast.Action.{Action}
 use Rattle.lotos_text.specs.declared.ast.Functionality.{Functionality}
 use Rattle.lotos_text.specs.declared.ast.Placed.{Placed}
-use Rattle.lotos_check.specs.NameLists.{Name, In}
-use Rattle.lotos_check.specs.Scope.{Scope, ScopedDefinition, Binds, Declares, IsDefinition}
+use Rattle.lotos_check.specs.NameLists.{Name}
+use Rattle.lotos_check.specs.Scope.{Scope, Binds, Declares, IsDefinition}
 use Rattle.lotos_check.specs.Functionality.{Func}
 use Rattle.lotos_explain.specs.declared.functionality_causes.Cause.{Cause}
 use Rattle.lotos_explain.specs.declared.functionality_causes.Leaf.{Leaf}
@@ -35,13 +35,6 @@ pub record HasCause (scope : Scope) (b : BehaviourView) (cause : Cause) : Type 0
   pub part : BehaviourView
   pub is : IsLeaf cause.leaf part
   pub reached : IsReached scope cause.functionality b part
-
--- the name of one of these has the offset, and its body has the cause
-pub record HasCauseInAny (definitions : List ScopedDefinition) (at : ℕ) (cause : Cause) : Type 0 where
-  pub scoped : ScopedDefinition
-  pub located : In scoped definitions
-  pub offset : (name_of scoped.definition).at ≡ at
-  pub has : HasCause scoped.scope (body_of scoped.definition) cause
 
 -- the body of the definition whose name has the offset has the cause
 pub record IsCauseAt (whole : DefinitionView) (at : ℕ) (cause : Cause) : Type 0 where

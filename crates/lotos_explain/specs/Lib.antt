@@ -4,3 +4,8 @@ pub mod ExpectedTokens
 pub mod SimilarNames
 pub mod FunctionalityCauses
 pub mod InnerGates
+pub mod OpenConstructs
+pub mod FirstDeclarations
+pub mod EnclosingDefinitions
+pub mod CalledDefinitions
+pub mod UnguardedRings

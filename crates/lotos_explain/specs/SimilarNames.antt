@@ -8,6 +8,8 @@ use Rattle.lotos_check.specs.NameLists.{Name, In, texts}
 use Rattle.lotos_check.specs.Scope.{Scope, ScopedDefinition, Binds}
 use Rattle.lotos_check.specs.StaticFaults.{Occurs}
 use Rattle.lotos_check.specs.Subexpressions.{IsSubexpression, UsesGate}
+use Rattle.lotos_explain.specs.declared.similar_gates.Occurrence.{Occurrence}
+use Rattle.lotos_explain.specs.declared.similar_gates.Occurrence.TheVariants as occurrence
 
 -- the name is this one, if there is one, or in the list
 abbrev pub IsFrom : Option Name → List Name → Name → Type 0
@@ -34,19 +36,31 @@ pub record UsesGateAt (part : BehaviourView) (at : ℕ) : Type 0 where
   pub uses : UsesGate part gate
   pub offset : gate.at ≡ at
 
--- with these gates in scope around the body, the name is in scope at a part of it that uses a gate with this offset
-pub record IsInScopeAt (around : List Name) (body : BehaviourView) (at : ℕ) (n : Name) : Type 0 where
+-- the behaviour is a call whose name has this offset
+pub record IsCallAt (part : BehaviourView) (at : ℕ) : Type 0 where
+  pub called : Placed
+  pub actuals : List Placed
+  pub is : part ≡ call called actuals
+  pub offset : called.at ≡ at
+
+-- the behaviour itself uses a gate whose offset this is, or is a call whose name has it
+abbrev pub OccursAt : BehaviourView → Occurrence → Type 0
+OccursAt part (occurrence.Gate at) = UsesGateAt part at
+OccursAt part (occurrence.Call at) = IsCallAt part at
+
+-- with these gates in scope around the body, the name is in scope at a part of it in which a name occurs there
+pub record IsInScopeAt (around : List Name) (body : BehaviourView) (place : Occurrence) (n : Name) : Type 0 where
   pub there : List Name
   pub part : BehaviourView
   pub inside : IsSubexpression around body there part
-  pub uses : UsesGateAt part at
+  pub uses : OccursAt part place
   pub visible : In n there
 
--- the name is in scope where the body of one of these uses a gate with this offset
-pub record IsInScopeInAny (definitions : List ScopedDefinition) (at : ℕ) (n : Name) : Type 0 where
+-- the name is in scope where a name occurs in the body of one of these
+pub record IsInScopeInAny (definitions : List ScopedDefinition) (place : Occurrence) (n : Name) : Type 0 where
   pub scoped : ScopedDefinition
   pub located : In scoped definitions
-  pub inside : IsInScopeAt (texts (formals_of scoped.definition)) (body_of scoped.definition) at n
+  pub inside : IsInScopeAt (texts (formals_of scoped.definition)) (body_of scoped.definition) place n
 
 -- the gate is in scope at a part that uses a gate with this offset
 pub record IsGateInScopeAt (whole : DefinitionView) (at : ℕ) (n : Name) : Type 0 where
@@ -55,6 +69,15 @@ pub record IsGateInScopeAt (whole : DefinitionView) (at : ℕ) (n : Name) : Type
   pub part : BehaviourView
   pub occurs : Occurs whole scope in_scope part
   pub uses : UsesGateAt part at
+  pub visible : In n in_scope
+
+-- the gate is in scope at a call whose name has this offset
+pub record IsGateInScopeAtCall (whole : DefinitionView) (at : ℕ) (n : Name) : Type 0 where
+  pub scope : Scope
+  pub in_scope : List Name
+  pub part : BehaviourView
+  pub occurs : Occurs whole scope in_scope part
+  pub calls : IsCallAt part at
   pub visible : In n in_scope
 
 -- a process with this name is visible

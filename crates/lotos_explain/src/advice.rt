@@ -5,17 +5,24 @@ use crate::token_description::Description;
 use lotos_check::CheckFault;
 use lotos_text::{Functionality, Sign, TextFault, TokenKind};
 
-/// What to do about a fault of the parser. `what` is at its place, and `expected` could be there.
+/// What to do about a fault of the parser. `what` is at its place, where the rest of the text is this one, and `expected`
+/// could be there.
 pub(crate) fn text_advice(
     fault: &TextFault,
     what: &Description,
+    rest: &[u8],
     expected: &[&'static str],
 ) -> &'static str {
     match fault {
-        TextFault::E01(_) => byte_advice(what),
+        TextFault::E01(_) => byte_advice(what, rest, expected),
         TextFault::E02(_) => "Close the comment with `*)`; comments do not nest.",
         TextFault::E03 => "Leave out comments, and processes that are not called.",
         TextFault::E04(_) => token_advice(what, expected),
+        TextFault::E05(_)
+            if matches!(what, Description::Token(token) if token.kind == TokenKind::Sign(Sign::Semicolon)) =>
+            {
+                "Each `;` opens a construct: divide a long sequence among processes, each of which calls the next."
+            }
         TextFault::E05(_) => "Make an inner part a process of its own.",
         TextFault::E06(_) => {
             "Put what is missing at the end: close each parenthesis, each process and the specification."
@@ -27,13 +34,24 @@ pub(crate) fn text_advice(
     }
 }
 
-/// What to do about bytes with which no token begins.
-fn byte_advice(what: &Description) -> &'static str {
+/// What to do about bytes with which no token begins. They begin the rest of the text.
+fn byte_advice(what: &Description, rest: &[u8], expected: &[&'static str]) -> &'static str {
     match what {
         Description::ByteOrderMark => "Save the text without a byte order mark.",
-        Description::Byte(b'=') => "Write `:=` after the functionality of a process.",
+        Description::Byte(b'=') if expected.contains(&":=") => {
+            "Write `:=` after the functionality of a process."
+        }
+        Description::Byte(b'=') => {
+            "Write `:=` in a definition; values and guards of full LOTOS are not read here."
+        }
+        Description::Byte(b'-') if rest.starts_with(b"->") => {
+            "Guards of full LOTOS are not read here: write a choice, with a gate for each case."
+        }
         Description::Byte(b'-') => {
             "Write an underscore in a name; a comment is written between `(*` and `*)`."
+        }
+        Description::Byte(128..) => {
+            "Write a name in letters of ASCII, digits and underscores; only comments have other characters."
         }
         Description::Byte(b'0'..=b'9' | b'_') => "Begin the name with a letter.",
         Description::Byte(b'!' | b'?') => {
@@ -82,6 +100,14 @@ fn sign_advice(sign: Sign, expected: &[&'static str]) -> &'static str {
         _ => "Put what is missing before it, or remove it.",
     }
 }
+
+/// What to do about a gate of the specification that a process does not have.
+pub(crate) const HAND_ON: &str =
+    "Hand it on: add it to the gates of the process and to those of its calls.";
+
+/// What to do about a gate in the place of a behaviour.
+pub(crate) const PUT_SEMICOLON: &str =
+    "Put `;` after it, and then what comes next; a name without `;` is a call of a process.";
 
 /// What to do about a specification that breaks a static rule.
 pub(crate) fn check_advice(fault: &CheckFault) -> &'static str {

@@ -4,7 +4,8 @@ ghost use Rattle.std.specs.List.{AllByRecursion};
 ghost use Rattle.lotos_explain.specs.ExpectedTokens.{CouldBeAt, CouldFollow};
 
 use crate::continuations::{CANDIDATES, Candidate};
-use lotos_text::{Sign, TextFault, TokenKind, Word, parse, tokens};
+use crate::open_constructs::{closing_of, open_constructs_at};
+use lotos_text::{TextFault, Token, parse};
 use std::alloc::{AllocError, Global};
 
 /// Words and signs that could be at the offset, which is at most the length of the text: with each, some text that
@@ -23,7 +24,7 @@ pub fn expected_tokens(
     ensures { IfOk result (λ found. AllByRecursion (λ c. CouldBeAt text.now at c.now) found.items) }
 {
     let front = &text[..at];
-    let open = open_constructs(alloc, front)?;
+    let open = open_constructs_at(alloc, text, at)?;
     let mut found = Vec::new(alloc);
     for candidate in CANDIDATES {
         if could_follow(alloc, front, open.as_slice(), candidate)? {
@@ -33,65 +34,11 @@ pub fn expected_tokens(
     Ok(found)
 }
 
-/// A construct that has a closing word or sign.
-#[derive(Clone, Copy)]
-enum Construct {
-    Parentheses,
-    Process,
-    Specification,
-}
-
-/// The constructs that the text opens and does not close, the outermost first; none if it does not lex.
-fn open_constructs(alloc: Global, front: &[u8]) -> Result<Vec<Construct>, AllocError> {
-    let mut open = Vec::new(alloc);
-    let found = match tokens(alloc, front) {
-        Ok(found) => found,
-        Err(TextFault::E99(error)) => return Err(error),
-        Err(_) => return Ok(open),
-    };
-    for token in &found {
-        match opened_by(token.kind) {
-            Some(construct) => open.push(construct)?,
-            None => {
-                if is_closing(token.kind) {
-                    open.pop();
-                }
-            }
-        }
-    }
-    Ok(open)
-}
-
-fn opened_by(kind: TokenKind) -> Option<Construct> {
-    match kind {
-        TokenKind::Reserved(Word::SpecificationWord) => Some(Construct::Specification),
-        TokenKind::Reserved(Word::ProcessWord) => Some(Construct::Process),
-        TokenKind::Sign(Sign::LeftParenthesis) => Some(Construct::Parentheses),
-        _ => None,
-    }
-}
-
-fn is_closing(kind: TokenKind) -> bool {
-    matches!(
-        kind,
-        TokenKind::Reserved(Word::EndspecWord | Word::EndprocWord)
-            | TokenKind::Sign(Sign::RightParenthesis)
-    )
-}
-
-fn closing_of(construct: Construct) -> &'static [u8] {
-    match construct {
-        Construct::Parentheses => b" )",
-        Construct::Process => b" endproc",
-        Construct::Specification => b" endspec",
-    }
-}
-
 /// Whether one of the candidate's continuations shows that it could come after the front.
 fn could_follow(
     alloc: Global,
     front: &[u8],
-    open: &[Construct],
+    open: &[Token],
     candidate: &Candidate,
 ) -> Result<bool, AllocError>
     ensures { IfOk result (λ yes. yes ≡ true → CouldFollow front.now candidate.now.text.now) }
@@ -110,11 +57,12 @@ fn could_follow(
     Ok(false)
 }
 
-/// The closings of the constructs, the innermost first.
-fn closings_of(alloc: Global, open: &[Construct]) -> Result<Vec<u8>, AllocError> {
+/// The closings of the constructs that these tokens open, the innermost first, with a blank before each.
+fn closings_of(alloc: Global, open: &[Token]) -> Result<Vec<u8>, AllocError> {
     let mut closing = Vec::new(alloc);
-    for construct in open.iter().rev() {
-        closing.extend_from_slice(closing_of(*construct))?;
+    for token in open.iter().rev() {
+        closing.push(b' ')?;
+        closing.extend_from_slice(closing_of(token.kind).as_bytes())?;
     }
     Ok(closing)
 }

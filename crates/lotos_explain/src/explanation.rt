@@ -1,148 +1,33 @@
-//! The lines of an explanation. Errors of the writer are ignored, and what there is no memory for is left out.
+//! The lines that explain a fault of the parser. Errors of the writer are ignored, and what there is no memory for is left out.
 
-use crate::advice::{check_advice, text_advice};
-use crate::continuations::NAME;
+use crate::advice::text_advice;
 use crate::expectations::expected_tokens;
-use crate::functionality_causes::{Cause, Leaf, functionality_cause};
-use crate::line_bounds::line_of;
-use crate::similar_gates::similar_gate_in_scope;
-use crate::similar_processes::similar_process_in_scope;
+use crate::open_constructs::closing_of;
+use crate::shown_text::{ByteText, Position, TokenText, WordList, show_line};
+use crate::slips::{Slip, slip_at};
 use crate::token_description::{Description, describe_token};
-use lotos_check::CheckFault;
-use lotos_text::{
-    Functionality, Placed, Specification, TEXT_LIMIT, TextFault, Token, TokenKind, line_column,
-};
+use lotos_text::{TEXT_LIMIT, TextFault, Token, TokenKind};
 use std::alloc::{AllocError, Global};
-use std::fmt;
 use std::io::Write;
 
 /// The most bytes before a fault at whose place completions are tried: each trial parses all of them.
 const EXPECTED_LIMIT: usize = 1 << 16;
-
-/// The most bytes of a text of which a functionality is explained: each call is looked up among all visible processes.
-const CAUSE_LIMIT: usize = 1 << 16;
-
-/// The most bytes of a line that are shown before the place, and in all.
-const SHOWN_BEFORE: usize = 60;
-
-const SHOWN: usize = 100;
-
-/// The most bytes of a token that are shown.
-const SHOWN_OF_TOKEN: usize = 40;
 
 /// Explains a fault of the parser in a text: the line of its place, what is there, what could be there, and what to do.
 ///
 /// The text of E03 is not looked at.
 pub fn explain_text_fault<E: Write>(alloc: Global, text: &[u8], fault: &TextFault, err: &mut E) {
     let Some(at) = fault.at() else {
-        let _ = writeln!(err, "  {}", text_advice(fault, &Description::Nothing, &[]));
+        let _ = writeln!(
+            err,
+            "  {}",
+            text_advice(fault, &Description::Nothing, &[], &[])
+        );
         return;
     };
     show_line(text, at, err);
     if explain_token(alloc, text, fault, at, err).is_err() {
         let _ = writeln!(err, "  There is no memory to say more.");
-    }
-}
-
-/// Explains a static rule that the specification of a text breaks: the line of its place, a name that could be meant
-/// where one is not declared, what makes a functionality that is not the declared one, and what to do.
-pub fn explain_check_fault<E: Write>(
-    alloc: Global,
-    text: &[u8],
-    specification: &Specification,
-    fault: &CheckFault,
-    err: &mut E,
-) {
-    if let Some(at) = fault.at() {
-        show_line(text, at, err);
-    }
-    match fault {
-        CheckFault::E21(gate) => report_similar_gate(alloc, specification, gate, err),
-        CheckFault::E22(name) => report_similar_process(alloc, specification, name, err),
-        CheckFault::E25 { name, .. } => report_cause(alloc, text, specification, name.at, err),
-        _ => {}
-    }
-    let _ = writeln!(err, "  {}", check_advice(fault));
-}
-
-/// Writes the name of a gate that could be meant, if one is found.
-fn report_similar_gate<E: Write>(
-    alloc: Global,
-    specification: &Specification,
-    gate: &Placed,
-    err: &mut E,
-) {
-    let found = similar_gate_in_scope(alloc, specification, gate.at, gate.name.text());
-    if let Ok(Some(name)) = found {
-        let _ = writeln!(err, "  a gate in scope has a similar name: {}", name.text());
-    }
-}
-
-/// Writes the name of a process that could be meant, if one is found.
-fn report_similar_process<E: Write>(
-    alloc: Global,
-    specification: &Specification,
-    called: &Placed,
-    err: &mut E,
-) {
-    let found = similar_process_in_scope(alloc, specification, called.at, called.name.text());
-    if let Ok(Some(name)) = found {
-        let _ = writeln!(
-            err,
-            "  a process that is visible here has a similar name: {}",
-            name.text()
-        );
-    }
-}
-
-/// Writes what makes the functionality of the definition whose name has the offset, if it is found and the text is not
-/// too long.
-fn report_cause<E: Write>(
-    alloc: Global,
-    text: &[u8],
-    specification: &Specification,
-    at: usize,
-    err: &mut E,
-) {
-    if text.len() > CAUSE_LIMIT {
-        return;
-    }
-    if let Ok(Some(cause)) = functionality_cause(alloc, specification, at) {
-        write_cause(text, &cause, err);
-    }
-}
-
-fn write_cause<E: Write>(text: &[u8], cause: &Cause, err: &mut E) {
-    let functionality = match cause.functionality {
-        Functionality::Exit => "exit",
-        Functionality::NoExit => "noexit",
-    };
-    let _ = match cause.leaf {
-        Leaf::Stop => writeln!(err, "  it is `{functionality}` because of a `stop`"),
-        Leaf::Exit => writeln!(err, "  it is `{functionality}` because of an `exit`"),
-        Leaf::Call(called) if called.at <= text.len() => {
-            let (line, column) = line_column(text, called.at);
-            writeln!(
-                err,
-                "  it is `{functionality}` because of the call of {} at {line}:{column}",
-                called.name.text()
-            )
-        }
-        Leaf::Call(_) => Ok(()),
-    };
-}
-
-/// Writes the line of the offset, or a part of a long one, and a mark under the offset.
-fn show_line<E: Write>(text: &[u8], at: usize, err: &mut E) {
-    if at > text.len() {
-        return;
-    }
-    let bounds = line_of(text, at);
-    let from = bounds.start.max(at.saturating_sub(SHOWN_BEFORE));
-    let to = bounds.end.min(from.saturating_add(SHOWN));
-    if let Some(shown) = text.get(from..to) {
-        let _ = writeln!(err, "  {}", ShownBytes(shown));
-        let _ = writeln!(err, "  {}^", Blanks(at.saturating_sub(from)));
     }
 }
 
@@ -156,16 +41,77 @@ fn explain_token<E: Write>(
 ) -> Result<(), AllocError> {
     let what = description_of(alloc, text, at)?;
     let expected = expected_at(alloc, text, fault, at)?;
+    let slip = slip_at(alloc, text, at, &what, expected.as_slice())?;
     report_description(text, &what, err);
-    if !expected.is_empty() {
-        let _ = writeln!(
-            err,
-            "  could be here, among others:{}",
-            WordList(expected.as_slice())
-        );
+    if !expected.is_empty() && !matches!(slip, Some(Slip::Semicolon(_))) {
+        let words = WordList(expected.as_slice());
+        let _ = writeln!(err, "  could be here, among others:{words}");
     }
-    let _ = writeln!(err, "  {}", text_advice(fault, &what, expected.as_slice()));
+    let rest = text.get(at..).unwrap_or_default();
+    let advice = text_advice(fault, &what, rest, expected.as_slice());
+    report_slip(text, &what, slip, advice, err);
     Ok(())
+}
+
+/// Writes what may be wrong at the place, and what to do: about that, or else what the advice says.
+fn report_slip<E: Write>(
+    text: &[u8],
+    what: &Description,
+    slip: Option<Slip>,
+    advice: &str,
+    err: &mut E,
+) {
+    match slip {
+        Some(Slip::Word(word)) => {
+            let _ = writeln!(
+                err,
+                "  Did you mean `{word}`? If not, put what is missing before it."
+            );
+        }
+        Some(Slip::Semicolon(name)) => {
+            let name = TokenText(text, name);
+            let _ = writeln!(err, "  a `;` may be missing between {name} and it");
+            let _ = writeln!(
+                err,
+                "  Put `;` after {name} if it is a gate, or an operator as `[]` if it is a process."
+            );
+        }
+        Some(Slip::Unclosed { opening, name }) => {
+            report_unclosed(text, what, opening, name, err);
+            let _ = writeln!(err, "  {advice}");
+        }
+        None => {
+            let _ = writeln!(err, "  {advice}");
+        }
+    }
+}
+
+/// Writes where the construct began that is open at the place. A process and the specification have a name.
+fn report_unclosed<E: Write>(
+    text: &[u8],
+    what: &Description,
+    opening: Token,
+    name: Option<Token>,
+    err: &mut E,
+) {
+    let place = Position(text, opening.at);
+    let before = if *what == Description::End {
+        ""
+    } else {
+        " before it"
+    };
+    let closing = closing_of(opening.kind);
+    let opening = TokenText(text, opening);
+    let _ = match name {
+        Some(name) => {
+            let name = TokenText(text, name);
+            writeln!(
+                err,
+                "  {opening} {name}, which begins at {place}, has no `{closing}`{before}"
+            )
+        }
+        None => writeln!(err, "  {opening} at {place} is not closed{before}"),
+    };
 }
 
 /// What is at the offset; of a text that is too long nothing.
@@ -222,84 +168,5 @@ fn kind_text(kind: TokenKind) -> &'static str {
         TokenKind::Identifier => "is an identifier",
         TokenKind::Reserved(_) => "is a reserved word",
         TokenKind::Sign(_) => "is a sign",
-    }
-}
-
-/// Bytes as text of as many columns: those that are not printed are shown as `?`, blanks as a blank.
-#[derive(Clone, Copy, Drop)]
-struct ShownBytes<'a>(&'a [u8]);
-
-impl fmt::Display for ShownBytes<'_> {
-    fn fmt<W: fmt::Write>(&self, f: &mut fmt::Formatter<W>) -> fmt::Result {
-        for byte in self.0 {
-            f.write_char(shown_char(*byte))?;
-        }
-        Ok(())
-    }
-}
-
-fn shown_char(byte: u8) -> char {
-    match byte {
-        b' '..=b'~' => char::from(byte),
-        9..=13 => ' ',
-        _ => '?',
-    }
-}
-
-/// So many blanks.
-#[derive(Clone, Copy, Drop)]
-struct Blanks(usize);
-
-impl fmt::Display for Blanks {
-    fn fmt<W: fmt::Write>(&self, f: &mut fmt::Formatter<W>) -> fmt::Result {
-        for _ in 0..self.0 {
-            f.write_char(' ')?;
-        }
-        Ok(())
-    }
-}
-
-/// The bytes of a token of the text, in backquotes.
-#[derive(Clone, Copy, Drop)]
-struct TokenText<'a>(&'a [u8], Token);
-
-impl fmt::Display for TokenText<'_> {
-    fn fmt<W: fmt::Write>(&self, f: &mut fmt::Formatter<W>) -> fmt::Result {
-        let end = self.1.end.min(self.1.at.saturating_add(SHOWN_OF_TOKEN));
-        let dots = if end < self.1.end { ".." } else { "" };
-        match self.0.get(self.1.at..end) {
-            Some(bytes) => write!(f, "`{}{dots}`", ShownBytes(bytes)),
-            None => Ok(()),
-        }
-    }
-}
-
-/// A byte that begins no token: as a character if it is one, else by its number.
-#[derive(Clone, Copy, Drop)]
-struct ByteText(u8);
-
-impl fmt::Display for ByteText {
-    fn fmt<W: fmt::Write>(&self, f: &mut fmt::Formatter<W>) -> fmt::Result {
-        match self.0 {
-            b' '..=b'~' => write!(f, "`{}`", char::from(self.0)),
-            _ => write!(f, "the byte {}", self.0),
-        }
-    }
-}
-
-/// Words and signs, each in backquotes after a blank.
-#[derive(Clone, Copy, Drop)]
-struct WordList<'a>(&'a [&'static str]);
-
-impl fmt::Display for WordList<'_> {
-    fn fmt<W: fmt::Write>(&self, f: &mut fmt::Formatter<W>) -> fmt::Result {
-        for word in self.0 {
-            if *word == NAME {
-                f.write_str(" a name")?;
-            } else {
-                write!(f, " `{word}`")?;
-            }
-        }
-        Ok(())
     }
 }

@@ -1,11 +1,13 @@
 //! What makes the functionality of a definition.
-ghost use Rattle.std.specs.Prelude.{◌≡◌, ◌∷◌, ℕ, List, IfOk, IfSome, MatchOption, map};
+ghost use Rattle.std.specs.Prelude.{◌≡◌, ℕ, List, IfOk, IfSome, MatchOption, map};
 ghost use Rattle.lotos_text.specs.AstView.{BehaviourView, DefinitionView, SyncView, call, choice, disable, par};
 ghost use Rattle.lotos_text.specs.AstOf.{behaviour_view, definition_view, definitions_view};
 ghost use Rattle.lotos_text.specs.declared.ast.Placed.{Placed as AnyPlaced};
-ghost use Rattle.lotos_check.specs.Scope.{Declares, Scope, definition_in_scope};
-ghost use Rattle.lotos_explain.specs.FunctionalityCauses.{HasCause, HasCauseInAny, IsBoundTo, IsCauseAt, IsDeclared, IsEnclosing};
+ghost use Rattle.lotos_check.specs.Scope.{Declares, Scope};
+ghost use Rattle.lotos_explain.specs.FunctionalityCauses.{HasCause, IsBoundTo, IsCauseAt, IsDeclared, IsEnclosing};
+ghost use Rattle.lotos_explain.specs.EnclosingDefinitions.{AreScopesOf};
 
+use crate::enclosing_definitions::scopes_at;
 use lotos_text::{Behaviour, Definition, Functionality, Name, Placed, Specification};
 use std::alloc::{AllocError, Global};
 
@@ -41,49 +43,22 @@ pub fn functionality_cause<'a>(
     ensures { IfOk result (λ found. IfSome found
         (IsCauseAt (definition_view specification.now.whole) at)) }
 {
-    cause_in_definition(alloc, &[], &specification.whole, at)
+    match scopes_at(alloc, specification, at)? {
+        Some(scopes) => Ok(cause_of_first(scopes.as_slice(), at)),
+        None => Ok(None),
+    }
 }
 
-/// The cause of the definition with the offset, if it is this one or one inside it. `outer` are the definitions around
-/// it, the nearest first.
-fn cause_in_definition<'a>(
-    alloc: Global,
-    outer: &[&'a Definition],
-    definition: &'a Definition,
-    at: usize,
-) -> Result<Option<Cause<'a>>, AllocError>
-    ensures { (scope : Scope) (first : ℕ) →
-        IsEnclosing (map (λ d. definition_view d.now) outer.now) scope →
-        IfOk result (λ found. IfSome found
-        (HasCauseInAny (definition_in_scope scope first (definition_view definition.now)) at)) }
+/// The cause of the first of the definitions, if its name has the offset. The others are those around it, the nearest
+/// first.
+fn cause_of_first<'a>(scopes: &[&'a Definition], at: usize) -> Option<Cause<'a>>
+    ensures { (whole : DefinitionView) →
+        AreScopesOf whole (map (λ d. definition_view d.now) scopes.now) → IfSome result (IsCauseAt whole at) }
 {
-    let scopes = scopes_inside(alloc, outer, definition)?;
-    if definition.name.at == at {
-        return Ok(cause_in(scopes.as_slice(), &definition.body));
+    match scopes.first() {
+        Some(definition) if definition.name.at == at => cause_in(scopes, &definition.body),
+        _ => None,
     }
-    for inner in &definition.inner {
-        if let Some(found) = cause_in_definition(alloc, scopes.as_slice(), inner, at)? {
-            return Ok(Some(found));
-        }
-    }
-    Ok(None)
-}
-
-/// The definition, and then those around it.
-fn scopes_inside<'a>(
-    alloc: Global,
-    outer: &[&'a Definition],
-    definition: &'a Definition,
-) -> Result<Vec<&'a Definition>, AllocError>
-    ensures { IfOk result (λ scopes. map (λ d. definition_view d.now) scopes.items
-        ≡ definition_view definition.now ∷ map (λ d. definition_view d.now) outer.now) }
-{
-    let mut scopes = Vec::new(alloc);
-    scopes.push(definition)?;
-    for one in outer {
-        scopes.push(*one)?;
-    }
-    Ok(scopes)
 }
 
 /// The cause of a behaviour; none if a call in it has no binding. `scopes` are the definitions whose `where`s are
@@ -159,7 +134,7 @@ fn call_cause<'a>(scopes: &[&'a Definition], name: &'a Placed) -> Option<Cause<'
 }
 
 /// The definition that the name is bound to.
-fn find_definition<'a>(scopes: &[&'a Definition], name: &Name) -> Option<&'a Definition>
+pub(crate) fn find_definition<'a>(scopes: &[&'a Definition], name: &Name) -> Option<&'a Definition>
     ensures { (scope : Scope) → IsEnclosing (map (λ d. definition_view d.now) scopes.now) scope →
         IfSome result (λ d. IsBoundTo scope name.now (definition_view d.now)) }
 {

@@ -1,6 +1,7 @@
 //! Gates inside a specification: those that it hides, and the formal ones of its processes.
 ghost use Rattle.std.specs.Prelude.{ℕ, List, IfSome};
 ghost use Rattle.lotos_text.specs.AstOf.{behaviour_view, definition_view};
+ghost use Rattle.lotos_text.specs.AstView.{formals_of};
 ghost use Rattle.lotos_check.specs.NameLists.{Name as AnyName};
 ghost use Rattle.lotos_check.specs.Scope.{Scope, definition_in_scope};
 ghost use Rattle.lotos_explain.specs.InnerGates.{HasFormalInAny, HidesAt, HidesInAny, IsFormalGateOf, IsHiddenAt, IsNamedAt};
@@ -21,6 +22,13 @@ pub fn formal_gate<'a>(specification: &'a Specification, name: &str) -> Option<&
     ensures { IfSome result (λ n. IsFormalGateOf (definition_view specification.now.whole) name.now n.now) }
 {
     formal_in_definition(&specification.whole, name)
+}
+
+/// The offset of the gate of this name in the specification's own list. The name is in upper case.
+pub fn specification_gate(specification: &Specification, name: &str) -> Option<usize>
+    ensures { IfSome result (IsNamedAt (formals_of (definition_view specification.now.whole)) name.now) }
+{
+    offset_of(specification.whole.formals.as_slice(), name)
 }
 
 /// Such an offset in the body of the definition, or else in those inside it.
@@ -78,7 +86,7 @@ fn hidden_in_behaviour(behaviour: &Behaviour, name: &str) -> Option<usize>
 }
 
 /// The offset of the first of the gates that has this name.
-fn offset_of(gates: &[Placed], name: &str) -> Option<usize>
+pub(crate) fn offset_of(gates: &[Placed], name: &str) -> Option<usize>
     ensures { IfSome result (IsNamedAt gates.now name.now) }
 {
     for gate in gates {

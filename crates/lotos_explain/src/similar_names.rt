@@ -1,5 +1,5 @@
 //! The most similar of several names.
-ghost use Rattle.std.specs.Prelude.{◌≡◌, ◌∷◌, ◌≤◌, [], IfOk, IfSome, option_map};
+ghost use Rattle.std.specs.Prelude.{◌≡◌, ◌∷◌, ◌≤◌, [], IfOk, IfSome, map, option_map, true};
 ghost use Rattle.lotos_text.specs.AstOf.{definitions_view};
 ghost use Rattle.lotos_check.specs.NameLists.{In, texts};
 ghost use Rattle.lotos_check.specs.Scope.{declared_names};
@@ -74,6 +74,46 @@ pub(crate) fn similar_process<'a>(
     Ok(closest)
 }
 
+/// Of the words, one that is similar to the name, as a name is in [`similar_name`]. It is the most similar one, of equally
+/// similar ones the first.
+///
+/// # Errors
+///
+/// If an allocation fails.
+pub fn similar_word(
+    alloc: Global,
+    name: &str,
+    words: &[&'static str],
+) -> Result<Option<&'static str>, AllocError>
+    ensures among { IfOk result (λ found. IfSome found (λ w. In w.now (map (λ v. v.now) words.now))) }
+    ensures similar { IfOk result (λ found. IfSome found (λ w. IsSimilar name.now w.now)) }
+{
+    let mut closest = None;
+    for word in words {
+        closest = more_similar_word(alloc, name, closest, *word)?;
+    }
+    Ok(closest)
+}
+
+/// The word if it is similar to the name, and more than `best` if there is one; else `best`.
+fn more_similar_word(
+    alloc: Global,
+    name: &str,
+    best: Option<&'static str>,
+    word: &'static str,
+) -> Result<Option<&'static str>, AllocError>
+    ensures from { IfOk result (λ found. IfSome found
+        (λ w. IsFrom (option_map (λ v. v.now) best.entry) (word.now ∷ []) w.now)) }
+    ensures similar { IfSome best.entry (λ w. IsSimilar name.now w.now) →
+        IfOk result (λ found. IfSome found (λ w. IsSimilar name.now w.now)) }
+{
+    if is_more_similar(alloc, name, best, word)? {
+        Ok(Some(word))
+    } else {
+        Ok(best)
+    }
+}
+
 /// The other name if it is similar to the name, and more than `best` if there is one; else `best`.
 fn more_similar<'a>(
     alloc: Global,
@@ -86,27 +126,42 @@ fn more_similar<'a>(
     ensures similar { IfSome best.entry (λ n. IsSimilar name.now n.now) →
         IfOk result (λ found. IfSome found (λ n. IsSimilar name.now n.now)) }
 {
-    let edits = edits_to(alloc, name, other)?;
-    let most = (MOST_EDITS + 1).min(name.len());
-    let bound = match best {
-        Some(best) => edits_to(alloc, name, best)?.min(most),
-        None => most,
+    let closest = match best {
+        Some(best) => Some(best.text()),
+        None => None,
     };
-    if edits < bound {
+    if is_more_similar(alloc, name, closest, other.text())? {
         Ok(Some(other))
     } else {
         Ok(best)
     }
 }
 
-/// The number of edits of one byte that lead from one name to the other; the largest number if it is too large, or if
-/// the name is too long.
-fn edits_to(alloc: Global, name: &str, other: &Name) -> Result<usize, AllocError>
+/// Whether the other text is similar to the name, and more than `best` if there is one.
+fn is_more_similar(
+    alloc: Global,
+    name: &str,
+    best: Option<&str>,
+    other: &str,
+) -> Result<bool, AllocError>
+    ensures { IfOk result (λ yes. yes ≡ true → IsSimilar name.now other.now) }
+{
+    let edits = edits_to(alloc, name, other)?;
+    let most = (MOST_EDITS + 1).min(name.len());
+    let bound = match best {
+        Some(best) => edits_to(alloc, name, best)?.min(most),
+        None => most,
+    };
+    Ok(edits < bound)
+}
+
+/// The number of edits of one byte that lead from one text to the other; the largest number if it is too large, or if
+/// the first is too long.
+fn edits_to(alloc: Global, name: &str, other: &str) -> Result<usize, AllocError>
     ensures { IfOk result (λ n. n ≤ 2 → n ≡ edits name.now other.now) }
 {
-    let text = other.text();
-    if name.len() > LONGEST || name.len().abs_diff(text.len()) > MOST_EDITS {
+    if name.len() > LONGEST || name.len().abs_diff(other.len()) > MOST_EDITS {
         return Ok(usize::MAX);
     }
-    levenshtein(alloc, name, text)
+    levenshtein(alloc, name, other)
 }

@@ -53,7 +53,7 @@ fn process_in_definition<'a>(
 }
 
 /// Whether the behaviour contains a call whose name has the offset.
-fn calls_at(behaviour: &Behaviour, at: usize) -> bool
+pub(crate) fn calls_at(behaviour: &Behaviour, at: usize) -> bool
     ensures { (around : List AnyName) → result ≡ true → CallsAt around (behaviour_view behaviour.now) at }
 {
     match behaviour {

@@ -14,7 +14,7 @@ returns-in-Some t c = λ scope first.
     let d = definition_view of in
     let best = from_nothing (λ k. k.now) c.in_ok-best.best (texts c.as_slice.result.now) c.in_ok-best.ensures in
     let found = rw c.in-Some.is at (c.in_ok-found.ensures (texts c.as_slice.result.now) best) in
-    gate_here scope first d c.args.at c.in-Some.found.now
+    gate_here scope first d c.args.place c.in-Some.found.now
     (rw (← formals_shown of, ← body_shown of) (rw c.as_slice.ensures.value at found))
 
 pub loop-inner-init : goal.loop-inner-init
@@ -31,7 +31,7 @@ returns-in-Some-2 t c = λ scope first.
     let item = c.inner-item.result in
     let (k, f) = continues_here items c.loop-inner.inner-index item c.loop-inner-test.true c.inner-item.is w first (inner_of d)
     (c.loop-inner.invariant w first) in
-    gate_inside scope first k d (definition_view item) c.args.at c.in-Some-2.found.now f
+    gate_inside scope first k d (definition_view item) c.args.place c.in-Some-2.found.now f
     (rw c.in-Some-2.is at (c.in_ok-found-2.ensures w k))
 
 pub loop-inner-preserved : goal.loop-inner-preserved

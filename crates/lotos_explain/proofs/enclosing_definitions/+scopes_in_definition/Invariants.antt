@@ -3,10 +3,10 @@ use Rattle.lotos_text.specs.AstView.{inner_of}
 use Rattle.lotos_text.specs.AstOf.{definition_view, definitions_view}
 use Rattle.lotos_check.specs.Scope.{Scope}
 use Rattle.lotos_explain.proofs.DefinitionScopes.{Continues}
-use Rattle.lotos_explain.proofs.functionality_causes.+cause_in_definition.Given as goal
+use Rattle.lotos_explain.proofs.enclosing_definitions.+scopes_in_definition.Given as goal
 
-abbrev pub decreases-cause_in_definition : goal.decreases-cause_in_definition
-decreases-cause_in_definition l = goal.size-cause_in_definition l
+abbrev pub decreases-scopes_in_definition : goal.decreases-scopes_in_definition
+decreases-scopes_in_definition l = goal.size-scopes_in_definition l
 
 abbrev pub invariant-loop-inner : goal.invariant-loop-inner
 invariant-loop-inner l = (scope : Scope) (first : ℕ) →

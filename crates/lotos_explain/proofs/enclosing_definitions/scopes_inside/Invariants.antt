@@ -1,6 +1,6 @@
 use Rattle.std.proofs.Common.{◌≡◌, ◌∷◌, ◌++◌, map, drop}
 use Rattle.lotos_text.specs.AstOf.{definition_view}
-use Rattle.lotos_explain.proofs.functionality_causes.scopes_inside.Given as goal
+use Rattle.lotos_explain.proofs.enclosing_definitions.scopes_inside.Given as goal
 
 abbrev pub invariant-loop-one : goal.invariant-loop-one
 invariant-loop-one l =
