@@ -20,7 +20,7 @@ const MISTAKES: &[(&str, &[u8], &[u8], &[u8])] = &[
         "no semicolon after a gate",
         b"specification S [a] : noexit\nbehaviour a stop\nendspec\n",
         b"lotosseq: 2:13: E04 token is not expected\n",
-        b"  behaviour a stop\n              ^\n  `stop` is a reserved word\n  could be here, among others: `;` `[` `[]` `|[` `||` `|||` `[>` `>>` `where` `endspec`\n  Put what is missing before it, or remove it.\n",
+        b"  behaviour a stop\n              ^\n  `stop` is a reserved word\n  a `;` may be missing between `a` and it\n  Put `;` after `a` if it is a gate, or an operator as `[]` if it is a process.\n",
     ),
     (
         "an equals sign for a definition",
@@ -38,25 +38,25 @@ const MISTAKES: &[(&str, &[u8], &[u8], &[u8])] = &[
         "a byte order mark",
         b"\xef\xbb\xbfspecification S : noexit behaviour stop endspec",
         b"lotosseq: 1:1: E01 byte begins no token\n",
-        b"  ???specification S : noexit behaviour stop endspec\n  ^\n  a byte order mark\n  could be here, among others: `specification`\n  Save the text without a byte order mark.\n",
+        b"  ?specification S : noexit behaviour stop endspec\n  ^\n  a byte order mark\n  could be here, among others: `specification`\n  Save the text without a byte order mark.\n",
     ),
     (
         "no endproc",
         b"specification S [a] : noexit\nbehaviour P[a]\nwhere\nprocess P [x] : noexit := x; stop\nendspec\n",
         b"lotosseq: 5:1: E04 token is not expected\n",
-        b"  endspec\n  ^\n  `endspec` is a reserved word\n  could be here, among others: `[]` `|[` `||` `|||` `[>` `>>` `where` `endproc`\n  Put what is missing before it, or remove it.\n",
+        b"  endspec\n  ^\n  `endspec` is a reserved word\n  could be here, among others: `[]` `|[` `||` `|||` `[>` `>>` `where` `endproc`\n  `process` `P`, which begins at 4:1, has no `endproc` before it\n  Put what is missing before it, or remove it.\n",
     ),
     (
         "no endspec",
         b"specification S [a] : noexit\nbehaviour a; stop",
         b"lotosseq: 2:18: E06 text ends too early\n",
-        b"  behaviour a; stop\n                   ^\n  the text ends here\n  could be here, among others: `[]` `|[` `||` `|||` `[>` `>>` `where` `endspec`\n  Put what is missing at the end: close each parenthesis, each process and the specification.\n",
+        b"  behaviour a; stop\n                   ^\n  the text ends here\n  could be here, among others: `[]` `|[` `||` `|||` `[>` `>>` `where` `endspec`\n  `specification` `S`, which begins at 1:1, has no `endspec`\n  Put what is missing at the end: close each parenthesis, each process and the specification.\n",
     ),
     (
         "a misspelt word",
         b"specification S [a] : noexit behavoir a; stop endspec",
         b"lotosseq: 1:30: E04 token is not expected\n",
-        b"  specification S [a] : noexit behavoir a; stop endspec\n                               ^\n  `behavoir` is an identifier\n  could be here, among others: `behaviour`\n  Correct it if it is misspelt, or put what is missing before it.\n",
+        b"  specification S [a] : noexit behavoir a; stop endspec\n                               ^\n  `behavoir` is an identifier\n  could be here, among others: `behaviour`\n  Did you mean `behaviour`? If not, put what is missing before it.\n",
     ),
     (
         "a gate that is not declared",
@@ -92,7 +92,7 @@ const MISTAKES: &[(&str, &[u8], &[u8], &[u8])] = &[
         "a process that calls itself at once",
         b"specification S [a] : noexit\nbehaviour P[a]\nwhere process P [x] : noexit := P[x] endproc\nendspec",
         b"lotosseq: 3:15: E27 the unguarded calls of P do not end\n",
-        b"  where process P [x] : noexit := P[x] endproc\n                ^\n  Put an action before one of the calls, as in `a; P[a]`, or the call to the right of `>>`.\n",
+        b"  where process P [x] : noexit := P[x] endproc\n                ^\n  P calls itself at 3:33\n  Put an action before one of the calls, as in `a; P[a]`, or the call to the right of `>>`.\n",
     ),
     (
         "no exit to the left of enabling",
