@@ -17,7 +17,8 @@ pub(crate) fn scopes_at<'a>(
     at: usize,
 ) -> Result<Option<Vec<&'a Definition>>, AllocError>
     ensures { IfOk result (λ found. IfSome found (λ scopes.
-        AreScopesOf (definition_view specification.now.whole) (map (λ d. definition_view d.now) scopes.items))) }
+        AreScopesOf (definition_view specification.now.whole)
+        (map (λ d. definition_view d.now) scopes.items))) }
 {
     scopes_in_definition(alloc, &[], &specification.whole, at)
 }

@@ -61,7 +61,8 @@ fn gate_in_definition<'a>(
     name: &str,
 ) -> Result<Option<&'a Name>, AllocError>
     ensures { (scope : Scope) (first : ℕ) → IfOk result (λ found. IfSome found
-        (λ n. IsInScopeInAny (definition_in_scope scope first (definition_view definition.now)) place n.now)) }
+        (λ n. IsInScopeInAny (definition_in_scope scope first (definition_view definition.now))
+        place n.now)) }
 {
     let best = similar_gate(alloc, name, None, definition.formals.as_slice())?;
     if let Some(found) = gate_in_behaviour(alloc, &definition.body, place, name, best)? {

@@ -129,7 +129,8 @@ fn unguarded_call<'a>(
 /// The first such call in the body of the first of the definitions. The others are those around it, the nearest first.
 fn call_of_first<'a>(scopes: &[&'a Definition], members: &[usize]) -> Option<UnguardedCall<'a>>
     ensures { (whole : DefinitionView) →
-        AreScopesOf whole (map (λ d. definition_view d.now) scopes.now) → IfSome result (IsUnguardedCall whole) }
+        AreScopesOf whole (map (λ d. definition_view d.now) scopes.now) →
+        IfSome result (IsUnguardedCall whole) }
 {
     let definition = scopes.first()?;
     let (called, callee) = call_in(scopes, &definition.body, members)?;
