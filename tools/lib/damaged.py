@@ -189,6 +189,9 @@ WORDS = [
     "search --length 256 A",
     "search --depth 1 -- A",
     "search A --depth 1",
+    "search --depth 3 --hide A --explain <while> <any>",
+    "search --length 3 --only A,B --strong <until> i <while> <any>",
+    "search --length 2 --hide=a,b <any>",
     "after",
     "after A",
     "after a B exit",
@@ -197,6 +200,8 @@ WORDS = [
     "after --strong --terms 2 A A",
     "after --terms=1 B",
     "after --progress A B A B A B",
+    "after --only B B",
+    "after --hide A,a --strong i B",
     "check",
     "search --help",
     "check --help",
@@ -206,6 +211,7 @@ WORDS = [
 ]
 OTHERS = (
     "search check after help --help -h --depth --length --limit --terms --after --explain --strong --known -- - --depth=1 --depth= 0 1 3 4 255 256 -1 "
+    "--hide --only --hide=A,B --only= "
     "+2 007 99999999999999999999 1e3 0x1 1000000 1000001 1000000000 1000000001 A B a exit EXIT i I <any> <until> <while> "
     "<deadlock> <refuses> <livelock> <forever> <never> <ANY> <empty> <foo> A-B A_1 1A _A <any <any>> <not> A,B A,A i,A A, ,A A,,B , A,<any> "
     "\u00e4 \u017f \u212a A\xa0B A\xa0\xa0B i\xa0A A\xa0:\xa0A : <empty>\xa0:\xa0i"

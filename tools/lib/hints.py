@@ -6,6 +6,7 @@ WARNING = r"lotosseq: word [0-9]+, \w+, is no gate of the specification and neve
 # What could be meant by it, or by a word that is almost an element.
 HINT = (
     r"lotosseq: (?:a gate of the specification has a similar name: \w+|\w+ is hidden at [0-9]+:[0-9]+, so it is not observed"
+    r"|\w+ is hidden by --hide|\w+ is not in --only"
     r"|\w+ is a formal gate of the process \w+, and stands for the gate that a call gives|word [0-9]+, [!-~]+, may be meant as <[a-z]+>"
     r"|a specification is read from standard input: lotosseq [a-z. ]+ <FILE)\n"
 )
