@@ -5,4 +5,6 @@
 #[cfg(test)]
 mod interface_tests;
 #[cfg(test)]
+mod number_tests;
+#[cfg(test)]
 mod request_tests;

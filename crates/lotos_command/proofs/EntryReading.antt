@@ -1,7 +1,7 @@
 -- What the getters of clap's matches return for an entry that can be read.
 use Rattle.std.proofs.Common.{◌≡◌, ◌∙◌, ◌<◌, ◌^◌, ◌||◌, ap, sym, refl, ℕ, Bool, true, false, Option, Some, None, Result, Ok, Err, codes, arith}
 use Rattle.std.specs.Prelude.{IfSome}
-use Rattle.std.specs.Option.{option_map, option_map_or, unwrap_or}
+use Rattle.std.specs.Option.{option_map, option_map_or}
 use Rattle.std.specs.Str.{bytes_eq}
 use Rattle.std.specs.Str.Parse.{ParsesUnsigned}
 use Rattle.std.proofs.lemmas.Slice.Eq.{bytes_eq-Decides}
@@ -22,11 +22,6 @@ module _ (E : Type 0) (G : Text → Result ℕ E → Type 0) (k low high : ℕ)
       → (read ≡ None → r ≡ None) → IfSome entry (IsNumberIn low high) → r ≡ option_map number entry
   entry_reads read (Some t) r is reads none within = text_reads t r (reads t is) within
   entry_reads read None r is reads none within = none is
-
--- the number of the entry, or the default
-pub number_or : (entry : Option Text) (other : ℕ) → unwrap_or (option_map number entry) other ≡ option_map_or number entry other
-number_or None other = refl
-number_or (Some t) other = refl
 
 -- the getter returns whether the flag is set
 pub flag_reads : (entry : Option Text) (r : Bool) → (entry ≡ None → r ≡ false) → (entry ≡ Some (codes "true") → r ≡ true)

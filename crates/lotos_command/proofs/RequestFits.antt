@@ -1,6 +1,6 @@
 -- Words without a fault name `search`, `check`, `ever`, `after` or `cover`, with entries that can be read.
-use Rattle.std.proofs.Common.{◌≡◌, ◌∙◌, ◌≤◌, ◌||◌, ◌==◌, ℕ, Bool, cond, true, false, not, refl, sym, ap, subst, arith, List, [], ◌∷◌, length, Option, Some, None, codes, drop, find, is_some, inl, inr, map}
-use Rattle.std.specs.Prelude.{IfSome, IsSomeAnd, slice_get, pos, unwrap_or}
+use Rattle.std.proofs.Common.{◌≡◌, ◌∙◌, ◌≤◌, ◌||◌, ◌==◌, ℕ, Bool, cond, true, false, refl, sym, ap, subst, arith, List, [], ◌∷◌, Option, Some, None, codes, drop, find, is_some, inl, inr, map}
+use Rattle.std.specs.Prelude.{IfSome, slice_get, pos, unwrap_or}
 use Rattle.std.specs.Option.{option_map, option_map_or, option_and_then}
 use Rattle.std.specs.Str.{bytes_eq}
 use Rattle.std.specs.Str.Parse.{IsNumeral, digits_value, starts_with_minus, without_leading_plus}
@@ -9,16 +9,14 @@ use Rattle.std.proofs.lemmas.Int.{ints}
 use Rattle.std.proofs.lemmas.Str.Parse.{digit_from_value}
 use Rattle.std.proofs.lemmas.Slice.Eq.{bytes_eq-Decides}
 use Rattle.clap.specs.Lexer.{without_minus}
-use Rattle.clap.specs.Facts.{explicit_source, parser_of_value, unwrap_or_range}
+use Rattle.clap.specs.Facts.{parser_of_value}
 use Rattle.clap.specs.Values.{Accepts, IsSignedIn, read_as, refused_kind}
 use Rattle.clap.specs.ValueTests.{accepts}
 use Rattle.clap.proofs.ValueTestLemmas.{accepts-Accepts}
 use Rattle.clap.specs.Walk.{Row, Rule, Text, action_of, arg_by_id, nothing_held, one_of, reading_by, row_text}
 use Rattle.clap.specs.Simple.{App, Shape, argument_words, built, entered, matches_of, names_of, new_shape, rows_at, subcommand_of}
-use Rattle.clap.specs.Takes.{is_given}
 use Rattle.clap.specs.Kinds.{value_kinds}
 use Rattle.clap.specs.Faults.{check_fault, entered_fault, fault_of, level_fault, values_fault}
-use Rattle.clap.specs.declared.error.kind.ErrorKind.TheVariants as kind
 use Rattle.lotos_command.specs.CommandRules.{lotosseq}
 use Rattle.lotos_command.specs.EntryRules.{FitsAfter, FitsCheck, FitsCover, FitsEver, FitsRequest, FitsSearch, IsNumberIn, IsTruthText}
 use Rattle.lotos_command.specs.Request.{number}
@@ -190,8 +188,7 @@ search_fits rows all = record {
       (λ t read. subst (IsNumberIn 1 1000000000) (sym read.is) (signed_is_within 1 1000000000 read.value read.accepted))
       (entry_fits search_shape.rules rows all (codes "limit") _ refl);
   terms = if_some_more _ (IsNumberIn 1 1000000) (one_of (codes "terms") rows)
-      (λ t read. subst (IsNumberIn 1 1000000) (sym read.is)
-      (record { numeral = read.accepted.0; least = read.accepted.2; most = read.accepted.3 }))
+      (λ t read. subst (IsNumberIn 1 1000000) (sym read.is) (signed_is_within 1 1000000 read.value read.accepted))
       (entry_fits search_shape.rules rows all (codes "terms") _ refl);
   explain = if_some_more _ IsTruthText (one_of (codes "explain") rows)
       (λ t read. subst IsTruthText (sym read.is) read.accepted)
@@ -220,8 +217,7 @@ check_fits rows all = record {
 ever_fits : (rows : List Row) → Each (IsReady ever_shape.rules) rows → FitsEver rows
 ever_fits rows all = record {
   states = if_some_more _ (IsNumberIn 1 100000000) (one_of (codes "states") rows)
-      (λ t read. subst (IsNumberIn 1 100000000) (sym read.is)
-      (record { numeral = read.accepted.0; least = read.accepted.2; most = read.accepted.3 }))
+      (λ t read. subst (IsNumberIn 1 100000000) (sym read.is) (signed_is_within 1 100000000 read.value read.accepted))
       (entry_fits ever_shape.rules rows all (codes "states") _ refl);
   explain = if_some_more _ IsTruthText (one_of (codes "explain") rows)
       (λ t read. subst IsTruthText (sym read.is) read.accepted)
@@ -237,8 +233,7 @@ ever_fits rows all = record {
 after_fits : (rows : List Row) → Each (IsReady after_shape.rules) rows → FitsAfter rows
 after_fits rows all = record {
   terms = if_some_more _ (IsNumberIn 1 1000000) (one_of (codes "terms") rows)
-      (λ t read. subst (IsNumberIn 1 1000000) (sym read.is)
-      (record { numeral = read.accepted.0; least = read.accepted.2; most = read.accepted.3 }))
+      (λ t read. subst (IsNumberIn 1 1000000) (sym read.is) (signed_is_within 1 1000000 read.value read.accepted))
       (entry_fits after_shape.rules rows all (codes "terms") _ refl);
   strong = if_some_more _ IsTruthText (one_of (codes "strong") rows)
       (λ t read. subst IsTruthText (sym read.is) read.accepted)
@@ -254,12 +249,10 @@ cover_fits rows all = record {
       (λ t read. subst (IsNumberIn 1 1000000000) (sym read.is) (signed_is_within 1 1000000000 read.value read.accepted))
       (entry_fits cover_shape.rules rows all (codes "limit") _ refl);
   terms = if_some_more _ (IsNumberIn 1 1000000) (one_of (codes "terms") rows)
-      (λ t read. subst (IsNumberIn 1 1000000) (sym read.is)
-      (record { numeral = read.accepted.0; least = read.accepted.2; most = read.accepted.3 }))
+      (λ t read. subst (IsNumberIn 1 1000000) (sym read.is) (signed_is_within 1 1000000 read.value read.accepted))
       (entry_fits cover_shape.rules rows all (codes "terms") _ refl);
   states = if_some_more _ (IsNumberIn 1 100000000) (one_of (codes "states") rows)
-      (λ t read. subst (IsNumberIn 1 100000000) (sym read.is)
-      (record { numeral = read.accepted.0; least = read.accepted.2; most = read.accepted.3 }))
+      (λ t read. subst (IsNumberIn 1 100000000) (sym read.is) (signed_is_within 1 100000000 read.value read.accepted))
       (entry_fits cover_shape.rules rows all (codes "states") _ refl);
   strong = if_some_more _ IsTruthText (one_of (codes "strong") rows)
       (λ t read. subst IsTruthText (sym read.is) read.accepted)

@@ -1,12 +1,12 @@
 -- The command line of the program, in clap's definitions.
-use Rattle.std.specs.Prelude.{◌≡◌, List, [], ◌∷◌, Some, true, false, codes, pos, ⊤}
+use Rattle.std.specs.Prelude.{◌≡◌, ℕ, List, [], ◌∷◌, Some, true, false, codes, pos, ⊤}
 use Rattle.clap.specs.Words.{App, Rule, Text, app_of, new_app, new_rule, with_rule, with_subcommand}
 use Rattle.clap.specs.Lexer.{usize_max}
 use Rattle.clap.specs.Simple.{on_top}
 use Rattle.clap.specs.declared.builder.command.Command.{Command}
 use Rattle.clap.specs.declared.builder.command.Command.TheViews.{out-Command as fields_of}
 use Rattle.clap.specs.declared.builder.action.ArgAction.TheVariants.{Append, Set, SetTrue}
-use Rattle.clap.specs.declared.builder.value_parser.ValueParser.TheVariants.{Signed, Unsigned}
+use Rattle.clap.specs.declared.builder.value_parser.ValueParser.TheVariants.{Signed}
 
 -- `--NAME VALUE`, with any text
 abbrev pub option_rule : Text → Rule
@@ -28,18 +28,17 @@ depth_rule = extent_rule (codes "depth")
 abbrev pub length_rule : Rule
 length_rule = extent_rule (codes "length")
 
+-- `--NAME N`, with a number from 1 to this one
+abbrev pub number_rule : Text → ℕ → Rule
+number_rule name most = record (option_rule name) { parser = Some (Signed (pos 1) (pos most)) }
+
 -- `--limit N`, with a number from 1 to 1,000,000,000
 abbrev pub limit_rule : Rule
-limit_rule = record (option_rule (codes "limit")) {
-  parser = Some (Signed (pos 1) (pos 1000000000));
-}
+limit_rule = number_rule (codes "limit") 1000000000
 
 -- `--terms N`, with a number from 1 to 1,000,000; 100,000 if it is not given
 abbrev pub terms_rule : Rule
-terms_rule = record (option_rule (codes "terms")) {
-  parser = Some (Unsigned 1 1000000);
-  defaults = codes "100000" ∷ [];
-}
+terms_rule = record (number_rule (codes "terms") 1000000) { defaults = codes "100000" ∷ [] }
 
 -- `--after LINE`, with any text
 abbrev pub after_rule : Rule
@@ -107,10 +106,7 @@ search_app = with_rules (new_app (codes "search")) search_rules
 
 -- `--states N`, with a number from 1 to 100,000,000; 1,000,000 if it is not given
 abbrev pub states_rule : Rule
-states_rule = record (option_rule (codes "states")) {
-  parser = Some (Unsigned 1 100000000);
-  defaults = codes "1000000" ∷ [];
-}
+states_rule = record (number_rule (codes "states") 100000000) { defaults = codes "1000000" ∷ [] }
 
 -- the arguments of `ever`, in the order of its help
 abbrev pub ever_rules : List Rule

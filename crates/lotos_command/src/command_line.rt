@@ -2,7 +2,7 @@
 ghost use Rattle.std.specs.Prelude.{◌≡◌, IfOk, false, map};
 ghost use Rattle.clap.specs.Words.{app_of, rule_of};
 ghost use Rattle.clap.specs.declared.builder.command.Command.TheViews.{out-Command as fields_of};
-ghost use Rattle.lotos_command.specs.CommandRules.{AreCommandsOf, after_app, after_rules, check_app, check_rules, cover_app, cover_rules, ever_app, extent_rule, ever_rules, flag_rule, limit_rule, lotosseq, option_rule, search_app, search_rules, states_rule, subcommand_apps, terms_rule, words_rule};
+ghost use Rattle.lotos_command.specs.CommandRules.{AreCommandsOf, after_app, after_rules, check_app, check_rules, cover_app, cover_rules, ever_app, extent_rule, ever_rules, flag_rule, limit_rule, lotosseq, number_rule, option_rule, search_app, search_rules, states_rule, subcommand_apps, terms_rule, words_rule};
 
 use crate::help::{
     ABOUT, AFTER_HELP, AFTER_LONG_HELP, CHECK_ABOUT, CHECK_EXPLAIN_HELP, CHECK_EXPLAIN_LONG_HELP,
@@ -220,24 +220,33 @@ fn extent_arg<'a>(alloc: Global, name: &'a str, help: &'a str, long_help: &'a st
 fn limit_arg<'a>(alloc: Global) -> Arg<'a>
     ensures { rule_of result ≡ limit_rule }
 {
-    let limits = value_parser!(u32).range(1..=1000000000);
-    option(alloc, "limit", "N", LIMIT_HELP, LIMIT_LONG_HELP).value_parser(limits)
+    number_arg(alloc, "limit", 1000000000, LIMIT_HELP, LIMIT_LONG_HELP)
 }
 
 fn terms_arg<'a>(alloc: Global, long_help: &'a str) -> Arg<'a>
     ensures { rule_of result ≡ terms_rule }
 {
-    option(alloc, "terms", "N", TERMS_HELP, long_help)
-        .value_parser(value_parser!(usize).range(1..=1000000))
-        .default_value("100000")
+    number_arg(alloc, "terms", 1000000, TERMS_HELP, long_help).default_value("100000")
 }
 
 fn states_arg<'a>(alloc: Global, help: &'a str, long_help: &'a str) -> Arg<'a>
     ensures { rule_of result ≡ states_rule }
 {
-    option(alloc, "states", "N", help, long_help)
-        .value_parser(value_parser!(usize).range(1..=100000000))
-        .default_value("1000000")
+    number_arg(alloc, "states", 100000000, help, long_help).default_value("1000000")
+}
+
+/// An option with a number from 1 to `most`.
+fn number_arg<'a>(
+    alloc: Global,
+    name: &'a str,
+    most: u32,
+    help: &'a str,
+    long_help: &'a str,
+) -> Arg<'a>
+    ensures { rule_of result ≡ number_rule name.now most }
+{
+    let numbers = value_parser!(u32).range(1..=i64::from(most));
+    option(alloc, name, "N", help, long_help).value_parser(numbers)
 }
 
 /// An argument that takes a value, which the help calls by the value name.

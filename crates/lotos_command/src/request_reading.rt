@@ -263,21 +263,35 @@ fn read_limit(found: &ArgMatches<'_>) -> Option<u32>
     requires { IfSome (one_of (codes "limit") (rows_of (found_of found.now))) (IsNumberIn 1 1000000000) }
     ensures { result ≡ option_map number (one_of (codes "limit") (rows_of (found_of found.now))) }
 {
-    found.get_one::<u32>("limit")
+    read_number("limit", found)
 }
 
 fn read_terms(found: &ArgMatches<'_>) -> usize
     requires { IfSome (one_of (codes "terms") (rows_of (found_of found.now))) (IsNumberIn 1 1000000) }
     ensures { result ≡ option_map_or number (one_of (codes "terms") (rows_of (found_of found.now))) 100000 }
 {
-    found.get_one::<usize>("terms").unwrap_or(DEFAULT_TERMS)
+    match read_number("terms", found) {
+        Some(terms) => terms as usize,
+        None => DEFAULT_TERMS,
+    }
 }
 
 fn read_states(found: &ArgMatches<'_>) -> usize
     requires { IfSome (one_of (codes "states") (rows_of (found_of found.now))) (IsNumberIn 1 100000000) }
     ensures { result ≡ option_map_or number (one_of (codes "states") (rows_of (found_of found.now))) 1000000 }
 {
-    found.get_one::<usize>("states").unwrap_or(DEFAULT_STATES)
+    match read_number("states", found) {
+        Some(states) => states as usize,
+        None => DEFAULT_STATES,
+    }
+}
+
+/// The number of the option with this name, if it is given.
+fn read_number(name: &str, found: &ArgMatches<'_>) -> Option<u32>
+    requires { IfSome (one_of name.now (rows_of (found_of found.now))) (IsNumberIn 1 4294967295) }
+    ensures { result ≡ option_map number (one_of name.now (rows_of (found_of found.now))) }
+{
+    found.get_one::<u32>(name)
 }
 
 /// The value of the option with this name, if it is given.
