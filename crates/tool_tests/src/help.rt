@@ -25,7 +25,7 @@ const ROWS: &[(&[&str], &[u8])] = &[
     ),
     (
         &["lotosseq", "help", "after"],
-        b"Tells what can come after a sequence\n",
+        b"Writes what can come after a sequence\n",
     ),
     (
         &["lotosseq", "help", "cover"],

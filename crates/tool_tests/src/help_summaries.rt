@@ -12,7 +12,7 @@ Commands:
   search  Lists the sequences that match a pattern
   check   Checks the static rules and lists the processes
   ever    Finds a shortest match, of any length
-  after   Tells what can come after a sequence
+  after   Writes what can come after a sequence
   cover   Lists sequences that show all that can be observed
   help    Print this message or the help of the given subcommand(s)
 
@@ -52,7 +52,7 @@ Options:
       --only <GATES>  Asks about these gates; all others are hidden
       --strong        Makes the internal action `i` a label like others
       --known         Refuses words that name no gate of the specification
-      --progress      Tells on standard error how far the search is
+      --progress      Says on standard error how far the search is
   -h, --help          Print help (see more with '--help')
 
 Statuses:
@@ -76,11 +76,11 @@ Arguments:
 
 Options:
       --states <N>    The most states that may be reached, 1 to 100000000 [default: 1000000]
-      --explain       Writes the run of the derivation too
+      --explain       Writes the least run of the sequence too
       --hide <GATES>  Hides these gates
       --only <GATES>  Asks about these gates; all others are hidden
       --strong        Makes the internal action `i` a label like others
-      --progress      Tells on standard error how far the search is
+      --progress      Says on standard error how far the search is
   -h, --help          Print help (see more with '--help')
 
 Statuses:
@@ -93,7 +93,7 @@ Statuses:
 ";
 
 /// `lotosseq after -h`
-const AFTER_SUMMARY: &str = "Tells what can come after a sequence
+const AFTER_SUMMARY: &str = "Writes what can come after a sequence
 
 Usage: lotosseq after [OPTIONS] [LABEL]...
 
@@ -105,7 +105,7 @@ Options:
       --hide <GATES>  Hides these gates
       --only <GATES>  Asks about these gates; all others are hidden
       --strong        Makes the internal action `i` a label like others
-      --progress      Tells on standard error how far the search is
+      --progress      Says on standard error how far the search is
   -h, --help          Print help (see more with '--help')
 
 Statuses:
@@ -130,7 +130,7 @@ Options:
       --hide <GATES>  Hides these gates
       --only <GATES>  Asks about these gates; all others are hidden
       --strong        Makes the internal action `i` a label like others
-      --progress      Tells on standard error how far the search is
+      --progress      Says on standard error how far the search is
   -h, --help          Print help (see more with '--help')
 
 Statuses:

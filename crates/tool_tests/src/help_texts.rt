@@ -21,10 +21,10 @@ const PROGRAM: &str = "Checks a basic LOTOS specification, and lists its observa
 The specification is read from standard input, and what is asked of it is written to
 standard output. A file is given by `< FILE`, as in
   lotosseq check < ring.lotos
-`lotosseq check --help` tells of the static rules, `lotosseq search --help` of the
-listing, its options and the words of a pattern, `lotosseq ever --help` of matches of
-any length, `lotosseq after --help` of what can come after a sequence, and
-`lotosseq cover --help` of sequences that show all that can be observed.
+`lotosseq check --help` is about the static rules, `lotosseq search --help` about the
+listing, its options and the words of a pattern, `lotosseq ever --help` about matches
+of any length, `lotosseq after --help` about what can come after a sequence, and
+`lotosseq cover --help` about sequences that show all that can be observed.
 
 Usage: lotosseq <COMMAND>
 
@@ -32,7 +32,7 @@ Commands:
   search  Lists the sequences that match a pattern
   check   Checks the static rules and lists the processes
   ever    Finds a shortest match, of any length
-  after   Tells what can come after a sequence
+  after   Writes what can come after a sequence
   cover   Lists sequences that show all that can be observed
   help    Print this message or the help of the given subcommand(s)
 
@@ -62,7 +62,7 @@ const SEARCH: &str = "Lists the sequences that match a pattern
 Reads a specification in basic LOTOS from standard input (a file is given by `< FILE`)
 and writes a listing to standard output. With `--length N` it has every sequence of at
 most N labels that matches the pattern and that some derivation from the
-specification's behaviour shows, of any number of steps; with `--depth N` it has
+specification's behaviour yields, of any number of steps; with `--depth N` it has
 those of derivations of at most N steps. One of the two is given.
 
 Each sequence occurs once, on a line of its own: its labels, separated by one
@@ -80,10 +80,11 @@ Arguments:
   [WORD]...
           The words of the pattern
          \x20
-          A pattern is a list of at most 256 elements, and matches the sequences that are made of
-          one part for each of them, in this order. With no word it matches the empty sequence
-          alone. Words are read in upper or lower case. In a shell those with `<` are quoted: each
-          by itself, as in `'<any>'`, or several in one pair of quotes, as in `'<until> B'`.
+          A pattern is a list of at most 256 elements. A sequence matches if it can be split into
+          segments, one for each element in turn, and each element matches its segment. Without
+          words the pattern matches the empty sequence alone. Words are read in upper or lower
+          case. In a shell those that begin with `<` are quoted, as in `'<any>'`. A word of the
+          command may hold several words of the pattern, with blanks between, as in `'<until> B'`.
          \x20
             A              that one label: the name of a gate, or `exit` for successful
                            termination. For example, `A B` matches `A B`.
@@ -96,37 +97,41 @@ Arguments:
             <while> SET    any number of labels, all of the set. `A <while> B` matches `A` and
                            `A B B`.
             <while> <any>  any number of labels. `<while> <any> B` matches all that ends in `B`.
-            <deadlock>     no label, if the end is a deadlock. `A <deadlock>` matches `A`,
-                           if nothing can follow.
-            <refuses> SET  no label, if the end refuses the set. `A <refuses> B` matches `A`, if a
-                           state can be reached then where B is not possible. SET may be `<any>`.
+            <deadlock>     no label; the last term must be a deadlock. `A <deadlock>` matches `A`
+                           if it reaches a term that has no step.
+            <refuses> SET  no label; the last term must refuse the set. `A <refuses> B` matches `A`
+                           if it reaches a term that has no internal step, and none with `B`. SET
+                           may be `<any>` too.
             <until> <deadlock>, <until> <refuses> SET
-                           any number of labels, if the end is such.
+                           any number of labels, and the same demand on the last term.
          \x20
           Elements next to each other match labels next to each other: `A B` does not match
           `A C B`. An A and later a B, with no C between them, is `A <while> <not> C B`.
          \x20
-          A deadlock is a term that has no step at all, not even an internal one. A term refuses a
-          set if it has no internal step and none with a label of the set; so `<deadlock>` is
-          `<refuses> <any>`. An element that asks for such an end may come only at the end. `i` is
-          a word of a pattern only with `--strong`, as the internal action cannot be observed;
-          without it `<not> A` is no internal step either. The name of a gate that the
-          specification does not have is no fault, unless `--known` is given; no sequence has that
-          label.
+          The last term is that in which the derivation ends. A deadlock is a term that has no step
+          at all, not even an internal one. A term refuses a set if it has no internal step and
+          none with a label of the set; so `<deadlock>` is `<refuses> <any>`. Only the last element
+          may demand something of the last term.
+         \x20
+          `i` is a word of a pattern only with `--strong`, as the internal action cannot be
+          observed; without it `<not> A` is never an internal step. The name of a gate that the
+          specification does not have is accepted with a warning, unless `--known` is given; no
+          sequence has that label.
 
 Options:
       --depth <N>
           The most steps of a derivation, 0 to 255
          \x20
           Every step counts, those of the internal action `i` too, and so does successful
-          termination. For example, `a; b; exit` shows `A B exit` with `--depth 3` and not with
-          `--depth 2`.
+          termination. For example, for `a; b; exit` the sequence `A B exit` is listed with
+          `--depth 3` and not with `--depth 2`.
 
       --length <N>
           The most labels of a sequence, 0 to 255
          \x20
-          How many steps a derivation takes is no matter, so internal steps do not count. For
-          example, `i; i; a; b; exit` shows `A B` with `--length 2`.
+          A derivation may have any number of steps, and internal steps count only with
+          `--strong`. For example, for `i; i; a; b; exit` the sequence `A B` is listed with
+          `--length 2`.
 
       --limit <N>
           The most lines that are written, 1 to 1000000000
@@ -138,10 +143,11 @@ Options:
           The most terms that a prefix may reach, 1 to 1000000
          \x20
           A prefix is a beginning of a sequence that can still match. It reaches the terms in
-          which derivations that show it end; with `--length` their normal forms count. The
-          search stops with status 4 at the first prefix that reaches more. For example, with
-          `--terms 1` the specification's behaviour `i; a; stop` stops the search at `<empty>`,
-          which reaches two terms.
+          which the derivations end that have it as their sequence. With `--length` terms count as
+          one if they are seen to differ only in relabelling, hiding and calls. The search stops
+          with status 4 at the first prefix that reaches more. For example, with `--terms 1` the
+          specification's behaviour `i; a; stop` stops the search at `<empty>`, which reaches two
+          terms.
          \x20
           [default: 100000]
 
@@ -156,10 +162,11 @@ Options:
       --explain
           Writes the least run of each sequence too
          \x20
-          A line is then the sequence, ` : ` and a run: the labels of a derivation that shows
-          the sequence, internal steps included. It is the shortest one, and of those the first
-          in the order of labels, `i` being the last of these. With `--length` it may have any
-          number of steps. For example, `i; i; a; stop` with `--length 1 --explain A` lists
+          A line is then the sequence, ` : ` and its least run: the labels of a derivation that
+          has the sequence, internal steps included. It is one with the fewest steps, and of
+          these the first in the order of labels, `i` being the last label. With `--length` it may
+          have any number of steps. For example, `i; i; a; stop` with `--length 1 --explain A`
+          lists
             A : i i A
 
       --hide <GATES>
@@ -191,25 +198,24 @@ Options:
       --strong
           Makes the internal action `i` a label like others
          \x20
-          Sequences then show internal steps, `i` may be a word of the pattern, and elements
-          match it like other labels. For example, `i; i; a; stop` with
-          `--length 3 --strong i i A` lists
+          Sequences may then have it, it may be a word of the pattern, and elements match it. For
+          example, `i; i; a; stop` with `--length 3 --strong i i A` lists
             i i A
 
       --known
           Refuses words that name no gate of the specification
          \x20
           Each label of the pattern must then be a gate of the specification's own list, `exit`,
-          or with `--strong` `i`. Without this option any other label is no fault, and never
-          matches. For example, with the specification
+          or with `--strong` `i`. Without this option the name of any other gate is accepted with
+          a warning, and no sequence has that label. For example, with the specification
             specification S [a] : exit behaviour a; exit endspec
           the command `lotosseq search --length 2 --known B exit` is refused with
             E49 word 1 is no gate of the specification
 
       --progress
-          Tells on standard error how far the search is
+          Says on standard error how far the search is
          \x20
-          At a terminal this is one line, which is renewed; else a line is written now and then.
+          At a terminal this is one line, which is renewed; otherwise each report is a new line.
           Output and status stay the same.
 
   -h, --help
@@ -232,12 +238,14 @@ const EVER: &str = "Finds a shortest match, of any length
 Reads a specification in basic LOTOS from standard input (a file is given by `< FILE`)
 and looks for a derivation, of any number of steps, whose sequence matches the pattern.
 If there is one, the sequence of one with the fewest steps is written to standard
-output. If there is none at any depth, nothing is written there, and the status is 1.
+output. If there is none at any depth, nothing is written there, the status is 1, and
+standard error says so, with the number of states that were reached and how far the
+pattern can be matched.
 
 For example, with the specification
   specification S [a,b] : noexit behaviour P[a,b]
   where process P [x,y] : noexit := x; y; P[x,y] endproc endspec
-the command `lotosseq ever '<while>' '<any>' B B` tells that it happens at no depth,
+the command `lotosseq ever '<while>' '<any>' B B` says that it happens at no depth,
 and `lotosseq ever '<until>' B` writes
   A B
 
@@ -247,10 +255,11 @@ Arguments:
   [WORD]...
           The words of the pattern
          \x20
-          A pattern is a list of at most 256 elements, and matches the sequences that are made of
-          one part for each of them, in this order. With no word it matches the empty sequence
-          alone. Words are read in upper or lower case. In a shell those with `<` are quoted: each
-          by itself, as in `'<any>'`, or several in one pair of quotes, as in `'<until> B'`.
+          A pattern is a list of at most 256 elements. A sequence matches if it can be split into
+          segments, one for each element in turn, and each element matches its segment. Without
+          words the pattern matches the empty sequence alone. Words are read in upper or lower
+          case. In a shell those that begin with `<` are quoted, as in `'<any>'`. A word of the
+          command may hold several words of the pattern, with blanks between, as in `'<until> B'`.
          \x20
             A              that one label: the name of a gate, or `exit` for successful
                            termination. For example, `A B` matches `A B`.
@@ -263,28 +272,33 @@ Arguments:
             <while> SET    any number of labels, all of the set. `A <while> B` matches `A` and
                            `A B B`.
             <while> <any>  any number of labels. `<while> <any> B` matches all that ends in `B`.
-            <deadlock>     no label, if the end is a deadlock. `A <deadlock>` matches `A`,
-                           if nothing can follow.
-            <refuses> SET  no label, if the end refuses the set. `A <refuses> B` matches `A`, if a
-                           state can be reached then where B is not possible. SET may be `<any>`.
-            <livelock>     no label, if internal steps that never end begin at the end.
-            <forever> SET  no label, if steps that never end begin there, each internal or with a
-                           label of the set. SET may be `<any>`.
-            <never> SET    no label, if no label of the set can come any more, whatever happens.
-                           `<until> <never> B` tells whether `B` can become impossible.
+            <deadlock>     no label; the last term must be a deadlock. `A <deadlock>` matches `A`
+                           if it reaches a term that has no step.
+            <refuses> SET  no label; the last term must refuse the set. `A <refuses> B` matches `A`
+                           if it reaches a term that has no internal step, and none with `B`. SET
+                           may be `<any>` too.
+            <livelock>     no label; internal steps that never end must begin at the last term.
+            <forever> SET  no label; steps that never end must begin at the last term, each
+                           internal or with a label of the set. SET may be `<any>` too.
+            <never> SET    no label; no steps, however many, that begin at the last term may have a
+                           label of the set among them. SET may be `<any>` too.
+                           `<until> <never> B` has a match if `B` can become impossible.
             <until> <deadlock>, <until> <refuses> SET, <until> <never> SET and so on
-                           any number of labels, if the end is such.
+                           any number of labels, and the same demand on the last term.
          \x20
           Elements next to each other match labels next to each other: `A B` does not match
           `A C B`. An A and later a B, with no C between them, is `A <while> <not> C B`.
          \x20
-          A deadlock is a term that has no step at all, not even an internal one. A term refuses a
-          set if it has no internal step and none with a label of the set; so `<deadlock>` is
-          `<refuses> <any>`. An element that asks for such an end may come only at the end. `i` is
-          a word of a pattern only with `--strong`, as the internal action cannot be observed;
-          without it `<not> A` is no internal step either. A name that is neither `exit` nor `i`
-          is that of a gate of the specification's own list. If the list does not have it, its word is refused with E49
-          and status 2, as no sequence has that label. For example, `C` is refused for
+          The last term is that in which the derivation ends. A deadlock is a term that has no step
+          at all, not even an internal one. A term refuses a set if it has no internal step and
+          none with a label of the set; so `<deadlock>` is `<refuses> <any>`. Only the last element
+          may demand something of the last term.
+         \x20
+          `i` is a word of a pattern only with `--strong`, as the internal action cannot be
+          observed; without it `<not> A` is never an internal step. A name that is neither `exit`
+          nor `i` must be that of a gate of the specification's own list; otherwise its word is
+          refused with E49 and status 2, as no sequence has that label. For example, `C` is
+          refused for
             specification S [a,b] : noexit behaviour a; b; stop endspec
 
 Options:
@@ -303,10 +317,10 @@ Options:
           [default: 1000000]
 
       --explain
-          Writes the run of the derivation too
+          Writes the least run of the sequence too
          \x20
-          The line is then the sequence, ` : ` and a run: the labels of the derivation, internal
-          steps included. For example, `i; i; a; stop` with `--explain A` gives
+          The line is then the sequence, ` : ` and its least run: the labels of the derivation,
+          internal steps included. For example, `i; i; a; stop` with `--explain A` writes
             A : i i A
          \x20
           If the pattern ends with `<livelock>` or `<forever> SET`, the line goes on with steps that
@@ -342,14 +356,14 @@ Options:
       --strong
           Makes the internal action `i` a label like others
          \x20
-          Sequences then show internal steps, `i` may be a word of the pattern, and elements
-          match it like other labels. For example, `i; i; a; stop` with `--strong i i A` gives
+          Sequences may then have it, it may be a word of the pattern, and elements match it. For
+          example, `i; i; a; stop` with `--strong i i A` writes
             i i A
 
       --progress
-          Tells on standard error how far the search is
+          Says on standard error how far the search is
          \x20
-          At a terminal this is one line, which is renewed; else a line is written now and then.
+          At a terminal this is one line, which is renewed; otherwise each report is a new line.
           Output and status stay the same.
 
   -h, --help
@@ -365,14 +379,14 @@ Statuses:
 ";
 
 /// `lotosseq after --help`
-const AFTER: &str = "Tells what can come after a sequence
+const AFTER: &str = "Writes what can come after a sequence
 
 Reads a specification in basic LOTOS from standard input (a file is given by `< FILE`)
 and follows the sequence of the labels. If some derivation, of any number of steps,
-shows the sequence, each label that can come after it, after internal steps or none, is
-written on a line, in order; and then `<deadlock>`, if the system can be in a state
-without any step. If no derivation shows it, nothing is written, the status is 1, and
-standard error has the first label that cannot come and what can come in its place.
+yields the sequence, each label that can come after it, after internal steps or none, is
+written on a line, in order; and then `<deadlock>`, if the system can be in a deadlock:
+a state without any step. If no derivation yields it, nothing is written, the status is
+1, and standard error has the first label that cannot come and what can in its place.
 
 A log of any number of labels is followed by `lotosseq after $(cat LOG) < FILE`.
 
@@ -381,7 +395,7 @@ For example, with the specification
 the command `lotosseq after A` writes
   B
   C
-and `lotosseq after A A` tells that
+and `lotosseq after A A` writes to standard error
   label 2, A, cannot come here; what can: B C
 
 Usage: lotosseq after [OPTIONS] [LABEL]...
@@ -391,18 +405,19 @@ Arguments:
           The labels of the sequence
          \x20
           Each is a gate of the specification's own list, or `exit` for successful termination, in
-          upper or lower case; several may stand in one pair of quotes. With none, it is told what
-          can come at first. `i` is a label only with `--strong`, as the internal action cannot be
-          observed.
+          upper or lower case. A word of the command may hold several, with blanks between.
+          Without labels the command writes what can come first. `i` is a label only with
+          `--strong`, as the internal action cannot be observed.
 
 Options:
       --terms <N>
           The most terms that a prefix may reach, 1 to 1000000
          \x20
-          A prefix is a beginning of the sequence. It reaches the terms in which derivations
-          that show it end; their normal forms count. If one reaches more, the search stops with
-          status 4. For example, with `--terms 1` and the specification's behaviour `i; a; stop`
-          it stops at once: with no label, two terms are reached.
+          A prefix is a beginning of the sequence, or the whole of it. It reaches the terms in
+          which the derivations end that have it as their sequence. Terms count as one if they are
+          seen to differ only in relabelling, hiding and calls. If a prefix reaches more, the
+          search stops with status 4. For example, with `--terms 1` and the specification's
+          behaviour `i; a; stop` it stops at once: without labels, two terms are reached.
          \x20
           [default: 100000]
 
@@ -435,14 +450,14 @@ Options:
       --strong
           Makes the internal action `i` a label like others
          \x20
-          Sequences then show internal steps, and `i` may be a label of the sequence. For
-          example, after `--strong i` the behaviour `i; a; stop` has
+          It may then be a label of the sequence, and come after it. For example, for
+          `i; a; stop` the command `lotosseq after --strong i` writes
             A
 
       --progress
-          Tells on standard error how far the search is
+          Says on standard error how far the search is
          \x20
-          At a terminal this is one line, which is renewed; else a line is written now and then.
+          At a terminal this is one line, which is renewed; otherwise each report is a new line.
           Output and status stay the same.
 
   -h, --help
@@ -463,10 +478,11 @@ const COVER: &str = "Lists sequences that show all that can be observed
 Reads a specification in basic LOTOS from standard input (a file is given by `< FILE`)
 and writes a listing to standard output: a finite test suite.
 
-A sequence reaches the terms in which derivations that show it end, of any number of
-steps. For each set of terms, taken by their normal forms, the listing has the first
-sequence that reaches just this set with each label that can come after it, after
-internal steps or none. A sequence with which another one begins is left out.
+A sequence reaches the terms in which derivations of any number of steps end that have
+it as their sequence. Terms count as one if they are seen to differ only in relabelling,
+hiding and calls. For each set of terms the listing has the first sequence that reaches
+just this set with each label that can come after it, after internal steps or none. A
+sequence with which another one begins is left out.
 
 Each sequence occurs once, on a line of its own: its labels, separated by one
 blank. Shorter sequences come first, and sequences of one length in the order of
@@ -478,7 +494,7 @@ For example, with the specification
 the command `lotosseq cover` lists
   A A
   A B
-as after `A B` the system is where it began.
+as `A B` reaches the same terms as the empty sequence.
 
 Usage: lotosseq cover [OPTIONS]
 
@@ -492,19 +508,21 @@ Options:
       --terms <N>
           The most terms that a prefix may reach, 1 to 1000000
          \x20
-          A prefix is a beginning of a line. It reaches the terms in which derivations that show
-          it end; their normal forms count. The search stops with status 4 at the first prefix
-          that reaches more. For example, with `--terms 1` the specification's behaviour
-          `i; a; stop` stops the search at `<empty>`, which reaches two terms.
+          A prefix is a beginning of a line. It reaches the terms in which the derivations end
+          that have it as their sequence. Terms count as one if they are seen to differ only in
+          relabelling, hiding and calls. The search stops with status 4 at the first prefix that
+          reaches more. For example, with `--terms 1` the specification's behaviour `i; a; stop`
+          stops the search at `<empty>`, which reaches two terms.
          \x20
           [default: 100000]
 
       --states <N>
           The most sets that may be reached, 1 to 100000000
          \x20
-          A set has the normal forms of all terms that a sequence reaches. If more sets than
-          these are reached, the search stops with status 4. For example, for `a; b; stop` it
-          stops with `--states 2`, as `<empty>`, `A` and `A B` reach three sets.
+          A set has all terms that a sequence reaches, and counts once, however many sequences
+          reach it. If more sets than these are reached, the search stops with status 4. For
+          example, for `a; b; stop` it stops with `--states 2`, as `<empty>`, `A` and `A B` reach
+          three sets.
          \x20
           [default: 1000000]
 
@@ -545,13 +563,13 @@ Options:
       --strong
           Makes the internal action `i` a label like others
          \x20
-          Sequences then show internal steps. For example, `i; a; stop` with `--strong` has
+          Sequences may then have it. For example, for `i; a; stop` and `--strong` the listing has
             i A
 
       --progress
-          Tells on standard error how far the search is
+          Says on standard error how far the search is
          \x20
-          At a terminal this is one line, which is renewed; else a line is written now and then.
+          At a terminal this is one line, which is renewed; otherwise each report is a new line.
           Output and status stay the same.
 
   -h, --help
@@ -573,7 +591,7 @@ const CHECK: &str = "Checks the static rules and lists the processes
 Reads a specification in basic LOTOS from standard input. If it breaks no static
 rule, a line is written for each process, in the order of their definitions: its name,
 the number of its gates, and `exit` or `noexit`. Otherwise the first fault is named on
-standard error, with its line and column.
+standard error, with its position: the line, and the column in bytes.
 
 For example, with the specification
   specification S [a] : noexit behaviour P[a]
@@ -588,9 +606,9 @@ Options:
           Explains a fault
          \x20
           The message of a fault in the specification is followed on standard error by its line
-          with a mark under the place, and by what to do; if a word or a sign does not fit,
+          with a mark under the position, and by what to do; if a word or a sign does not fit,
           also by what is there and what could be there. Output and status stay the same. For
-          example, for `behaviour a stop` it has
+          example, for `behaviour a stop` it writes
             behaviour a stop
                         ^
             `stop` is a reserved word
@@ -600,8 +618,8 @@ Options:
       --warn
           Warns of what is allowed and may be a mistake
          \x20
-          If the specification is accepted, standard error has a line with the place of each
-            process that no call names,
+          If the specification is accepted, standard error has a line with the position of each
+            process that no call names, or that is not reached from the specification's behaviour,
             gate of the specification or of a process that its behaviour does not use,
             gate in `|[..]|` that the left side or the right side never offers.
           Output and status stay the same. For example, it warns of the gate `b` of
