@@ -105,10 +105,21 @@ pub record IsRound (processes : List FlatProcess) (old now : List ℕ) (number :
 pub round_start : (processes : List FlatProcess) (old : List ℕ) → IsRound processes old old 0
 round_start processes old = record { sound = λ h. h; longer = omega arith; closed = λ e k process below at x. absurd (omega arith) }
 
+-- a process that may terminate by such numbers may be added to them
+pub sound_next : (processes : List FlatProcess) (old now next : List ℕ) (number : ℕ) (process : FlatProcess) →
+    slice_get processes number ≡ Some process → (AreExiting processes old → AreExiting processes now) →
+    AddsExiting number process.body now next → AreExiting processes old → AreExiting processes next
+sound_next processes old now next number process at sound (inl (same, last)) h = subst (AreExiting processes) (sym same) (sound h)
+sound_next processes old now next number process at sound (inr (grown, exits)) h = λ k i. elim (in_added k now number (subst (In k) grown i)) [
+  | inl j ↦ sound h k j
+  | inr e ↦ subst (IsExiting processes) e
+      (record { process = process; located = at; exits = exits_soundly processes now (sound h) process.body exits })
+]
+
 pub round_next : (processes : List FlatProcess) (old now next : List ℕ) (number : ℕ) (process : FlatProcess) → slice_get processes number ≡ Some process →
     IsRound processes old now number → AddsExiting number process.body now next → IsRound processes old next (number + 1)
 round_next processes old now next number process at before (inl (same, last)) = record {
-  sound = λ h. subst (AreExiting processes) (sym same) (before.sound h);
+  sound = sound_next processes old now next number process at before.sound (inl (same, last));
   longer = subst (λ xs. length old ≤ length xs) (sym same) before.longer;
   closed = λ e. subst (λ xs. IsClosedBelow processes xs (number + 1)) (sym same) (more (ap length (sym same) ∙ e));
 }
@@ -126,11 +137,7 @@ round_next processes old now next number process at before (inr (grown, exits)) 
     let longer : length next ≡ length now + 1 = ap length grown ∙ length-append now (number ∷ []) in
     let older = before.longer in
     record {
-      sound = λ h k i. elim (in_added k now number (subst (In k) grown i)) [
-        | inl j ↦ before.sound h k j
-        | inr e ↦ subst (IsExiting processes) e
-            (record { process = process; located = at; exits = exits_soundly processes now (before.sound h) process.body exits })
-      ];
+      sound = sound_next processes old now next number process at before.sound (inr (grown, exits));
       longer = omega arith;
       closed = λ e. absurd (omega arith);
     }

@@ -12,7 +12,8 @@ use std::alloc::{AllocError, Global};
 /// The processes that may terminate, by number: the least set in which each process is whose body may terminate if the
 /// processes of the set may.
 ///
-/// Rounds over all processes add to the set, until one adds none.
+/// Rounds over all processes add to the set, until one adds none. A pass backwards comes before them: processes mostly
+/// call later ones, and a chain of those would take a round for each.
 pub(crate) fn exiting_processes(
     alloc: Global,
     processes: &[Process],
@@ -21,11 +22,24 @@ pub(crate) fn exiting_processes(
         In k exiting.keys ↔ IsExiting (map process_of processes.now) k) }
 {
     let mut exiting = IndexSet::new(alloc);
+    add_backwards(processes, &mut exiting)?;
     let mut grew = true;
     while grew {
         grew = add_round(processes, &mut exiting)?;
     }
     Ok(exiting)
+}
+
+/// Adds the processes that may terminate if those of the set may, the last one first.
+fn add_backwards(processes: &[Process], exiting: &mut IndexSet<usize>) -> Result<(), AllocError>
+    ensures { OnOk result (AreExiting (map process_of processes.now) exiting.old.keys →
+        AreExiting (map process_of processes.now) exiting.new.keys) }
+{
+    for back in 0..processes.len() {
+        let number = processes.len() - 1 - back;
+        add_if_exiting(number, &processes[number].body, exiting)?;
+    }
+    Ok(())
 }
 
 /// Adds the processes that may terminate if those of the set may, each in its turn. Returns whether one was added.
