@@ -620,6 +620,7 @@ Options:
          \x20
           If the specification is accepted, standard error has a line with the position of each
             process that no call names, or that is not reached from the specification's behaviour,
+            process or specification that is declared `exit` and can never terminate,
             gate of the specification or of a process that its behaviour does not use,
             gate in `|[..]|` that the left side or the right side never offers.
           Output and status stay the same. For example, it warns of the gate `b` of
