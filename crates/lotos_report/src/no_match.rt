@@ -66,19 +66,20 @@ impl fmt::Display for SearchedText<'_> {
     }
 }
 
-/// The number of words before the element that cannot be matched, where the first `done` elements can: the words of
-/// these, or all before the last element if there are no more.
+/// The number of words before the element that cannot be matched, where the first `done` elements are known to be
+/// matched: the words of these and of each `<while>` after them, which matches without a label too, or all before the
+/// last element if there are no more.
 fn words_before(words: &[String], done: usize) -> usize {
-    let mut elements: usize = 0;
+    let mut left = done;
     let mut start = 0;
     let mut is_inside = false;
     for (number, word) in words.iter().enumerate() {
         if !is_inside {
             start = number;
-            if elements == done {
+            if left == 0 && !word.as_str().eq_ignore_ascii_case("<while>") {
                 return start;
             }
-            elements = elements.saturating_add(1);
+            left = left.saturating_sub(1);
         }
         is_inside = is_front_word(word.as_str());
     }

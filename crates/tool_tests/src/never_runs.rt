@@ -70,6 +70,19 @@ const ROWS: &[Row] = &[
         states: 4,
         message: b"lotosseq: it happens at no depth; 4 states; words 1 to 4 can be matched, and then nothing that word 5 wants\n",
     },
+    // A `<while>` matches without a label too, at the start and further on.
+    Row {
+        text: BUFFER,
+        words: &["<while> <not> A B"],
+        states: 1,
+        message: b"lotosseq: it happens at no depth; 1 state; words 1 to 3 can be matched, and then nothing that word 4 wants\n",
+    },
+    Row {
+        text: BUFFER,
+        words: &["A <while> A <while> <not> B <deadlock>"],
+        states: 2,
+        message: b"lotosseq: it happens at no depth; 2 states; words 1 to 6 can be matched, and then nothing that word 7 wants\n",
+    },
     Row {
         text: DELAYED,
         words: &["A", "B"],
