@@ -4,3 +4,11 @@ pub mod InternalCases
 pub mod InnerSteps
 pub mod NodeSteps
 pub mod OriginTurns
+pub mod StepTargets
+pub mod RunForms
+pub mod LayerFilling
+pub mod RunEnds
+pub mod RunDerivations
+pub mod BisimilarRuns
+pub mod AlongRuns
+pub mod WaysBack

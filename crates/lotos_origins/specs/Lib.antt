@@ -1,3 +1,4 @@
 pub mod Origins
 pub mod Parts
 pub mod OriginSearch
+pub mod RunLayers
