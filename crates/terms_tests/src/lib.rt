@@ -45,6 +45,8 @@ mod origin_list;
 #[cfg(test)]
 mod origin_tests;
 #[cfg(test)]
+mod possible_run;
+#[cfg(test)]
 mod protocols;
 #[cfg(test)]
 mod recurrence_tests;

@@ -2,8 +2,10 @@
 ghost use Rattle.std.specs.Prelude.{◌<◌, length};
 ghost use Rattle.lotos_terms.specs.TableView.{Grows};
 
+use super::possible_run::can_end;
+use lotos_listing::LabelFlags;
 use lotos_normal::NormalTable;
-use lotos_origins::{Origin, internal_origin};
+use lotos_origins::{Origin, find_origins, internal_origin};
 use lotos_terms::{Label, Step, Term};
 use std::alloc::{AllocError, Global};
 
@@ -24,4 +26,24 @@ pub fn origins_of(
         }
     }
     Ok(origins)
+}
+
+/// The origins of the internal steps of a derivation by the run from the term to one that has no step with a refused
+/// label; `None` if there is no such derivation.
+pub fn run_origins(
+    alloc: Global,
+    table: &mut NormalTable,
+    start: Term,
+    run: &[Label],
+    refused: &LabelFlags,
+) -> Result<Option<Vec<Origin>>, AllocError>
+    requires { start < length table.old.terms }
+    ensures { Grows table.old table.new }
+{
+    if can_end(alloc, table, start, run, refused)? {
+        let origins = find_origins(alloc, table, start, run, refused)?;
+        Ok(Some(origins))
+    } else {
+        Ok(None)
+    }
 }

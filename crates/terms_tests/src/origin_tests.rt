@@ -2,7 +2,9 @@
 use super::gate_names::texts_of;
 use super::term_list::TermList;
 use super::texts::assert_text;
+use lotos_listing::LabelFlags;
 use lotos_origins::Origin;
+use lotos_terms::{Gate, Label};
 use std::alloc::{AllocError, Global};
 use std::process::Abort;
 use std::test::Fail;
@@ -245,6 +247,155 @@ fn texts_after(alloc: Global, text: &str, way: &[&str]) -> Result<String, Fail> 
 fn internal_steps_have_their_origins(rt: HostRuntime) -> Result<(), Fail> {
     for (subject, text, way, expected) in ROWS {
         let found = texts_after(rt.alloc(), text, way)?;
+        assert_text(&rt, subject, found.as_str(), expected);
+    }
+    Ok(())
+}
+
+/// What is tested, a specification, a run, the labels that its last term must not have, and the run with its internal
+/// steps written by what makes them.
+type RunRow = (
+    &'static str,
+    &'static str,
+    &'static [&'static str],
+    &'static [&'static str],
+    &'static str,
+);
+
+/// Two ways to an end, one with a hidden gate and one with the internal action.
+const TWO_WAYS: &str =
+    "specification S [a, b] : noexit behaviour hide s in (s; a; stop [] i; b; stop) endspec";
+
+/// Worked out by hand.
+const RUNS: &[RunRow] = &[
+    ("the empty run", PHASES, &[], &[], ""),
+    (
+        "a run to the end",
+        PHASES,
+        &["A", "i", "B", "i", "C", "exit"],
+        &[],
+        "A i(S) B i(exit) C exit",
+    ),
+    (
+        "a run through calls",
+        CALLED,
+        &["i", "i", "i", "i"],
+        &[],
+        "i(B) i(B) i(B) i(B)",
+    ),
+    (
+        "a run through a process that hides",
+        INSIDE,
+        &["H", "i", "H", "i"],
+        &[],
+        "H i(H) H i(H)",
+    ),
+    (
+        "the end has no step by one label",
+        TWO_WAYS,
+        &["i"],
+        &["A"],
+        "i",
+    ),
+    (
+        "the end has no step by another label",
+        TWO_WAYS,
+        &["i"],
+        &["B"],
+        "i(S)",
+    ),
+    ("the way to a label", TWO_WAYS, &["i", "A"], &[], "i(S) A"),
+    (
+        "the way to another label",
+        TWO_WAYS,
+        &["i", "B"],
+        &[],
+        "i B",
+    ),
+    (
+        "a run that is not possible",
+        TWO_WAYS,
+        &["i", "A", "B"],
+        &[],
+        "no such run",
+    ),
+    (
+        "a run whose end is refused",
+        TWO_WAYS,
+        &["i"],
+        &["A", "B"],
+        "no such run",
+    ),
+];
+
+/// The label with this text.
+fn label_of(names: &[String], word: &str) -> Label {
+    for (index, name) in names.iter().enumerate() {
+        if name.as_str() == word {
+            return Label::Gate(Gate::of_number(index));
+        }
+    }
+    if word == "exit" {
+        Label::Exit
+    } else {
+        Label::Internal
+    }
+}
+
+/// The labels with these texts.
+fn labels_of(alloc: Global, names: &[String], words: &[&str]) -> Result<Vec<Label>, AllocError> {
+    let mut labels = Vec::new(alloc);
+    for word in words {
+        labels.push(label_of(names, word))?;
+    }
+    Ok(labels)
+}
+
+/// The set of the labels with these texts.
+fn flags_of(alloc: Global, names: &[String], words: &[&str]) -> Result<LabelFlags, AllocError> {
+    let mut flags = LabelFlags::none(alloc);
+    for name in names {
+        flags.gates.push(words.contains(&name.as_str()))?;
+    }
+    Ok(flags)
+}
+
+/// The run with its internal steps written by what makes them.
+fn described_run(
+    alloc: Global,
+    names: &[String],
+    words: &[&str],
+    origins: &[Origin],
+) -> Result<String, AllocError> {
+    let mut joined = String::new(alloc);
+    let mut internal = 0;
+    for word in words {
+        if !joined.is_empty() {
+            joined.push_str(" ")?;
+        }
+        match origins.get(internal) {
+            Some(origin) if *word == "i" => {
+                add_text(names, *origin, &mut joined)?;
+                internal += 1;
+            }
+            _ => joined.push_str(word)?,
+        }
+    }
+    Ok(joined)
+}
+
+#[test]
+fn runs_have_the_origins_of_their_steps(rt: HostRuntime) -> Result<(), Fail> {
+    let alloc = rt.alloc();
+    for (subject, text, words, refused, expected) in RUNS {
+        let mut list = TermList::new(alloc, text)?;
+        let names = texts_of(alloc, list.gates())?;
+        let run = labels_of(alloc, names.as_slice(), words)?;
+        let flags = flags_of(alloc, names.as_slice(), refused)?;
+        let found = match list.run_origins(alloc, run.as_slice(), &flags)? {
+            Some(origins) => described_run(alloc, names.as_slice(), words, origins.as_slice())?,
+            None => String::from_str(alloc, "no such run")?,
+        };
         assert_text(&rt, subject, found.as_str(), expected);
     }
     Ok(())
