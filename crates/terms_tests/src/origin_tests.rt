@@ -355,7 +355,7 @@ fn labels_of(alloc: Global, names: &[String], words: &[&str]) -> Result<Vec<Labe
 fn flags_of(alloc: Global, names: &[String], words: &[&str]) -> Result<LabelFlags, AllocError> {
     let mut flags = LabelFlags::none(alloc);
     for name in names {
-        flags.gates.push(words.contains(&name.as_str()))?;
+        flags.gates.push((&*words).contains(&name.as_str()))?;
     }
     Ok(flags)
 }
