@@ -25,8 +25,9 @@ fn unused_gates(alloc: Global, count: usize) -> Result<String, AllocError> {
 /// The warnings about the first of these gates, and then the last line.
 fn lines(alloc: Global, count: usize, last: &str) -> Result<String, AllocError> {
     let mut lines = String::new(alloc);
-    for number in 1..=count {
-        let line = number + 1;
+    for before in 0..count {
+        let number = before + 1;
+        let line = before.saturating_add(2);
         lines.push_str(format!(in alloc;
             "lotosseq: {line}:1: warning: gate A{number} of S is not used\n"
         )?.as_str())?;
