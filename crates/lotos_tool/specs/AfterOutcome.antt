@@ -20,7 +20,7 @@ use Rattle.lotos_report.specs.declared.outcome.AfterWhy.{AfterWhy}
 use Rattle.lotos_report.specs.declared.outcome.AfterWhy.TheVariants as why
 use Rattle.lotos_command.specs.declared.command.AfterRequest.{AfterRequest}
 
--- the request's words name the labels of the sequence, and each gate that they name is in the specification's own list
+-- the request's words name the labels of the sequence, and each gate that they name is one of the system that is asked
 pub record IsSequenceOf (request : AfterRequest) (system : System) (s : List Label) : Type 0 where
   pub named : NamesEach request.strong (words_of request.words) s
   pub known_gates : HasNoUnknownGate system.formals (words_of request.words)
