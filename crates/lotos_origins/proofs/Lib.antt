@@ -11,4 +11,5 @@ pub mod RunEnds
 pub mod RunDerivations
 pub mod BisimilarRuns
 pub mod AlongRuns
+pub mod FollowedRuns
 pub mod WaysBack

@@ -1,11 +1,16 @@
 //! Laws of the definitions, each as the contract of an empty function.
-ghost use Rattle.std.specs.Prelude.{List};
+ghost use Rattle.std.specs.Prelude.{ℕ, List};
 ghost use Rattle.lotos_store.specs.Terms.{Process, Term as TermOf};
 ghost use Rattle.lotos_store.specs.declared.label.Label.{Label};
 ghost use Rattle.lotos_store.specs.declared.label.Label.TheVariants as labels;
 ghost use Rattle.lotos_terms.specs.Steps.{Step};
+ghost use Rattle.lotos_terms.specs.TableView.{Grows, TableView};
+ghost use Rattle.lotos_origins.specs.FollowedRuns.{AreAlike, IsFollowed};
 ghost use Rattle.lotos_origins.specs.Origins.{DerivesBy, DerivesByNumber, InternalStep};
+ghost use Rattle.lotos_origins.specs.declared.followed_run.FollowedRun.{FollowedRun as FollowedRunOf};
 ghost use Rattle.lotos_origins.specs.declared.origin.Origin.{Origin as OriginOf};
+
+use lotos_normal::laws::steps_keep_bisimilarity;
 
 /// A term has an internal step to another exactly if there is an origin of such a step.
 pub fn internal_steps_have_origins()
@@ -21,4 +26,23 @@ pub fn derivations_have_origins()
         DerivesBy system t run origins u → DerivesByNumber system t run u }
     ensures origins { (system : List Process) (t u : TermOf) (run : List Label) →
         DerivesByNumber system t run u → (origins : List OriginOf) × DerivesBy system t run origins u }
+{}
+
+/// Strongly bisimilar terms have the same steps: for each step of one there is a step of the other by the same label,
+/// and the terms that the two lead to are strongly bisimilar.
+pub fn alike_terms_have_the_same_steps()
+    ensures forward { (system : List Process) (t u t' : TermOf) (k : Label) →
+        AreAlike system t u → Step system t k t' →
+        (u' : TermOf) × Step system u k u' × AreAlike system t' u' }
+    ensures backward { (system : List Process) (t u u' : TermOf) (k : Label) →
+        AreAlike system t u → Step system u k u' →
+        (t' : TermOf) × Step system t k t' × AreAlike system t' u' }
+{
+    steps_keep_bisimilarity();
+}
+
+/// A run that was followed stays followed as the table grows.
+pub fn followed_runs_grow()
+    ensures { (old new : TableView) (start : ℕ) (run : List Label) (followed : FollowedRunOf) →
+        Grows old new → IsFollowed old start run followed → IsFollowed new start run followed }
 {}

@@ -3,11 +3,13 @@
 //!
 //! The name of a hidden gate is the one that it has at its `hide`. Normal forms lose it, since there a hiding moves
 //! under a relabelling. So [`internal_origin`] goes down terms as they are, from a step to a step of a part.
-//! [`find_origins`] follows a run so, step by step, and returns the origins of its internal steps.
+//! [`follow_run`] follows a run so, step by step, and a [`FollowedRun`] has the terms that it leads to, and the origins
+//! of the internal steps on the way to each. [`find_origins`] takes the first that refuses some labels.
 //!
 //! The definitions that the contracts cite are in `specs/`, the laws over them in [`laws`].
 #![tactic(auto)]
 
+mod followed_run;
 mod hidden_steps;
 mod internal_steps;
 pub mod laws;
@@ -17,6 +19,7 @@ mod parts;
 mod run_layers;
 mod run_origins;
 
+pub use followed_run::{FollowedRun, follow_run};
 pub use origin::Origin;
 pub use origin_search::internal_origin;
 pub use run_origins::find_origins;

@@ -51,6 +51,10 @@ mod match_oracle;
 #[cfg(test)]
 mod match_tests;
 #[cfg(test)]
+mod named_match_run;
+#[cfg(test)]
+mod named_match_tests;
+#[cfg(test)]
 mod oracle_comparison;
 #[cfg(test)]
 mod pattern_matching_tests;

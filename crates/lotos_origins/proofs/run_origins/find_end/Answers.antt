@@ -1,7 +1,6 @@
-use Rattle.std.proofs.Common.{◌≡◌, Some, arith, length, refl, subst, sym}
-use Rattle.std.specs.Prelude.{MatchBool, slice_get}
+use Rattle.std.proofs.Common.{◌≡◌, arith, length, refl, subst}
+use Rattle.std.specs.Prelude.{MatchBool}
 use Rattle.std.proofs.lemmas.Option.{slice_get_read}
-use Rattle.lotos_check.specs.NameLists.{In}
 use Rattle.lotos_check.proofs.ListIndices.{get_in}
 use Rattle.lotos_terms.proofs.GrowingTables.{below_grows, grows_then}
 use Rattle.lotos_origins.specs.RunLayers.{IsEndAt}
@@ -10,32 +9,29 @@ use Rattle.lotos_origins.proofs.run_origins.find_end.Goals as goal
 
 pub refuses-requires : goal.refuses-requires
 refuses-requires c =
-    let ts = c.deref-term-items.result.now in
-    let xs = c.args.layer.now.terms.items in
-    let at = slice_get_read ts _ c.loop-index.index _ refl c.loop-index-test.true c.term-item.is in
-    let there = subst (λ l. slice_get l c.loop-index.index ≡ Some c.term-item.result) c.deref-term-items.ensures.value at in
-    below_grows c.args.table.now c.loop-index.table c.loop-index.invariant.grows _ (c.requires.known _ (get_in xs c.loop-index.index _ there))
+    let ts = c.args.terms.now in
+    let at = slice_get_read ts _ c.loop-index.index _ refl c.loop-index-test.true c.index-terms-index.is in
+    below_grows c.args.table.now c.loop-index.table c.loop-index.invariant.grows _ (c.requires.known _ (get_in ts c.loop-index.index _ at))
 
 pub returns-then-branch-clause-end : goal.returns-then-branch-clause-end
 returns-then-branch-clause-end c =
-    let ts = c.deref-term-items.result.now in
-    let x = c.term-item.result in
+    let ts = c.args.terms.now in
+    let x = c.index-terms-index.result in
     let new = c.refuses.new.table in
     let set = c.args.refused.now in
-    let at = slice_get_read ts _ c.loop-index.index _ refl c.loop-index-test.true c.term-item.is in
-    let there = subst (λ l. slice_get l c.loop-index.index ≡ Some x) c.deref-term-items.ensures.value at in
+    let at = slice_get_read ts _ c.loop-index.index _ refl c.loop-index-test.true c.index-terms-index.is in
     let is : IsEndAt new set x = subst (λ b. MatchBool b (IsEndAt new set x) (IsEndAt new set x → ⊥)) c.if-branch.true c.in_ok-refuses.ensures.refuses in
-    (x, there, is)
+    (x, at, is)
 
 pub loop-index-preserved : goal.loop-index-preserved
 loop-index-preserved c =
-    let ts = c.deref-term-items.result.now in
-    let x = c.term-item.result in
+    let ts = c.args.terms.now in
+    let x = c.index-terms-index.result in
     let old = c.args.table.now in
     let new = c.refuses.new.table in
     let set = c.args.refused.now in
     let done = c.in_ok-refuses.ensures in
-    let at = slice_get_read ts _ c.loop-index.index _ refl c.loop-index-test.true c.term-item.is in
+    let at = slice_get_read ts _ c.loop-index.index _ refl c.loop-index-test.true c.index-terms-index.is in
     let none : IsEndAt new set x → ⊥ = subst (λ b. MatchBool b (IsEndAt new set x) (IsEndAt new set x → ⊥)) c.if-branch.false done.refuses in
     let grows = grows_then old c.loop-index.table new c.loop-index.invariant.grows done.grows in
     record {
@@ -46,9 +42,9 @@ loop-index-preserved c =
 
 pub unreachable-requires : goal.unreachable-requires
 unreachable-requires c =
-    let ts = c.deref-term-items.result.now in
+    let ts = c.args.terms.now in
     let set = c.args.refused.now in
     let (x, there, is) = c.requires.end in
     let end : c.loop-index.index ≡ length ts = omega (arith, c.loop-index-test.false, c.loop-index.auto.index-end) in
     no_end_at_all c.args.table.now c.loop-index.table set ts c.loop-index.index end c.loop-index.invariant.none
-    (x, subst (λ xs. In x xs) (sym c.deref-term-items.ensures.value) there, is)
+    (x, there, is)

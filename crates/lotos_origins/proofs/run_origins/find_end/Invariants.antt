@@ -6,5 +6,5 @@ abbrev pub invariant-loop-index : goal.invariant-loop-index
 invariant-loop-index l = record {
   grows : Grows l.fn.table l.table;
   sound : IsSoundView l.table;
-  none : HasNoEndBelow l.fn.table l.fn.refused l.term-items l.index;
+  none : HasNoEndBelow l.fn.table l.fn.refused l.terms l.index;
 }
