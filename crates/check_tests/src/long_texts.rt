@@ -96,7 +96,7 @@ fn padded(alloc: Global, before: usize, length: usize, text: &[u8]) -> Result<Ve
         padded_text.push(b'\n')?;
     }
     padded_text.extend_from_slice(text)?;
-    while padded_text.len() < length {
+    for _ in padded_text.len()..length {
         padded_text.push(b'\n')?;
     }
     Ok(padded_text)
