@@ -12,6 +12,8 @@ mod byte_output_tests;
 #[cfg(test)]
 mod check_runs;
 #[cfg(test)]
+mod command_calls;
+#[cfg(test)]
 mod cover_runs;
 #[cfg(test)]
 mod diagnosis_runs;
@@ -53,6 +55,8 @@ mod program_run;
 mod progress_runs;
 #[cfg(test)]
 mod quoted_words;
+#[cfg(test)]
+mod report_intervals;
 #[cfg(test)]
 mod runs;
 #[cfg(test)]
