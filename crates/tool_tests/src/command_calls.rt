@@ -307,7 +307,11 @@ fn assert_calls(rt: &impl Abort, alloc: Global, row: &Row, words: &[&str]) {
     let mut counter = Counter { told: 0 };
     let observed = call(alloc, words, row.text, &mut counter);
     assert_called(rt, row, observed);
-    assert!(rt; counter.told > 0, "{}: an observer is told of nothing", row.name);
+    assert!(rt;
+        counter.told > 0,
+        "{}: an observer is told of nothing",
+        row.name
+    );
 }
 
 #[test]
