@@ -5,7 +5,7 @@ use crate::front_end::{accepted, hidden, normal_table_of, parsed};
 use crate::lines::Line;
 use crate::retry_heap::{Heap, Stop};
 use crate::system_lines::{write_fault, write_system};
-use crate::table_calls::Explored;
+use crate::table_calls::{Explored, StepList};
 use lotos_check::{AcceptFault, CheckFault, Checked};
 use lotos_text::{Definition, Name};
 use std::alloc::AllocError;
@@ -119,24 +119,30 @@ fn copied(heap: &mut Heap, name: &Name) -> Result<Name, AllocError> {
     }
 }
 
-/// Writes the steps of the first terms of a system, then the same once more, then the normal forms, and then what the
-/// terms are regrouped to.
+/// Writes the steps of the first terms of a system, then the same once more, then the normal forms, what the terms are
+/// regrouped to, and the steps to normal forms, first as the table keeps them and then taken out of it.
 fn follow(rt: &impl Print, heap: &mut Heap, text: &str) -> Result<(), Stop> {
     let table = normal_table_of(heap, text)?;
     let mut explored = Explored::new(heap, table)?;
-    follow_steps(rt, heap, &mut explored)?;
+    follow_steps(rt, heap, &mut explored, "steps", StepList::Steps)?;
+    follow_steps(rt, heap, &mut explored, "again", StepList::Steps)?;
     follow_forms(rt, heap, &mut explored)?;
-    follow_regrouped(rt, heap, &mut explored)
+    follow_regrouped(rt, heap, &mut explored)?;
+    follow_steps(rt, heap, &mut explored, "kept", StepList::NormalSteps)?;
+    follow_steps(rt, heap, &mut explored, "taken", StepList::TakenSteps)
 }
 
-/// Writes the steps of the first terms, and then the same once more.
-fn follow_steps(rt: &impl Print, heap: &mut Heap, explored: &mut Explored) -> Result<(), Stop> {
-    for what in ["steps", "again"] {
-        let mut line = Line::new();
-        explored.write_first(heap, &mut line)?;
-        println!(rt; "{what}:{line}")?;
-    }
-    Ok(())
+/// Writes such steps of the first terms.
+fn follow_steps(
+    rt: &impl Print,
+    heap: &mut Heap,
+    explored: &mut Explored,
+    what: &str,
+    which: StepList,
+) -> Result<(), Stop> {
+    let mut line = Line::new();
+    explored.write_first(heap, &mut line, which)?;
+    Ok(println!(rt; "{what}:{line}")?)
 }
 
 /// Writes the normal forms of the first terms.

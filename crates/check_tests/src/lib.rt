@@ -16,6 +16,8 @@ mod guardedness_tests;
 #[cfg(test)]
 mod hidden_gates_tests;
 #[cfg(test)]
+mod long_texts;
+#[cfg(test)]
 mod mistakes;
 #[cfg(test)]
 mod names;

@@ -501,7 +501,7 @@ fn explain_broken(alloc: Global, text: &[u8], specification: &Specification, lin
     }
 }
 
-fn assert_explained(rt: &impl Abort, alloc: Global, row: &str, text: &[u8], want: &[u8]) {
+pub fn assert_explained(rt: &impl Abort, alloc: Global, row: &str, text: &[u8], want: &[u8]) {
     let lines = explained(alloc, text);
     assert!(rt;
         lines.as_slice() == want,

@@ -19,7 +19,8 @@ pub record IsTokenAt (text : List ℕ) (at : ℕ) (token : Token) : Type 0 where
   pub lexes : Lexes text (before ++ token ∷ after)
   pub offset : token.at ≡ at
 
--- no token of the text begins at the offset, lexing does not fail there, and the text does not end there
+-- no token of the text begins at the offset, lexing does not fail there, and the text does not end there; a text that
+-- does not lex has no tokens
 pub record HasNothingAt (text : List ℕ) (at : ℕ) : Type 0 where
   pub no_token : (token : Token) → IsTokenAt text at token → ⊥
   pub no_failure : LexingFailsAt text at → ⊥
@@ -53,11 +54,12 @@ IsLexingFailure text (fault.E06 at) = ⊥
 IsLexingFailure text (fault.E07 at) = ⊥
 IsLexingFailure text (fault.E99 e) = ⊥
 
--- what the description of an offset means
+-- what the description of an offset means; a byte order mark is not described as a byte
 abbrev pub IsDescribed : List ℕ → ℕ → Description → Type 0
 IsDescribed text at (what.Token token) = IsTokenAt text at token
 IsDescribed text at what.Comment = FailsAtComment text at
 IsDescribed text at what.ByteOrderMark = FailsAtByte text at × StartsWith byte_order_mark (drop at text)
-IsDescribed text at (what.Byte b) = FailsAtByte text at × (slice_get text at ≡ Some b)
+IsDescribed text at (what.Byte b) =
+    FailsAtByte text at × (slice_get text at ≡ Some b) × (StartsWith byte_order_mark (drop at text) → ⊥)
 IsDescribed text at what.End = at ≡ length text
 IsDescribed text at what.Nothing = HasNothingAt text at

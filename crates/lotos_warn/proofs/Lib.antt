@@ -11,3 +11,7 @@ pub mod ExitingNumbers
 pub mod TerminatingNames
 pub mod WholeWarnings
 pub mod DefinitionWarnings
+pub mod TerminatingTerms
+pub mod NumberedTermination
+pub mod BoundProcesses
+pub mod DeclaredTermination

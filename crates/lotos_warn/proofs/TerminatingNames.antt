@@ -31,7 +31,7 @@ module _ (one : (scope : Scope) → IsDistinctScope scope → BindsOnce scope) (
       let own = one v.scope (visible_distinct spec a.typed.distinct v (inr (get_in (processes_of spec) k v at))) in
       x.of_call (subst (λ i. slice_get s.processes i ≡ Some q) (sym same) there) (number v.scope own (body_of v.definition) q.body is.body h)
 
-  name : (scope : Scope) (b : BehaviourView) (c : Flat) → Resolves scope b c → MayExit s.processes c → MayTerminate spec scope b
+  pub name : (scope : Scope) (b : BehaviourView) (c : Flat) → Resolves scope b c → MayExit s.processes c → MayTerminate spec scope b
   name scope b c of_stop h = elim h [ ]
   name scope b c of_exit x.of_exit = by_exit
   name scope b c (of_prefix r) (x.of_prefix h) = by_prefix (name scope _ _ r h)

@@ -3,3 +3,4 @@ pub mod Termination
 pub mod Warnings
 pub mod WarningOrder
 pub mod Additions
+pub mod Derivations

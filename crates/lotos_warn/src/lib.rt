@@ -8,6 +8,7 @@
 
 mod definition_warnings;
 mod gate_names;
+pub mod laws;
 mod offered_gates;
 mod process_calls;
 mod shown_name;
