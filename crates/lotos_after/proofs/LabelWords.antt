@@ -25,7 +25,8 @@ named_length strong (name ∷ names) [] h = absurd h
 named_length strong (name ∷ names) (l ∷ labels) h = ap suc (named_length strong names labels h.1)
 
 -- the name at an index is that of the label there
-pub each_named : (strong : Bool) (names : List Text) (labels : List Label) → NamesEach strong names labels → (i : ℕ) (name : Text) → slice_get names i ≡ Some name →
+pub each_named : (strong : Bool) (names : List Text) (labels : List Label) → NamesEach strong names labels → (i : ℕ) (name : Text) →
+    slice_get names i ≡ Some name →
     (l : Label) × Names strong name l × (slice_get labels i ≡ Some l)
 each_named strong [] [] h i name at = cc
 each_named strong [] (l ∷ labels) h i name at = absurd h
@@ -39,8 +40,11 @@ module _ (strong : Bool) (words : List Text) where
   AreNamed n = (labels : List Label) × NamesEach strong (take n words) labels
 
   pub named_more : (n : ℕ) (word : Text) → slice_get words n ≡ Some word → AreNamed n → (l : Label) → Names strong word l → AreNamed (n + 1)
-  named_more n word at (labels, named) l names =
-      (labels ++ l ∷ [], subst (λ ws. NamesEach strong ws (labels ++ l ∷ [])) (sym (take_at words n word at)) (names_more strong (take n words) labels word l named names))
+  named_more n word at (labels, named) l names = (
+    labels ++ l ∷ [],
+    subst (λ ws. NamesEach strong ws (labels ++ l ∷ [])) (sym (take_at words n word at))
+        (names_more strong (take n words) labels word l named names),
+  )
 
   pub named_all : (n : ℕ) → length words ≤ n → AreNamed n → (labels : List Label) × NamesEach strong words labels
   named_all n all (labels, named) = (labels, subst (λ ws. NamesEach strong ws labels) (take_all n words all) named)
@@ -72,7 +76,8 @@ no_internal word reads l names = names.observable (one_named word l internal nam
 
 -- every other word names a label
 pub names_some : (strong : Bool) (word : Text) → IsWord word → (strong ≡ false → EqualsIgnoringCase word internal → ⊥) → (l : Label) × Names strong word l
-names_some strong word spelled seen = go (bytes_eq (map to_ascii_lowercase word) termination) refl (bytes_eq (map to_ascii_lowercase word) internal) refl strong seen
+names_some strong word spelled seen =
+    go (bytes_eq (map to_ascii_lowercase word) termination) refl (bytes_eq (map to_ascii_lowercase word) internal) refl strong seen
   where
     is : (text : Text) → bytes_eq (map to_ascii_lowercase word) text ≡ true → EqualsIgnoringCase word text
     is text e = (bytes_eq-Decides (map to_ascii_lowercase word) text).0 e
@@ -94,12 +99,15 @@ abbrev pub AreLabelsOf : List Name → List Text → ℕ → List TermLabel → 
 AreLabelsOf gates words n labels = (strong : Bool) (s : List Label) → NamesEach strong words s → ArePrinted gates labels (take n s)
 
 pub labels_more : (gates : List Name) (words : List Text) (n : ℕ) (labels : List TermLabel) → AreLabelsOf gates words n labels → (word : Text) →
-    slice_get words n ≡ Some word → (k : TermLabel) → ((text : Label) → IsNamed word text → IsPrintedAs gates k text) → AreLabelsOf gates words (n + 1) (labels ++ k ∷ [])
+    slice_get words n ≡ Some word → (k : TermLabel) → ((text : Label) → IsNamed word text → IsPrintedAs gates k text) →
+    AreLabelsOf gates words (n + 1) (labels ++ k ∷ [])
 labels_more gates words n labels so_far word at k shown strong s named =
     let (l, names, there) = each_named strong words s named n word at in
-    subst (ArePrinted gates (labels ++ k ∷ [])) (sym (take_at s n l there)) (shown_push gates labels k (take n s) l (so_far strong s named) (shown l names.named))
+    subst (ArePrinted gates (labels ++ k ∷ [])) (sym (take_at s n l there))
+    (shown_push gates labels k (take n s) l (so_far strong s named) (shown l names.named))
 
-pub labels_all : (gates : List Name) (words : List Text) (n : ℕ) (labels : List TermLabel) → AreLabelsOf gates words n labels → length words ≤ n → (strong : Bool) (s : List Label) →
+pub labels_all : (gates : List Name) (words : List Text) (n : ℕ) (labels : List TermLabel) → AreLabelsOf gates words n labels →
+    length words ≤ n → (strong : Bool) (s : List Label) →
     NamesEach strong words s → ArePrinted gates labels s
 labels_all gates words n labels so_far all strong s named =
     let same = named_length strong words s named in

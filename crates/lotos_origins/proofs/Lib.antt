@@ -13,3 +13,4 @@ pub mod BisimilarRuns
 pub mod AlongRuns
 pub mod FollowedRuns
 pub mod WaysBack
+pub mod StoredOrigins

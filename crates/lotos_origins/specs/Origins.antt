@@ -1,5 +1,5 @@
 -- What makes the internal steps of terms, by the inference rules of ISO 8807:1989.
-use Rattle.std.specs.Prelude.{◌≡◌, ◌≢◌, ℕ, List, [], ◌∷◌, Option, Some, None, slice_get, zip}
+use Rattle.std.specs.Prelude.{◌≡◌, ◌≢◌, ◌<◌, ℕ, List, [], ◌∷◌, Option, Some, None, slice_get, zip}
 use Rattle.lotos_check.specs.NameLists.{In}
 use Rattle.lotos_store.specs.Terms.{Term, Process, prefix, choice, par, hide, enable, disable, call, relabel}
 use Rattle.lotos_store.specs.declared.label.Label.{Label}
@@ -37,6 +37,12 @@ pub data InternalStep (system : List Process) : Term → Origin → Term → Typ
       InternalStep system (relabel (zip q.formals gates) q.body) o t → InternalStep system (call p gates) o t
   relabels : {m : List (ℕ × ℕ)} {b t : Term} {o : Origin} → InternalStep system b o t →
       InternalStep system (relabel m b) o (relabel m t)
+
+-- the gate of the origin, if it has one, is one of the first gates, of which there are so many
+abbrev pub IsOriginOver : (gates : ℕ) → Origin → Type 0
+IsOriginOver gates origin.Text = Unit {0}
+IsOriginOver gates (origin.Hidden g) = g < gates
+IsOriginOver gates origin.Termination = Unit {0}
 
 -- the run is that of a sequence of steps from the first term to the last; its labels are those of a table
 abbrev pub DerivesByNumber : (system : List Process) → Term → (run : List Label) → Term → Type 0

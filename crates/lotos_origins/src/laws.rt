@@ -1,16 +1,17 @@
 //! Laws of the definitions, each as the contract of an empty function.
-ghost use Rattle.std.specs.Prelude.{ℕ, List};
-ghost use Rattle.lotos_store.specs.Terms.{Process, Term as TermOf};
+ghost use Rattle.std.specs.Prelude.{ℕ, List, length};
+ghost use Rattle.lotos_store.specs.Terms.{IsTerm, Process, Term as TermOf};
 ghost use Rattle.lotos_store.specs.declared.label.Label.{Label};
 ghost use Rattle.lotos_store.specs.declared.label.Label.TheVariants as labels;
 ghost use Rattle.lotos_terms.specs.Steps.{Step};
-ghost use Rattle.lotos_terms.specs.TableView.{Grows, TableView};
+ghost use Rattle.lotos_terms.specs.TableView.{Grows, IsSoundView, TableView};
 ghost use Rattle.lotos_origins.specs.FollowedRuns.{AreAlike, IsFollowed};
-ghost use Rattle.lotos_origins.specs.Origins.{DerivesBy, DerivesByNumber, InternalStep};
+ghost use Rattle.lotos_origins.specs.Origins.{DerivesBy, DerivesByNumber, InternalStep, IsOriginOver};
 ghost use Rattle.lotos_origins.specs.declared.followed_run.FollowedRun.{FollowedRun as FollowedRunOf};
 ghost use Rattle.lotos_origins.specs.declared.origin.Origin.{Origin as OriginOf};
 
 use lotos_normal::laws::steps_keep_bisimilarity;
+use lotos_terms::laws::steps_stay_in_table;
 
 /// A term has an internal step to another exactly if there is an origin of such a step.
 pub fn internal_steps_have_origins()
@@ -19,6 +20,16 @@ pub fn internal_steps_have_origins()
     ensures origin { (system : List Process) (t u : TermOf) → Step system t labels.Internal u →
         (o : OriginOf) × InternalStep system t o u }
 {}
+
+/// An internal step of a term over the gates and processes of a sound table has an origin with a gate of that table, if
+/// its origin has a gate.
+pub fn origins_stay_in_table()
+    ensures { (held : TableView) → IsSoundView held → (t u : TermOf) (o : OriginOf) →
+        IsTerm (length held.names) (length held.processes) t → InternalStep held.processes t o u →
+        IsOriginOver (length held.names) o }
+{
+    steps_stay_in_table();
+}
 
 /// Some derivation by a run leads from a term to another exactly if there are origins of its internal steps.
 pub fn derivations_have_origins()
