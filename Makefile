@@ -14,7 +14,7 @@ help: ## lists these targets
 	@sed -n 's/^\([a-z]*\):.*## /\1: /p' Makefile | awk -F ': ' '{ printf "make %-10s %s\n", $$1, $$2 }'
 
 build: ## proves and builds the program if a source has changed
-	./lotosseq --help >/dev/null
+	./lotosseq --build
 
 try: ## runs the tests without a proof, in minutes
 	tools/try-tests
