@@ -1,2 +1,4 @@
 pub mod FormattedLines
 pub mod SharedTexts
+pub mod NamedTexts
+pub mod NamedLines

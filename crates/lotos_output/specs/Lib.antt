@@ -1,3 +1,4 @@
 pub mod OutputLines
+pub mod NamedRuns
 pub mod WriteFaults
 pub mod FlushOutcome
