@@ -57,6 +57,13 @@ module _ {X : Type 0} where
     (λ h. elim ((added x).1 h) [ inl j ↦ j | inr r ↦ absurd (none x r) ]),
   )
 
+  -- all that is left is added
+  pub adds_last : (old now new : List X) (rest all : X → Type 0) → AddsRest old now rest all → Adds now new rest → Adds old new all
+  adds_last old now new rest all before added x = (
+    (λ i. (before x).0 ((added x).0 i)),
+    (λ h. (added x).1 ((before x).1 h)),
+  )
+
   -- the first of what is left is added
   pub adds_next : (old now new : List X) (rest all P left : X → Type 0) → AddsRest old now rest all → Adds now new P →
       ((x : X) → rest x ↔ (P x ⊎ left x)) → AddsRest old new left all

@@ -1,15 +1,17 @@
 -- The warnings about definitions, one after the other.
 use Rattle.std.proofs.Common.{◌≡◌, ◌↔◌, ◌⊎◌, ℕ, ◌+◌, ◌<◌, suc, List, [], ◌∷◌, map, length, drop, get_or, refl, sym, ◌∙◌, subst, inl, inr, Bool, true, false, arith}
-use Rattle.lotos_text.specs.AstView.{DefinitionView, name_of, formals_of, declared_of, body_of}
+use Rattle.lotos_text.specs.AstView.{stop, DefinitionView, name_of, formals_of, declared_of, body_of}
 use Rattle.lotos_text.specs.declared.ast.Placed.{Placed}
 use Rattle.lotos_text.specs.declared.ast.Functionality.TheVariants.{Exit, NoExit}
 use Rattle.lotos_check.specs.NameLists.{Name, In}
+use Rattle.lotos_check.specs.Flat.{System}
 use Rattle.lotos_check.proofs.Pairs.{drop_at}
 use Rattle.lotos_warn.specs.declared.warning.Warning.{Warning}
-use Rattle.lotos_warn.specs.declared.warning.Warning.TheVariants.{UncalledProcess, UnreachedProcess, NeverExits, UnusedGate, UnofferedGate}
+use Rattle.lotos_warn.specs.declared.warning.Warning.TheVariants.{UncalledProcess, UnreachedProcess, NeverExits, DeadStart, UnusedGate, UnofferedGate}
 use Rattle.lotos_warn.specs.ShownNames.{shown_name}
+use Rattle.lotos_warn.specs.LabelSets.{IsAlive, IsDead}
 use Rattle.lotos_warn.specs.Warnings.{UsesFree}
-use Rattle.lotos_warn.specs.Additions.{IsUnusedAmong, IsUnusedIn, IsGateWarning, IsGateWarningOfAny, IsUncalledAt, IsUnreachedAt, IsEndlessAt, IsEndlessWhole, IsProcessWarning, IsProcessWarningOfAny}
+use Rattle.lotos_warn.specs.Additions.{IsUnusedAmong, IsUnusedIn, IsGateWarning, IsGateWarningOfAny, IsUncalledAt, IsUnreachedAt, IsEndlessAt, IsEndlessWhole, IsDeadIn, IsProcessWarning, IsProcessWarningOfAny}
 
 -- an unused gate of a list is the first, or one of the others
 pub unused_split : (used : List Name) (name : Name) (g : Placed) (gs : List Placed) (w : Warning) →
@@ -17,6 +19,7 @@ pub unused_split : (used : List Name) (name : Name) (g : Placed) (gs : List Plac
 unused_split used name g gs (UncalledProcess p) = ((λ h. absurd h), (λ h. elim h [ inl i ↦ i | inr i ↦ i ]))
 unused_split used name g gs (UnreachedProcess p) = ((λ h. absurd h), (λ h. elim h [ inl i ↦ i | inr i ↦ i ]))
 unused_split used name g gs (NeverExits p) = ((λ h. absurd h), (λ h. elim h [ inl i ↦ i | inr i ↦ i ]))
+unused_split used name g gs (DeadStart p) = ((λ h. absurd h), (λ h. elim h [ inl i ↦ i | inr i ↦ i ]))
 unused_split used name g gs (UnofferedGate p s) = ((λ h. absurd h), (λ h. elim h [ inl i ↦ i | inr i ↦ i ]))
 unused_split used name g gs (UnusedGate gate d) = (
   (λ h. elim h.0 [ inl e ↦ inl (inl e, h.1, h.2) | inr i ↦ inr (i, h.1, h.2) ]),
@@ -30,6 +33,7 @@ pub unused_none : (used : List Name) (name : Name) (w : Warning) → IsUnusedAmo
 unused_none used name (UncalledProcess p) h = h
 unused_none used name (UnreachedProcess p) h = h
 unused_none used name (NeverExits p) h = h
+unused_none used name (DeadStart p) h = h
 unused_none used name (UnofferedGate p s) h = h
 unused_none used name (UnusedGate gate d) h = h.0
 
@@ -39,6 +43,7 @@ pub unused_one : (used : List Name) (name : Name) (gate : Placed) → (In gate.n
 unused_one used name gate none (UncalledProcess p) = ((λ e. cc), (λ h. absurd h))
 unused_one used name gate none (UnreachedProcess p) = ((λ e. cc), (λ h. absurd h))
 unused_one used name gate none (NeverExits p) = ((λ e. cc), (λ h. absurd h))
+unused_one used name gate none (DeadStart p) = ((λ e. cc), (λ h. absurd h))
 unused_one used name gate none (UnofferedGate p s) = ((λ e. cc), (λ h. absurd h))
 unused_one used name gate none (UnusedGate other d) = (
   (λ e. let same : gate ≡ other = cc in let named : d ≡ shown_name name = cc in (inl same, named, subst (λ g. In g.name used → ⊥) same none)),
@@ -50,6 +55,7 @@ pub unused_never : (used : List Name) (name : Name) (gate : Placed) → In gate.
 unused_never used name gate some (UncalledProcess p) h = h
 unused_never used name gate some (UnreachedProcess p) h = h
 unused_never used name gate some (NeverExits p) h = h
+unused_never used name gate some (DeadStart p) h = h
 unused_never used name gate some (UnofferedGate p s) h = h
 unused_never used name gate some (UnusedGate other d) h = elim h.0 [ inl same ↦ h.2 (subst (λ g. In g.name used) same some) | inr i ↦ i ]
 
@@ -59,6 +65,7 @@ pub unused_in : (d : DefinitionView) (used : List Name) → ((n : Name) → In n
 unused_in d used same (UncalledProcess p) = ((λ h. h), (λ h. h))
 unused_in d used same (UnreachedProcess p) = ((λ h. h), (λ h. h))
 unused_in d used same (NeverExits p) = ((λ h. h), (λ h. h))
+unused_in d used same (DeadStart p) = ((λ h. h), (λ h. h))
 unused_in d used same (UnofferedGate p s) = ((λ h. h), (λ h. h))
 unused_in d used same (UnusedGate gate name) = (
   (λ h. (h.0, h.1, (λ u. h.2 ((same gate.name).1 u)))),
@@ -78,6 +85,7 @@ pub uncalled_one : (called : List ℕ) (number : ℕ) (d : DefinitionView) → (
 uncalled_one called number d none (UncalledProcess p) = ((λ e. ((let named : p ≡ name_of d = cc in named), none)), (λ h. let named = h.0 in cc))
 uncalled_one called number d none (UnreachedProcess p) = ((λ e. cc), (λ h. absurd h))
 uncalled_one called number d none (NeverExits p) = ((λ e. cc), (λ h. absurd h))
+uncalled_one called number d none (DeadStart p) = ((λ e. cc), (λ h. absurd h))
 uncalled_one called number d none (UnusedGate gate name) = ((λ e. cc), (λ h. absurd h))
 uncalled_one called number d none (UnofferedGate gate side) = ((λ e. cc), (λ h. absurd h))
 
@@ -86,6 +94,7 @@ pub uncalled_never : (called : List ℕ) (number : ℕ) (d : DefinitionView) →
 uncalled_never called number d some (UncalledProcess p) h = h.1 some
 uncalled_never called number d some (UnreachedProcess p) h = h
 uncalled_never called number d some (NeverExits p) h = h
+uncalled_never called number d some (DeadStart p) h = h
 uncalled_never called number d some (UnusedGate gate name) h = h
 uncalled_never called number d some (UnofferedGate gate side) h = h
 
@@ -98,6 +107,7 @@ unreached_one called reached number d here (UnreachedProcess p) = (
   (λ h. let named = h.0 in cc),
 )
 unreached_one called reached number d here (NeverExits p) = ((λ e. cc), (λ h. absurd h))
+unreached_one called reached number d here (DeadStart p) = ((λ e. cc), (λ h. absurd h))
 unreached_one called reached number d here (UnusedGate gate name) = ((λ e. cc), (λ h. absurd h))
 unreached_one called reached number d here (UnofferedGate gate side) = ((λ e. cc), (λ h. absurd h))
 
@@ -107,6 +117,7 @@ pub unreached_never : (called reached : List ℕ) (number : ℕ) (d : Definition
 unreached_never called reached number d other (UncalledProcess p) h = h
 unreached_never called reached number d other (UnreachedProcess p) h = elim other [ inl none ↦ none h.1 | inr some ↦ h.2 some ]
 unreached_never called reached number d other (NeverExits p) h = h
+unreached_never called reached number d other (DeadStart p) h = h
 unreached_never called reached number d other (UnusedGate gate name) h = h
 unreached_never called reached number d other (UnofferedGate gate side) h = h
 
@@ -119,6 +130,7 @@ endless_one exiting number d declared none (NeverExits p) = (
   (λ e. ((let named : p ≡ name_of d = cc in named), declared, none)),
   (λ h. let named = h.0 in cc),
 )
+endless_one exiting number d declared none (DeadStart p) = ((λ e. cc), (λ h. absurd h))
 endless_one exiting number d declared none (UnusedGate gate name) = ((λ e. cc), (λ h. absurd h))
 endless_one exiting number d declared none (UnofferedGate gate side) = ((λ e. cc), (λ h. absurd h))
 
@@ -131,6 +143,7 @@ endless_never exiting number d other (NeverExits p) h = elim other [
   | inl declared ↦ (let e : Exit ≡ NoExit = sym h.1 ∙ declared in cc)
   | inr some ↦ h.2 some
 ]
+endless_never exiting number d other (DeadStart p) h = h
 endless_never exiting number d other (UnusedGate gate name) h = h
 endless_never exiting number d other (UnofferedGate gate side) h = h
 
@@ -143,6 +156,7 @@ endless_whole exits d declared none (NeverExits p) = (
   (λ e. ((let named : p ≡ name_of d = cc in named), declared, none)),
   (λ h. let named = h.0 in cc),
 )
+endless_whole exits d declared none (DeadStart p) = ((λ e. cc), (λ h. absurd h))
 endless_whole exits d declared none (UnusedGate gate name) = ((λ e. cc), (λ h. absurd h))
 endless_whole exits d declared none (UnofferedGate gate side) = ((λ e. cc), (λ h. absurd h))
 
@@ -153,8 +167,31 @@ endless_whole_never exits d other (NeverExits p) h = elim other [
   | inl declared ↦ (let e : Exit ≡ NoExit = sym h.1 ∙ declared in cc)
   | inr some ↦ (let e : true ≡ false = sym some ∙ h.2 in cc)
 ]
+endless_whole_never exits d other (DeadStart p) h = h
 endless_whole_never exits d other (UnusedGate gate name) h = h
 endless_whole_never exits d other (UnofferedGate gate side) h = h
+
+-- the warning about a behaviour that can do nothing
+pub dead_one : (system : System) (d : DefinitionView) → (body_of d ≡ stop → ⊥) → IsDead system → (w : Warning) →
+    (DeadStart (name_of d) ≡ w) ↔ IsDeadIn system d w
+dead_one system d other dead (UncalledProcess p) = ((λ e. cc), (λ h. absurd h))
+dead_one system d other dead (UnreachedProcess p) = ((λ e. cc), (λ h. absurd h))
+dead_one system d other dead (NeverExits p) = ((λ e. cc), (λ h. absurd h))
+dead_one system d other dead (DeadStart p) = (
+  (λ e. ((let named : p ≡ name_of d = cc in named), other, dead)),
+  (λ h. let named = h.0 in cc),
+)
+dead_one system d other dead (UnusedGate gate name) = ((λ e. cc), (λ h. absurd h))
+dead_one system d other dead (UnofferedGate gate side) = ((λ e. cc), (λ h. absurd h))
+
+-- none about one that is `stop` itself, or can do something
+pub dead_never : (system : System) (d : DefinitionView) → (body_of d ≡ stop) ⊎ IsAlive system → (w : Warning) → IsDeadIn system d w → ⊥
+dead_never system d other (UncalledProcess p) h = h
+dead_never system d other (UnreachedProcess p) h = h
+dead_never system d other (NeverExits p) h = h
+dead_never system d other (DeadStart p) h = elim other [ inl same ↦ h.1 same | inr (x, can) ↦ h.2 x can ]
+dead_never system d other (UnusedGate gate name) h = h
+dead_never system d other (UnofferedGate gate side) h = h
 
 -- of the processes from a number on, one that has a warning is the first, or one of the others
 pub process_next : {K : Type 0} (view : K → DefinitionView) (called reached exiting : List ℕ) (ps : List K) (n : ℕ) (d y : K) →

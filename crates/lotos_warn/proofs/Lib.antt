@@ -9,6 +9,13 @@ pub mod CalledNames
 pub mod ReachedNumbers
 pub mod ExitingNumbers
 pub mod TerminatingNames
+pub mod SharedNames
+pub mod RenamedNames
+pub mod LabelSets
+pub mod LabelForms
+pub mod RankedLabels
+pub mod FirstSteps
+pub mod DeadStarts
 pub mod WholeWarnings
 pub mod DefinitionWarnings
 pub mod TerminatingTerms

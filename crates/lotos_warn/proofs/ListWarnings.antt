@@ -9,7 +9,7 @@ use Rattle.lotos_check.specs.Subexpressions.{IsSubexpression, in_prefix, in_choi
 use Rattle.lotos_warn.specs.declared.warning.Side.{Side}
 use Rattle.lotos_warn.specs.declared.warning.Side.TheVariants.{Left, Right}
 use Rattle.lotos_warn.specs.declared.warning.Warning.{Warning}
-use Rattle.lotos_warn.specs.declared.warning.Warning.TheVariants.{UncalledProcess, UnreachedProcess, NeverExits, UnusedGate, UnofferedGate}
+use Rattle.lotos_warn.specs.declared.warning.Warning.TheVariants.{UncalledProcess, UnreachedProcess, NeverExits, DeadStart, UnusedGate, UnofferedGate}
 use Rattle.lotos_warn.specs.Warnings.{OffersFree, operand, IsFirstOfName, IsUnofferedIn, IsListWarning}
 use Rattle.lotos_warn.specs.Additions.{Adds, IsMissingOn, IsMissingUnseen, IsMissingGate, IsMissing, names_of}
 use Rattle.lotos_warn.proofs.Additions.{adds_as, adds_both, adds_nothing, adds_alone}
@@ -123,6 +123,7 @@ both_lists : (l r whole : BehaviourView) → AreBoth l r whole → (w : Warning)
 both_lists l r whole same (UncalledProcess p) = ((λ h. elim h [ inl i ↦ i | inr i ↦ i ]), (λ h. absurd h))
 both_lists l r whole same (UnreachedProcess p) = ((λ h. elim h [ inl i ↦ i | inr i ↦ i ]), (λ h. absurd h))
 both_lists l r whole same (NeverExits p) = ((λ h. elim h [ inl i ↦ i | inr i ↦ i ]), (λ h. absurd h))
+both_lists l r whole same (DeadStart p) = ((λ h. elim h [ inl i ↦ i | inr i ↦ i ]), (λ h. absurd h))
 both_lists l r whole same (UnusedGate g d) = ((λ h. elim h [ inl i ↦ i | inr i ↦ i ]), (λ h. absurd h))
 both_lists l r whole same (UnofferedGate g s) = same g s
 
@@ -136,6 +137,7 @@ one_list : (b whole : BehaviourView) → ((g : Placed) (s : Side) → WarnsIn g 
 one_list b whole form (UncalledProcess p) = ((λ h. h), (λ h. h))
 one_list b whole form (UnreachedProcess p) = ((λ h. h), (λ h. h))
 one_list b whole form (NeverExits p) = ((λ h. h), (λ h. h))
+one_list b whole form (DeadStart p) = ((λ h. h), (λ h. h))
 one_list b whole form (UnusedGate g d) = ((λ h. h), (λ h. h))
 one_list b whole form (UnofferedGate g s) = (
   (λ h. (warns_by_form g s whole).1 ((form g s).1 ((warns_by_form g s b).0 h))),
@@ -146,6 +148,7 @@ no_list : (whole : BehaviourView) → ((g : Placed) (s : Side) → WarnsIn g s w
 no_list whole none (UncalledProcess p) h = h
 no_list whole none (UnreachedProcess p) h = h
 no_list whole none (NeverExits p) h = h
+no_list whole none (DeadStart p) h = h
 no_list whole none (UnusedGate g d) h = h
 no_list whole none (UnofferedGate g s) h = none g s ((warns_by_form g s whole).0 h)
 
@@ -206,6 +209,10 @@ module _ (l r : BehaviourView) (by_left by_right : List Name) (left : (n : Name)
   no_endless (gates gs) p h = h
   no_endless all p h = h
 
+  no_dead : (sync : SyncView) (p : Placed) → IsMissing by_left by_right sync (DeadStart p) → ⊥
+  no_dead (gates gs) p h = h
+  no_dead all p h = h
+
   no_unused : (sync : SyncView) (g : Placed) (d : Name) → IsMissing by_left by_right sync (UnusedGate g d) → ⊥
   no_unused (gates gs) g d h = h
   no_unused all g d h = h
@@ -215,6 +222,7 @@ module _ (l r : BehaviourView) (by_left by_right : List Name) (left : (n : Name)
   par_lists sync (UncalledProcess p) = ((λ h. elim h [ inl i ↦ i | inr (inl i) ↦ i | inr (inr i) ↦ no_other sync p i ]), (λ h. absurd h))
   par_lists sync (UnreachedProcess p) = ((λ h. elim h [ inl i ↦ i | inr (inl i) ↦ i | inr (inr i) ↦ no_unreached sync p i ]), (λ h. absurd h))
   par_lists sync (NeverExits p) = ((λ h. elim h [ inl i ↦ i | inr (inl i) ↦ i | inr (inr i) ↦ no_endless sync p i ]), (λ h. absurd h))
+  par_lists sync (DeadStart p) = ((λ h. elim h [ inl i ↦ i | inr (inl i) ↦ i | inr (inr i) ↦ no_dead sync p i ]), (λ h. absurd h))
   par_lists sync (UnusedGate g d) = ((λ h. elim h [ inl i ↦ i | inr (inl i) ↦ i | inr (inr i) ↦ no_unused sync g d i ]), (λ h. absurd h))
   par_lists sync (UnofferedGate g s) = (
     (λ h. (warns_by_form g s (par l sync r)).1 (elim h [
@@ -290,6 +298,7 @@ module _ (by_left by_right seen more : List Name) (g : Placed) (gs : List Placed
   missing_split (UncalledProcess p) = ((λ h. absurd h), (λ h. elim h [ inl m ↦ no_missing (UncalledProcess p) (λ i. i) (λ i. i) m | inr m ↦ m ]))
   missing_split (UnreachedProcess p) = ((λ h. absurd h), (λ h. elim h [ inl m ↦ no_missing (UnreachedProcess p) (λ i. i) (λ i. i) m | inr m ↦ m ]))
   missing_split (NeverExits p) = ((λ h. absurd h), (λ h. elim h [ inl m ↦ no_missing (NeverExits p) (λ i. i) (λ i. i) m | inr m ↦ m ]))
+  missing_split (DeadStart p) = ((λ h. absurd h), (λ h. elim h [ inl m ↦ no_missing (DeadStart p) (λ i. i) (λ i. i) m | inr m ↦ m ]))
   missing_split (UnusedGate other d) = ((λ h. absurd h), (λ h. elim h [ inl m ↦ no_missing (UnusedGate other d) (λ i. i) (λ i. i) m | inr m ↦ m ]))
   missing_split (UnofferedGate other place) = missing_side other place
 
@@ -305,6 +314,7 @@ pub missing_none : (by_left by_right seen : List Name) (w : Warning) → IsMissi
 missing_none by_left by_right seen (UncalledProcess p) h = h
 missing_none by_left by_right seen (UnreachedProcess p) h = h
 missing_none by_left by_right seen (NeverExits p) h = h
+missing_none by_left by_right seen (DeadStart p) h = h
 missing_none by_left by_right seen (UnusedGate other d) h = h
 missing_none by_left by_right seen (UnofferedGate other place) h = h.1
 
@@ -314,6 +324,7 @@ pub missing_one : (names : List Name) (side : Side) (gate : Placed) → (In gate
 missing_one names side gate none (UncalledProcess p) = ((λ e. cc), (λ h. absurd h))
 missing_one names side gate none (UnreachedProcess p) = ((λ e. cc), (λ h. absurd h))
 missing_one names side gate none (NeverExits p) = ((λ e. cc), (λ h. absurd h))
+missing_one names side gate none (DeadStart p) = ((λ e. cc), (λ h. absurd h))
 missing_one names side gate none (UnusedGate other d) = ((λ e. cc), (λ h. absurd h))
 missing_one names side gate none (UnofferedGate other place) = (
   (λ e. let same : gate ≡ other = cc in let there : side ≡ place = cc in (same, there, subst (λ g. In g.name names → ⊥) same none)),
@@ -325,5 +336,6 @@ pub missing_never : (names : List Name) (side : Side) (gate : Placed) → In gat
 missing_never names side gate some (UncalledProcess p) h = h
 missing_never names side gate some (UnreachedProcess p) h = h
 missing_never names side gate some (NeverExits p) h = h
+missing_never names side gate some (DeadStart p) h = h
 missing_never names side gate some (UnusedGate other d) h = h
 missing_never names side gate some (UnofferedGate other place) h = h.2 (subst (λ g. In g.name names) h.0 some)

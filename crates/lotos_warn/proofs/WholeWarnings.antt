@@ -5,16 +5,18 @@ use Rattle.lotos_text.specs.AstView.{DefinitionView, name_of, formals_of, declar
 use Rattle.lotos_text.specs.declared.ast.Placed.{Placed}
 use Rattle.lotos_check.specs.NameLists.{Name, In, texts}
 use Rattle.lotos_check.specs.Scope.{Scope, ScopedDefinition, IsDefinition, within, processes_of, all_definitions, definitions_in, definitions_in_list}
+use Rattle.lotos_check.specs.Flat.{System}
 use Rattle.lotos_check.proofs.DefinitionOrder.{in_order}
 use Rattle.lotos_check.proofs.ScopedDefinitions.{everywhere_in_order, listed_row, scope_of, without_scope}
 use Rattle.lotos_warn.specs.declared.warning.Side.{Side}
 use Rattle.lotos_warn.specs.declared.warning.Warning.{Warning}
-use Rattle.lotos_warn.specs.declared.warning.Warning.TheVariants.{UncalledProcess, UnreachedProcess, NeverExits, UnusedGate, UnofferedGate}
+use Rattle.lotos_warn.specs.declared.warning.Warning.TheVariants.{UncalledProcess, UnreachedProcess, NeverExits, DeadStart, UnusedGate, UnofferedGate}
 use Rattle.lotos_warn.specs.Warnings.{IsUnusedGate, IsUnofferedGate, IsUncalledProcess, IsUnreachedProcess, IsNeverExit, IsCalled, IsReached, IsWarning}
 use Rattle.lotos_text.specs.declared.ast.Functionality.TheVariants.{Exit}
 use Rattle.lotos_check.proofs.ListIndices.{get_in, in_get}
 use Rattle.lotos_warn.specs.Termination.{MayTerminate}
-use Rattle.lotos_warn.specs.Additions.{IsEndlessWhole, IsGateWarningOfAny, IsProcessWarning, IsProcessWarningOfAny}
+use Rattle.lotos_warn.specs.FirstLabels.{IsDeadStart}
+use Rattle.lotos_warn.specs.Additions.{IsDeadIn, IsEndlessWhole, IsGateWarningOfAny, IsProcessWarning, IsProcessWarningOfAny}
 use Rattle.lotos_warn.proofs.ListWarnings.{to_form, from_form, warns_by_form, WarnsFrom}
 
 -- the definitions after the first are those inside it
@@ -236,45 +238,68 @@ module _ (whole : DefinitionView) (called reached exiting : List ℕ) (by_name :
   not_gate : (gate : Placed) (name : Name) → IsProcessWarningOfAny called reached exiting 0 (definitions_in_list (inner_of whole)) (UnusedGate gate name) → ⊥
   not_gate gate name h = elim (found (UnusedGate gate name) h).warned [ inl none ↦ none | inr (inl none) ↦ none | inr (inr none) ↦ none ]
 
+  not_dead : (name : Placed) → IsProcessWarningOfAny called reached exiting 0 (definitions_in_list (inner_of whole)) (DeadStart name) → ⊥
+  not_dead name h = elim (found (DeadStart name) h).warned [ inl none ↦ none | inr (inl none) ↦ none | inr (inr none) ↦ none ]
+
   not_side : (gate : Placed) (side : Side) → IsProcessWarningOfAny called reached exiting 0 (definitions_in_list (inner_of whole)) (UnofferedGate gate side) → ⊥
   not_side gate side h = elim (found (UnofferedGate gate side) h).warned [ inl none ↦ none | inr (inl none) ↦ none | inr (inr none) ↦ none ]
 
-  -- the warnings about the gates of all definitions, those about the processes, and that about the specification are all
-  pub all_warnings : (w : Warning) → (IsGateWarningOfAny (definitions_in whole) w
-      ⊎ (IsProcessWarningOfAny called reached exiting 0 (definitions_in_list (inner_of whole)) w ⊎ IsEndlessWhole exits whole w)) ↔ IsWarning whole w
-  all_warnings (UncalledProcess name) = (
+  -- the warnings about the gates of all definitions, those about the processes, and those about the specification are all
+  pub all_warnings : (system : System) → ((name : Placed) → IsDeadIn system whole (DeadStart name) ↔ IsDeadStart whole name) → (w : Warning) →
+      (IsGateWarningOfAny (definitions_in whole) w
+      ⊎ (IsProcessWarningOfAny called reached exiting 0 (definitions_in_list (inner_of whole)) w ⊎ (IsEndlessWhole exits whole w ⊎ IsDeadIn system whole w)))
+      ↔ IsWarning whole w
+  all_warnings system dead (UncalledProcess name) = (
     (λ h. elim h [
       | inl (d, i, g) ↦ elim g [ inl none ↦ absurd none | inr none ↦ absurd none ]
       | inr (inl u) ↦ (uncalled name).0 u
-      | inr (inr none) ↦ absurd none
+      | inr (inr (inl none)) ↦ absurd none
+      | inr (inr (inr none)) ↦ absurd none
     ]),
     (λ h. inr (inl ((uncalled name).1 h))),
   )
-  all_warnings (UnreachedProcess name) = (
+  all_warnings system dead (UnreachedProcess name) = (
     (λ h. elim h [
       | inl (d, i, g) ↦ elim g [ inl none ↦ absurd none | inr none ↦ absurd none ]
       | inr (inl u) ↦ (unreached name).0 u
-      | inr (inr none) ↦ absurd none
+      | inr (inr (inl none)) ↦ absurd none
+      | inr (inr (inr none)) ↦ absurd none
     ]),
     (λ h. inr (inl ((unreached name).1 h))),
   )
-  all_warnings (NeverExits name) = (
-    (λ h. elim h [ inl (d, i, g) ↦ elim g [ inl none ↦ absurd none | inr none ↦ absurd none ] | inr u ↦ (endless name).0 u ]),
-    (λ h. inr ((endless name).1 h)),
+  all_warnings system dead (NeverExits name) = (
+    (λ h. elim h [
+      | inl (d, i, g) ↦ elim g [ inl none ↦ absurd none | inr none ↦ absurd none ]
+      | inr (inl u) ↦ (endless name).0 (inl u)
+      | inr (inr (inl u)) ↦ (endless name).0 (inr u)
+      | inr (inr (inr none)) ↦ absurd none
+    ]),
+    (λ h. inr (elim ((endless name).1 h) [ inl u ↦ inl u | inr u ↦ inr (inl u) ])),
   )
-  all_warnings (UnusedGate gate name) = (
+  all_warnings system dead (DeadStart name) = (
+    (λ h. elim h [
+      | inl (d, i, g) ↦ elim g [ inl none ↦ absurd none | inr none ↦ absurd none ]
+      | inr (inl u) ↦ absurd (not_dead name u)
+      | inr (inr (inl none)) ↦ absurd none
+      | inr (inr (inr u)) ↦ (dead name).0 u
+    ]),
+    (λ h. inr (inr (inr ((dead name).1 h)))),
+  )
+  all_warnings system dead (UnusedGate gate name) = (
     (λ h. elim h [
       | inl g ↦ (unused whole gate name).0 g
       | inr (inl u) ↦ absurd (not_gate gate name u)
-      | inr (inr none) ↦ absurd none
+      | inr (inr (inl none)) ↦ absurd none
+      | inr (inr (inr none)) ↦ absurd none
     ]),
     (λ h. inl ((unused whole gate name).1 h)),
   )
-  all_warnings (UnofferedGate gate side) = (
+  all_warnings system dead (UnofferedGate gate side) = (
     (λ h. elim h [
       | inl g ↦ (unoffered whole gate side).0 g
       | inr (inl u) ↦ absurd (not_side gate side u)
-      | inr (inr none) ↦ absurd none
+      | inr (inr (inl none)) ↦ absurd none
+      | inr (inr (inr none)) ↦ absurd none
     ]),
     (λ h. inl ((unoffered whole gate side).1 h)),
   )

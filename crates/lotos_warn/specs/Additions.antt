@@ -1,5 +1,6 @@
 -- What each step adds to a set of names or of numbers, or to a list of warnings.
 use Rattle.std.specs.Prelude.{◌≡◌, ◌↔◌, ◌⊎◌, ◌<◌, ◌++◌, ℕ, suc, Bool, true, false, List, [], ◌∷◌, Some, map, slice_get}
+use Rattle.lotos_text.specs.AstView as t
 use Rattle.lotos_text.specs.AstView.{SyncView, gates, all, DefinitionView, name_of, formals_of, declared_of, body_of}
 use Rattle.lotos_text.specs.declared.ast.Placed.{Placed}
 use Rattle.lotos_text.specs.declared.ast.Action.{Action}
@@ -10,10 +11,11 @@ use Rattle.lotos_check.specs.Bodies.{ContainsCall, IsBodyOf}
 use Rattle.lotos_warn.specs.declared.warning.Side.{Side}
 use Rattle.lotos_warn.specs.declared.warning.Side.TheVariants.{Left, Right}
 use Rattle.lotos_warn.specs.declared.warning.Warning.{Warning}
-use Rattle.lotos_warn.specs.declared.warning.Warning.TheVariants.{UncalledProcess, UnreachedProcess, NeverExits, UnusedGate, UnofferedGate}
+use Rattle.lotos_warn.specs.declared.warning.Warning.TheVariants.{UncalledProcess, UnreachedProcess, NeverExits, DeadStart, UnusedGate, UnofferedGate}
 use Rattle.lotos_text.specs.declared.ast.Functionality.TheVariants.{Exit}
 use Rattle.lotos_warn.specs.ShownNames.{shown_name}
 use Rattle.lotos_warn.specs.Termination.{IsExiting, exits_by}
+use Rattle.lotos_warn.specs.LabelSets.{IsDead}
 use Rattle.lotos_warn.specs.Warnings.{UsesFree, IsFirstOfName, IsListWarning}
 
 -- the second list has exactly the items of the first and those with the property
@@ -23,6 +25,14 @@ Adds {X} old new added = (x : X) → In x new ↔ (In x old ⊎ added x)
 -- the second keys have exactly the names of the first and those with the property
 abbrev pub AddsNames : {K : Type 0} → (K → Name) → List K → List K → (Name → Type 0) → Type 0
 AddsNames now old new added = Adds (map now old) (map now new) added
+
+-- the second keys have the names of the first but this one
+abbrev pub LacksName : {K : Type 0} → (K → Name) → List K → List K → Name → Type 0
+LacksName now old new name = (n : Name) → In n (map now new) ↔ (In n (map now old) × (name ≡ n → ⊥))
+
+-- the second names are the first without those of the listed ones that the others lack
+abbrev pub KeepsShared : List Name → List Name → List Name → (Name → Type 0) → Type 0
+KeepsShared old new others listed = (n : Name) → In n new ↔ (In n old × (listed n → In n others))
 
 -- the action is by a gate of this name
 abbrev pub IsActionNamed : Action → Name → Type 0
@@ -43,6 +53,7 @@ abbrev pub IsMissingOn : List Name → Side → Placed → Warning → Type 0
 IsMissingOn names side gate (UncalledProcess process) = ⊥
 IsMissingOn names side gate (UnreachedProcess process) = ⊥
 IsMissingOn names side gate (NeverExits exiting) = ⊥
+IsMissingOn names side gate (DeadStart dead) = ⊥
 IsMissingOn names side gate (UnusedGate other definition) = ⊥
 IsMissingOn names side gate (UnofferedGate other place) = (gate ≡ other) × (side ≡ place) × (In other.name names → ⊥)
 
@@ -62,6 +73,7 @@ abbrev pub IsMissingGate : List Name → List Name → List Name → List Placed
 IsMissingGate by_left by_right seen list (UncalledProcess process) = ⊥
 IsMissingGate by_left by_right seen list (UnreachedProcess process) = ⊥
 IsMissingGate by_left by_right seen list (NeverExits exiting) = ⊥
+IsMissingGate by_left by_right seen list (DeadStart dead) = ⊥
 IsMissingGate by_left by_right seen list (UnusedGate gate definition) = ⊥
 IsMissingGate by_left by_right seen list (UnofferedGate gate side) =
     (In gate.name seen → ⊥) × IsFirstOfName gate list × (In gate.name (names_of side by_left by_right) → ⊥)
@@ -107,6 +119,7 @@ abbrev pub IsUnusedAmong : List Name → Name → List Placed → Warning → Ty
 IsUnusedAmong used name formals (UncalledProcess process) = ⊥
 IsUnusedAmong used name formals (UnreachedProcess process) = ⊥
 IsUnusedAmong used name formals (NeverExits exiting) = ⊥
+IsUnusedAmong used name formals (DeadStart dead) = ⊥
 IsUnusedAmong used name formals (UnusedGate gate definition) =
     In gate formals × (definition ≡ shown_name name) × (In gate.name used → ⊥)
 IsUnusedAmong used name formals (UnofferedGate gate side) = ⊥
@@ -116,6 +129,7 @@ abbrev pub IsUnusedIn : DefinitionView → Warning → Type 0
 IsUnusedIn d (UncalledProcess process) = ⊥
 IsUnusedIn d (UnreachedProcess process) = ⊥
 IsUnusedIn d (NeverExits exiting) = ⊥
+IsUnusedIn d (DeadStart dead) = ⊥
 IsUnusedIn d (UnusedGate gate definition) =
     In gate (formals_of d) × (definition ≡ shown_name (name_of d).name) × (UsesFree (body_of d) gate.name → ⊥)
 IsUnusedIn d (UnofferedGate gate side) = ⊥
@@ -133,6 +147,7 @@ abbrev pub IsUncalledAt : List ℕ → ℕ → DefinitionView → Warning → Ty
 IsUncalledAt called number d (UncalledProcess process) = (process ≡ name_of d) × (In number called → ⊥)
 IsUncalledAt called number d (UnreachedProcess process) = ⊥
 IsUncalledAt called number d (NeverExits exiting) = ⊥
+IsUncalledAt called number d (DeadStart dead) = ⊥
 IsUncalledAt called number d (UnusedGate gate definition) = ⊥
 IsUncalledAt called number d (UnofferedGate gate side) = ⊥
 
@@ -142,6 +157,7 @@ IsUnreachedAt called reached number d (UncalledProcess process) = ⊥
 IsUnreachedAt called reached number d (UnreachedProcess process) =
     (process ≡ name_of d) × In number called × (In number reached → ⊥)
 IsUnreachedAt called reached number d (NeverExits exiting) = ⊥
+IsUnreachedAt called reached number d (DeadStart dead) = ⊥
 IsUnreachedAt called reached number d (UnusedGate gate definition) = ⊥
 IsUnreachedAt called reached number d (UnofferedGate gate side) = ⊥
 
@@ -151,6 +167,7 @@ IsEndlessAt exiting number d (UncalledProcess process) = ⊥
 IsEndlessAt exiting number d (UnreachedProcess process) = ⊥
 IsEndlessAt exiting number d (NeverExits name) =
     (name ≡ name_of d) × (declared_of d ≡ Exit) × (In number exiting → ⊥)
+IsEndlessAt exiting number d (DeadStart dead) = ⊥
 IsEndlessAt exiting number d (UnusedGate gate definition) = ⊥
 IsEndlessAt exiting number d (UnofferedGate gate side) = ⊥
 
@@ -159,8 +176,18 @@ abbrev pub IsEndlessWhole : Bool → DefinitionView → Warning → Type 0
 IsEndlessWhole exits d (UncalledProcess process) = ⊥
 IsEndlessWhole exits d (UnreachedProcess process) = ⊥
 IsEndlessWhole exits d (NeverExits name) = (name ≡ name_of d) × (declared_of d ≡ Exit) × (exits ≡ false)
+IsEndlessWhole exits d (DeadStart dead) = ⊥
 IsEndlessWhole exits d (UnusedGate gate definition) = ⊥
 IsEndlessWhole exits d (UnofferedGate gate side) = ⊥
+
+-- the warning says that the specification can do nothing; this is its system, and its behaviour is not `stop`
+abbrev pub IsDeadIn : System → DefinitionView → Warning → Type 0
+IsDeadIn system d (UncalledProcess process) = ⊥
+IsDeadIn system d (UnreachedProcess process) = ⊥
+IsDeadIn system d (NeverExits exiting) = ⊥
+IsDeadIn system d (DeadStart name) = (name ≡ name_of d) × (body_of d ≡ t.stop → ⊥) × IsDead system
+IsDeadIn system d (UnusedGate gate definition) = ⊥
+IsDeadIn system d (UnofferedGate gate side) = ⊥
 
 -- the process with this number and definition has this warning
 abbrev pub IsProcessWarning : List ℕ → List ℕ → List ℕ → ℕ → DefinitionView → Warning → Type 0

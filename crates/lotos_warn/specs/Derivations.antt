@@ -1,7 +1,7 @@
 -- Derivations of terms without successful termination.
 use Rattle.std.specs.Prelude.{List}
 use Rattle.lotos_text.specs.AstView.{BehaviourView, DefinitionView}
-use Rattle.lotos_check.specs.NameLists.{Name}
+use Rattle.lotos_check.specs.NameLists.{Name, IsAscendingNames}
 use Rattle.lotos_check.specs.Scope.{Scope}
 use Rattle.lotos_check.specs.Flat.{Flat, System, Pairwise, Resolves}
 use Rattle.lotos_check.specs.Acceptance.{IsAccepted}
@@ -33,3 +33,18 @@ pub record IsTermOf (whole : DefinitionView) (scope : Scope) (behaviour : Behavi
   pub flat : Flat
   pub resolved : Resolves scope behaviour flat
   pub same : IsNumberedTerm names flat term
+
+-- the term is the behaviour of the accepted specification, and the processes are its processes, with calls and gates by
+-- number; no name has two numbers
+pub record IsStartOf (whole : DefinitionView) (processes : List Process) (term : Term) : Type 0 where
+  pub system : System
+  pub accepted : IsAccepted whole system
+  -- the names of the gates, by number
+  pub names : List Name
+  pub ascends : IsAscendingNames names
+  pub numbered : Pairwise (IsNumberedProcess names) system.processes processes
+  pub same : IsNumberedTerm names system.start term
+
+-- the term has no step
+abbrev pub HasNoStep : List Process → Term → Type 0
+HasNoStep system t = (k : Label) (u : Term) → Step system t k u → ⊥

@@ -9,27 +9,29 @@ use Rattle.lotos_check.specs.NameLists.{Name}
 use Rattle.lotos_warn.specs.declared.warning.Side.{Side}
 use Rattle.lotos_warn.specs.declared.warning.Side.TheVariants.{Left, Right}
 use Rattle.lotos_warn.specs.declared.warning.Warning.{Warning}
-use Rattle.lotos_warn.specs.declared.warning.Warning.TheVariants.{UncalledProcess, UnreachedProcess, NeverExits, UnusedGate, UnofferedGate}
+use Rattle.lotos_warn.specs.declared.warning.Warning.TheVariants.{UncalledProcess, UnreachedProcess, NeverExits, DeadStart, UnusedGate, UnofferedGate}
 
 -- the offset of its process, its specification or its gate
 abbrev pub offset_of : Warning → ℕ
 offset_of (UncalledProcess process) = process.at
 offset_of (UnreachedProcess process) = process.at
 offset_of (NeverExits name) = name.at
+offset_of (DeadStart name) = name.at
 offset_of (UnusedGate gate definition) = gate.at
 offset_of (UnofferedGate gate side) = gate.at
 
 -- the left side is before the right one
 abbrev pub side_rank : Side → ℕ
-side_rank Left = 4
-side_rank Right = 5
+side_rank Left = 5
+side_rank Right = 6
 
 -- a number for each kind, and for each side
 abbrev pub rank_of : Warning → ℕ
 rank_of (UncalledProcess process) = 0
 rank_of (UnreachedProcess process) = 1
 rank_of (NeverExits name) = 2
-rank_of (UnusedGate gate definition) = 3
+rank_of (DeadStart name) = 3
+rank_of (UnusedGate gate definition) = 4
 rank_of (UnofferedGate gate side) = side_rank side
 
 -- the name of its process, its specification or its gate
@@ -37,6 +39,7 @@ abbrev pub subject_of : Warning → Name
 subject_of (UncalledProcess process) = process.name
 subject_of (UnreachedProcess process) = process.name
 subject_of (NeverExits name) = name.name
+subject_of (DeadStart name) = name.name
 subject_of (UnusedGate gate definition) = gate.name
 subject_of (UnofferedGate gate side) = gate.name
 
@@ -45,6 +48,7 @@ abbrev pub context_of : Warning → Name
 context_of (UncalledProcess process) = process.name
 context_of (UnreachedProcess process) = process.name
 context_of (NeverExits name) = name.name
+context_of (DeadStart name) = name.name
 context_of (UnusedGate gate definition) = definition
 context_of (UnofferedGate gate side) = gate.name
 

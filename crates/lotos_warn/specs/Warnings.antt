@@ -10,10 +10,11 @@ use Rattle.lotos_check.specs.Subexpressions.{IsSubexpression, UsesGate}
 use Rattle.lotos_check.specs.StaticFaults.{Occurs}
 use Rattle.lotos_warn.specs.ShownNames.{shown_name}
 use Rattle.lotos_warn.specs.Termination.{MayTerminate}
+use Rattle.lotos_warn.specs.FirstLabels.{IsDeadStart}
 use Rattle.lotos_warn.specs.declared.warning.Side.{Side}
 use Rattle.lotos_warn.specs.declared.warning.Side.TheVariants.{Left, Right}
 use Rattle.lotos_warn.specs.declared.warning.Warning.{Warning}
-use Rattle.lotos_warn.specs.declared.warning.Warning.TheVariants.{UncalledProcess, UnreachedProcess, NeverExits, UnusedGate, UnofferedGate}
+use Rattle.lotos_warn.specs.declared.warning.Warning.TheVariants.{UncalledProcess, UnreachedProcess, NeverExits, DeadStart, UnusedGate, UnofferedGate}
 
 -- the behaviour itself, and not only a part of it, offers the gate: in a prefix, or to the process that it calls
 pub data OffersGate : BehaviourView → Placed → Type 0 where
@@ -132,6 +133,7 @@ abbrev pub IsWarning : DefinitionView → Warning → Type 0
 IsWarning whole (UncalledProcess process) = IsUncalledProcess whole process
 IsWarning whole (UnreachedProcess process) = IsUnreachedProcess whole process
 IsWarning whole (NeverExits name) = IsNeverExit whole name
+IsWarning whole (DeadStart name) = IsDeadStart whole name
 IsWarning whole (UnusedGate gate definition) = IsUnusedGate whole gate definition
 IsWarning whole (UnofferedGate gate side) = IsUnofferedGate whole gate side
 
@@ -151,5 +153,6 @@ abbrev pub IsListWarning : BehaviourView → Warning → Type 0
 IsListWarning behaviour (UncalledProcess process) = ⊥
 IsListWarning behaviour (UnreachedProcess process) = ⊥
 IsListWarning behaviour (NeverExits name) = ⊥
+IsListWarning behaviour (DeadStart name) = ⊥
 IsListWarning behaviour (UnusedGate gate definition) = ⊥
 IsListWarning behaviour (UnofferedGate gate side) = IsUnofferedIn behaviour gate side

@@ -1,8 +1,9 @@
 //! Sets of gate names.
-ghost use Rattle.std.specs.Prelude.{◌≡◌, ◌⊎◌, IfOk, MatchBool, OnOk, map};
+ghost use Rattle.std.specs.Prelude.{◌≡◌, ◌≤◌, ◌↔◌, ◌⊎◌, [], IfOk, MatchBool, OnOk, Some, map};
 ghost use Rattle.lotos_text.specs.AstOf.{sync_view};
-ghost use Rattle.lotos_check.specs.NameLists.{In, texts};
-ghost use Rattle.lotos_warn.specs.Additions.{AddsNames, IsActionNamed, IsListed, IsVisible};
+ghost use Rattle.lotos_check.specs.NameLists.{In, Name as AnyName, texts};
+ghost use Rattle.lotos_warn.specs.Additions.{AddsNames, IsActionNamed, IsListed, IsVisible, KeepsShared, LacksName};
+ghost use Rattle.lotos_warn.specs.LabelSets.{IsJoint, IsRenamed};
 
 use indexmap::IndexSet;
 use lotos_text::{Action, Name, Placed, SyncSet};
@@ -88,7 +89,10 @@ pub(crate) fn insert_both<'a>(
 
 /// Adds all names of a set. The names of the smaller set go into the larger one, so that a name that goes through many
 /// sets is moved at most as often as their sizes double.
-fn merge<'a>(into: &mut IndexSet<&'a str>, from: IndexSet<&'a str>) -> Result<(), AllocError>
+pub(crate) fn merge<'a>(
+    into: &mut IndexSet<&'a str>,
+    from: IndexSet<&'a str>,
+) -> Result<(), AllocError>
     ensures { OnOk result (AddsNames (λ k. k.now) into.old.keys into.new.keys
         (λ n. In n (map (λ k. k.now) from.entry.keys))) }
 {
@@ -159,6 +163,139 @@ fn insert_other<'a>(
 {
     if !hidden.contains(name) {
         insert_text(into, name)?;
+    }
+    Ok(())
+}
+
+/// The names that both sets have.
+pub(crate) fn common_names<'a>(
+    alloc: Global,
+    first: &IndexSet<&'a str>,
+    second: &IndexSet<&'a str>,
+) -> Result<IndexSet<&'a str>, AllocError>
+    ensures { IfOk result (λ common. (n : AnyName) → In n (map (λ k. k.now) common.keys)
+        ↔ (In n (map (λ k. k.now) first.now.keys) × In n (map (λ k. k.now) second.now.keys))) }
+{
+    let mut others = IndexSet::new(alloc);
+    insert_others(&mut others, first.as_slice(), second)?;
+    let mut common = IndexSet::new(alloc);
+    insert_others(&mut common, first.as_slice(), &others)?;
+    Ok(common)
+}
+
+/// Removes a name. Returns whether it was there.
+pub(crate) fn remove_name(from: &mut IndexSet<&str>, name: &Name) -> bool
+    ensures removes { LacksName (λ k. k.now) from.old.keys from.new.keys name.now }
+    ensures there { MatchBool result (In name.now (map (λ k. k.now) from.old.keys))
+        (In name.now (map (λ k. k.now) from.old.keys) → ⊥) }
+{
+    from.swap_remove(name.text())
+}
+
+/// The names of both sets, but for those of the list that are not in both.
+pub(crate) fn joint_names<'a>(
+    first: IndexSet<&'a str>,
+    list: &[Name],
+    second: IndexSet<&'a str>,
+) -> Result<IndexSet<&'a str>, AllocError>
+    ensures { IfOk result (λ joint. (n : AnyName) → In n (map (λ k. k.now) joint.keys)
+        ↔ IsJoint (Some list.now) (map (λ k. k.now) first.entry.keys)
+        (map (λ k. k.now) second.entry.keys) n) }
+{
+    let mut joint = first;
+    let mut others = second;
+    remove_unshared(&mut joint, &mut others, list);
+    merge(&mut joint, others)?;
+    Ok(joint)
+}
+
+/// Removes from two sets the names of the list that are not in both.
+fn remove_unshared(first: &mut IndexSet<&str>, second: &mut IndexSet<&str>, list: &[Name])
+    ensures first { KeepsShared (map (λ k. k.now) first.old.keys) (map (λ k. k.now) first.new.keys)
+        (map (λ k. k.now) second.old.keys) (λ n. In n list.now) }
+    ensures second { KeepsShared (map (λ k. k.now) second.old.keys) (map (λ k. k.now) second.new.keys)
+        (map (λ k. k.now) first.old.keys) (λ n. In n list.now) }
+{
+    for name in list {
+        remove_if_unshared(first, second, name);
+    }
+}
+
+/// Removes the name from two sets if it is not in both.
+fn remove_if_unshared(first: &mut IndexSet<&str>, second: &mut IndexSet<&str>, name: &Name)
+    ensures first { KeepsShared (map (λ k. k.now) first.old.keys) (map (λ k. k.now) first.new.keys)
+        (map (λ k. k.now) second.old.keys) (λ n. name.now ≡ n) }
+    ensures second { KeepsShared (map (λ k. k.now) second.old.keys) (map (λ k. k.now) second.new.keys)
+        (map (λ k. k.now) first.old.keys) (λ n. name.now ≡ n) }
+{
+    if !is_in_both(first, second, name) {
+        remove_name(first, name);
+        remove_name(second, name);
+    }
+}
+
+/// Whether the name is in both sets.
+fn is_in_both(first: &IndexSet<&str>, second: &IndexSet<&str>, name: &Name) -> bool
+    ensures { MatchBool result
+        (In name.now (map (λ k. k.now) first.now.keys) × In name.now (map (λ k. k.now) second.now.keys))
+        ((In name.now (map (λ k. k.now) first.now.keys) → ⊥)
+        ⊎ (In name.now (map (λ k. k.now) second.now.keys) → ⊥)) }
+{
+    first.contains(name.text()) && second.contains(name.text())
+}
+
+/// The names with each that is a formal gate replaced by the actual one beside it: by that of the first formal gate of the
+/// name.
+pub(crate) fn renamed_names<'a>(
+    alloc: Global,
+    formals: &'a [Name],
+    actuals: &'a [Name],
+    names: &IndexSet<&'a str>,
+) -> Result<IndexSet<&'a str>, AllocError>
+    ensures { IfOk result (λ renamed. (n : AnyName) → In n (map (λ k. k.now) renamed.keys)
+        ↔ IsRenamed formals.now actuals.now [] (map (λ k. k.now) names.now.keys) n) }
+{
+    let mut seen = IndexSet::new(alloc);
+    let mut renamed = IndexSet::new(alloc);
+    for index in 0..smaller(formals.len(), actuals.len()) {
+        rename(
+            &mut renamed,
+            &formals[index],
+            &actuals[index],
+            names,
+            &mut seen,
+        )?;
+    }
+    insert_others(&mut renamed, names.as_slice(), &seen)?;
+    Ok(renamed)
+}
+
+/// The smaller of two lengths.
+fn smaller(first: usize, second: usize) -> usize
+    ensures first { result ≤ first }
+    ensures second { result ≤ second }
+    ensures one { (result ≡ first) ⊎ (result ≡ second) }
+{
+    if first < second { first } else { second }
+}
+
+/// Adds the actual gate if the formal one is among the names and was not seen. Adds the formal gate to those seen.
+fn rename<'a>(
+    into: &mut IndexSet<&'a str>,
+    formal: &'a Name,
+    actual: &'a Name,
+    names: &IndexSet<&'a str>,
+    seen: &mut IndexSet<&'a str>,
+) -> Result<(), AllocError>
+    ensures sees { OnOk result (AddsNames (λ k. k.now) seen.old.keys seen.new.keys (λ n. formal.now ≡ n)) }
+    ensures adds { OnOk result (AddsNames (λ k. k.now) into.old.keys into.new.keys
+        (λ n. (In formal.now (map (λ k. k.now) seen.old.keys) → ⊥)
+        × In formal.now (map (λ k. k.now) names.now.keys) × (actual.now ≡ n))) }
+{
+    if insert_new(seen, formal)? {
+        if names.contains(formal.text()) {
+            insert_name(into, actual)?;
+        }
     }
     Ok(())
 }

@@ -2,15 +2,19 @@
 //!
 //! [`warnings`] takes the AST of an accepted specification and the checked one, and returns what the static rules allow
 //! and is still likely to be a mistake: a process that no call names, or that is not reached from the behaviour, a
-//! definition that is declared `exit` and never terminates, a formal gate that is not used, and a gate of a
-//! parallel composition that one side never offers. The definitions that the contracts cite are in `specs/`.
+//! definition that is declared `exit` and never terminates, a behaviour of the specification that can do nothing, a
+//! formal gate that is not used, and a gate of a parallel composition that one side never offers. The definitions that
+//! the contracts cite are in `specs/`.
 #![tactic(auto)]
 
+mod dead_start;
 mod definition_warnings;
+mod first_labels;
 mod gate_names;
 pub mod laws;
 mod offered_gates;
 mod process_calls;
+mod process_labels;
 mod shown_name;
 mod specification_warnings;
 mod termination;

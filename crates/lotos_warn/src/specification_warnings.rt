@@ -9,11 +9,12 @@ ghost use Rattle.lotos_warn.specs.Warnings.{IsWarning};
 ghost use Rattle.lotos_warn.specs.WarningOrder.{warning_cmp};
 ghost use Rattle.lotos_warn.specs.declared.warning.Warning.{Warning as AnyWarning};
 
+use crate::dead_start::warn_if_dead;
 use crate::definition_warnings::{warn_if_endless_whole, warn_of_gates, warn_of_processes};
 use crate::process_calls::{called_processes, reached_processes};
 use crate::termination::{exiting_processes, may_exit};
 use crate::warning::Warning;
-use lotos_check::laws::{binding_is_unique, calls_fit};
+use lotos_check::laws::{binding_is_unique, calls_fit, flat_system_is_unique};
 use lotos_check::{Checked, add_definitions};
 use lotos_text::{Definition, Specification};
 use std::alloc::{AllocError, Global};
@@ -51,6 +52,7 @@ fn unsorted_warnings(
 {
     binding_is_unique();
     calls_fit();
+    flat_system_is_unique();
     let mut definitions = Vec::new(alloc);
     add_definitions(whole, &mut definitions)?;
     let called = called_processes(alloc, system)?;
@@ -68,5 +70,6 @@ fn unsorted_warnings(
     )?;
     let exits = may_exit(system.start(), &exiting);
     warn_if_endless_whole(alloc, whole, exits, &mut warnings)?;
+    warn_if_dead(alloc, whole, system, &mut warnings)?;
     Ok(warnings)
 }

@@ -23,8 +23,8 @@ impl Side {
         ensures { result ≡ side_rank self }
     {
         match self {
-            Side::Left => 4,
-            Side::Right => 5,
+            Side::Left => 5,
+            Side::Right => 6,
         }
     }
 }
@@ -41,6 +41,8 @@ pub enum Warning {
     UnreachedProcess(Placed),
     /// The specification or a process that is declared `exit`, and whose behaviour can never terminate.
     NeverExits(Placed),
+    /// The specification, whose behaviour is not `stop`, and can still do nothing: it is in a deadlock from the start.
+    DeadStart(Placed),
     /// A formal gate that the behaviour of its definition does not use.
     UnusedGate { gate: Placed, definition: ShownName },
     /// A gate in the list of a parallel composition, the first of its name there, that one side never offers.
@@ -56,6 +58,7 @@ impl Warning {
             Warning::UncalledProcess(process) => process.at,
             Warning::UnreachedProcess(process) => process.at,
             Warning::NeverExits(name) => name.at,
+            Warning::DeadStart(name) => name.at,
             Warning::UnusedGate { gate, .. } => gate.at,
             Warning::UnofferedGate { gate, .. } => gate.at,
         }
@@ -68,7 +71,8 @@ impl Warning {
             Warning::UncalledProcess(_) => 0,
             Warning::UnreachedProcess(_) => 1,
             Warning::NeverExits(_) => 2,
-            Warning::UnusedGate { .. } => 3,
+            Warning::DeadStart(_) => 3,
+            Warning::UnusedGate { .. } => 4,
             Warning::UnofferedGate { side, .. } => side.rank(),
         }
     }
@@ -81,6 +85,7 @@ impl Warning {
             Warning::UncalledProcess(process) => &process.name,
             Warning::UnreachedProcess(process) => &process.name,
             Warning::NeverExits(name) => &name.name,
+            Warning::DeadStart(name) => &name.name,
             Warning::UnusedGate { gate, .. } => &gate.name,
             Warning::UnofferedGate { gate, .. } => &gate.name,
         }
@@ -94,6 +99,7 @@ impl Warning {
             Warning::UncalledProcess(process) => process.name.text(),
             Warning::UnreachedProcess(process) => process.name.text(),
             Warning::NeverExits(name) => name.name.text(),
+            Warning::DeadStart(name) => name.name.text(),
             Warning::UnusedGate { definition, .. } => definition.text(),
             Warning::UnofferedGate { gate, .. } => gate.name.text(),
         }
@@ -157,6 +163,11 @@ impl fmt::Display for Warning {
             Warning::NeverExits(name) => write!(
                 f,
                 "{} is declared exit, but can never terminate",
+                Shown(&name.name)
+            ),
+            Warning::DeadStart(name) => write!(
+                f,
+                "the behaviour of {} can do nothing: no action, no internal step, no termination",
                 Shown(&name.name)
             ),
             Warning::UnusedGate { gate, definition } => write!(

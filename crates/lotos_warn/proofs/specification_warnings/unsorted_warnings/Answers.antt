@@ -6,8 +6,9 @@ use Rattle.lotos_check.specs.Scope.{ScopedDefinition, processes_of, definitions_
 use Rattle.lotos_warn.specs.Termination.{IsExiting, MayTerminate}
 use Rattle.lotos_text.specs.AstView.{body_of, inner_of}
 use Rattle.lotos_warn.specs.Warnings.{IsCalled, IsReached, IsWarning}
-use Rattle.lotos_warn.specs.Additions.{Adds, IsEndlessWhole, IsGateWarningOfAny, IsProcessWarningOfAny}
+use Rattle.lotos_warn.specs.Additions.{Adds, IsDeadIn, IsEndlessWhole, IsGateWarningOfAny, IsProcessWarningOfAny}
 use Rattle.lotos_warn.proofs.Additions.{adds_as, adds_both, adds_alone}
+use Rattle.lotos_warn.proofs.DeadStarts.{dead_by_name}
 use Rattle.lotos_warn.proofs.CalledNames.{called_by_name, reached_by_name}
 use Rattle.lotos_warn.proofs.ExitingNumbers.{both_ways, whole_exits}
 use Rattle.lotos_warn.proofs.TerminatingNames.{process_by_name, whole_by_name}
@@ -47,12 +48,17 @@ returns c =
     let old = c.new-warnings.result.items in
     let mid = c.warn_of_gates.new.warnings.items in
     let more = c.warn_of_processes.new.warnings.items in
-    let new = c.warn_if_endless_whole.new.warnings.items in
+    let last = c.warn_if_endless_whole.new.warnings.items in
+    let new = c.warn_if_dead.new.warnings.items in
     let gates = subst (λ ds. Adds old mid (IsGateWarningOfAny ds)) slice c.in_ok-warn_of_gates.ensures in
     let processes = IsProcessWarningOfAny called reached exiting 0 (definitions_in_list (inner_of whole)) in
     let calls = subst (λ ds. Adds mid more (IsProcessWarningOfAny called reached exiting 0 ds)) others c.in_ok-warn_of_processes.ensures in
+    let endless = IsEndlessWhole c.may_exit-exits.result whole in
+    let dead = IsDeadIn system whole in
     adds_alone old new (IsWarning whole) c.new-warnings.ensures.items
-    (adds_as old new (λ w. IsGateWarningOfAny (definitions_in whole) w ⊎ (processes w ⊎ IsEndlessWhole c.may_exit-exits.result whole w)) (IsWarning whole)
-    (all_warnings whole called reached exiting by_name by_reach by_exit c.may_exit-exits.result by_start)
-    (adds_both old mid new (IsGateWarningOfAny (definitions_in whole)) (λ w. processes w ⊎ IsEndlessWhole c.may_exit-exits.result whole w) gates
-    (adds_both mid more new processes (IsEndlessWhole c.may_exit-exits.result whole) calls c.in_ok-warn_if_endless_whole.ensures)))
+    (adds_as old new (λ w. IsGateWarningOfAny (definitions_in whole) w ⊎ (processes w ⊎ (endless w ⊎ dead w))) (IsWarning whole)
+    (all_warnings whole called reached exiting by_name by_reach by_exit c.may_exit-exits.result by_start system
+    (dead_by_name c.flat_system_is_unique.ensures whole system c.requires.accepted))
+    (adds_both old mid new (IsGateWarningOfAny (definitions_in whole)) (λ w. processes w ⊎ (endless w ⊎ dead w)) gates
+    (adds_both mid more new processes (λ w. endless w ⊎ dead w) calls
+    (adds_both more last new endless dead c.in_ok-warn_if_endless_whole.ensures c.in_ok-warn_if_dead.ensures))))
