@@ -7,6 +7,7 @@ use Rattle.lotos_command.specs.CommandFaults.{MakeNoRequest}
 use Rattle.lotos_command.specs.CommandRules.{lotosseq}
 use Rattle.lotos_command.specs.Request.{RequestOf, after, check, cover, diagnose, ever, hide, only, search, whole}
 use Rattle.lotos_command.specs.declared.command.Extent.TheVariants.{Depth, Length}
+use Rattle.lotos_command.specs.declared.command.Runs.TheVariants.{Labels, Omitted, Origins}
 
 pub simple_and_free : is_simple_and_free lotosseq ≡ true
 simple_and_free = refl
@@ -26,7 +27,7 @@ row_asks : RequestOf row (search (record {
   limit = None;
   terms = 100000;
   after = None;
-  explain = false;
+  runs = Omitted;
   interface = whole;
   strong = false;
   known = false;
@@ -44,7 +45,7 @@ hyphen_asks : RequestOf hyphen_row (search (record {
   limit = None;
   terms = 100000;
   after = None;
-  explain = false;
+  runs = Omitted;
   interface = whole;
   strong = false;
   known = false;
@@ -64,7 +65,7 @@ full_asks : RequestOf full_row (search (record {
   limit = Some 4;
   terms = 7;
   after = Some (codes "A : i A");
-  explain = true;
+  runs = Labels;
   interface = whole;
   strong = true;
   known = true;
@@ -82,7 +83,7 @@ length_asks : RequestOf length_row (search (record {
   limit = None;
   terms = 100000;
   after = None;
-  explain = false;
+  runs = Omitted;
   interface = whole;
   strong = false;
   known = false;
@@ -109,7 +110,7 @@ seen_asks : RequestOf seen_row (search (record {
   limit = None;
   terms = 100000;
   after = None;
-  explain = false;
+  runs = Omitted;
   interface = hide (codes "a,B");
   strong = false;
   known = false;
@@ -172,7 +173,7 @@ unfolding clap_on_literals
 too_many_terms = refl
 
 bare_ever_asks : RequestOf (codes "lotosseq" ∷ codes "ever" ∷ [])
-    (ever (record { states = 1000000; explain = false; interface = whole; strong = false; progress = false; words = [] }))
+    (ever (record { states = 1000000; runs = Omitted; interface = whole; strong = false; progress = false; words = [] }))
 unfolding clap_on_literals
 bare_ever_asks = record { faultless = refl; reads = refl }
 
@@ -183,7 +184,7 @@ ever_row =
 
 ever_asks : RequestOf ever_row (ever (record {
   states = 100000000;
-  explain = true;
+  runs = Labels;
   interface = whole;
   strong = true;
   progress = true;
@@ -192,8 +193,13 @@ ever_asks : RequestOf ever_row (ever (record {
 unfolding clap_on_literals
 ever_asks = record { faultless = refl; reads = refl }
 
+hidden_ever_asks : RequestOf (codes "lotosseq" ∷ codes "ever" ∷ codes "--explain" ∷ codes "A" ∷ codes "--hidden" ∷ [])
+    (ever (record { states = 1000000; runs = Origins; interface = whole; strong = false; progress = false; words = codes "A" ∷ [] }))
+unfolding clap_on_literals
+hidden_ever_asks = record { faultless = refl; reads = refl }
+
 ever_of_gates_asks : RequestOf (codes "lotosseq" ∷ codes "ever" ∷ codes "--only=A,C" ∷ codes "A C" ∷ [])
-    (ever (record { states = 1000000; explain = false; interface = only (codes "A,C"); strong = false; progress = false; words = codes "A" ∷ codes "C" ∷ [] }))
+    (ever (record { states = 1000000; runs = Omitted; interface = only (codes "A,C"); strong = false; progress = false; words = codes "A" ∷ codes "C" ∷ [] }))
 unfolding clap_on_literals
 ever_of_gates_asks = record { faultless = refl; reads = refl }
 

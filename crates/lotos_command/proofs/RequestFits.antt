@@ -193,6 +193,9 @@ search_fits rows all = record {
   explain = if_some_more _ IsTruthText (one_of (codes "explain") rows)
       (λ t read. subst IsTruthText (sym read.is) read.accepted)
       (entry_fits search_shape.rules rows all (codes "explain") _ refl);
+  hidden = if_some_more _ IsTruthText (one_of (codes "hidden") rows)
+      (λ t read. subst IsTruthText (sym read.is) read.accepted)
+      (entry_fits search_shape.rules rows all (codes "hidden") _ refl);
   strong = if_some_more _ IsTruthText (one_of (codes "strong") rows)
       (λ t read. subst IsTruthText (sym read.is) read.accepted)
       (entry_fits search_shape.rules rows all (codes "strong") _ refl);
@@ -222,6 +225,9 @@ ever_fits rows all = record {
   explain = if_some_more _ IsTruthText (one_of (codes "explain") rows)
       (λ t read. subst IsTruthText (sym read.is) read.accepted)
       (entry_fits ever_shape.rules rows all (codes "explain") _ refl);
+  hidden = if_some_more _ IsTruthText (one_of (codes "hidden") rows)
+      (λ t read. subst IsTruthText (sym read.is) read.accepted)
+      (entry_fits ever_shape.rules rows all (codes "hidden") _ refl);
   strong = if_some_more _ IsTruthText (one_of (codes "strong") rows)
       (λ t read. subst IsTruthText (sym read.is) read.accepted)
       (entry_fits ever_shape.rules rows all (codes "strong") _ refl);

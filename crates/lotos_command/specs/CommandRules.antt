@@ -63,6 +63,10 @@ flag_rule name = record (new_rule name) {
 abbrev pub explain_rule : Rule
 explain_rule = flag_rule (codes "explain")
 
+-- `--hidden`
+abbrev pub hidden_rule : Rule
+hidden_rule = flag_rule (codes "hidden")
+
 -- `--strong`
 abbrev pub strong_rule : Rule
 strong_rule = flag_rule (codes "strong")
@@ -95,12 +99,12 @@ with_rules app (rule ∷ rules) = with_rules (with_rule app rule) rules
 -- the arguments of `search`, in the order of its help
 abbrev pub search_rules : List Rule
 search_rules =
-    depth_rule ∷ length_rule ∷ limit_rule ∷ terms_rule ∷ after_rule ∷ explain_rule ∷ hide_rule ∷ only_rule
-    ∷ strong_rule ∷ known_rule ∷ progress_rule ∷ words_rule ∷ []
+    depth_rule ∷ length_rule ∷ limit_rule ∷ terms_rule ∷ after_rule ∷ explain_rule ∷ hidden_rule ∷ hide_rule
+    ∷ only_rule ∷ strong_rule ∷ known_rule ∷ progress_rule ∷ words_rule ∷ []
 
--- `search [--depth N] [--length N] [--limit N] [--terms N] [--after LINE] [--explain] [--hide GATES] [--only GATES]
--- [--strong] [--known] [--progress] [WORD ..]`; just one of the depth and the length, and at most one of `--hide` and
--- `--only`, make a request
+-- `search [--depth N] [--length N] [--limit N] [--terms N] [--after LINE] [--explain] [--hidden] [--hide GATES]
+-- [--only GATES] [--strong] [--known] [--progress] [WORD ..]`; just one of the depth and the length, and at most one of
+-- `--hide` and `--only`, make a request
 abbrev pub search_app : App
 search_app = with_rules (new_app (codes "search")) search_rules
 
@@ -110,10 +114,11 @@ states_rule = record (number_rule (codes "states") 100000000) { defaults = codes
 
 -- the arguments of `ever`, in the order of its help
 abbrev pub ever_rules : List Rule
-ever_rules = states_rule ∷ explain_rule ∷ hide_rule ∷ only_rule ∷ strong_rule ∷ progress_rule ∷ words_rule ∷ []
+ever_rules =
+    states_rule ∷ explain_rule ∷ hidden_rule ∷ hide_rule ∷ only_rule ∷ strong_rule ∷ progress_rule ∷ words_rule ∷ []
 
--- `ever [--states N] [--explain] [--hide GATES] [--only GATES] [--strong] [--progress] [WORD ..]`; at most one of
--- `--hide` and `--only` makes a request
+-- `ever [--states N] [--explain] [--hidden] [--hide GATES] [--only GATES] [--strong] [--progress] [WORD ..]`; at most
+-- one of `--hide` and `--only` makes a request
 abbrev pub ever_app : App
 ever_app = with_rules (new_app (codes "ever")) ever_rules
 

@@ -22,6 +22,7 @@ pub record FitsSearch (rows : List Row) : Type 0 where
   pub limit : IfSome (one_of (codes "limit") rows) (IsNumberIn 1 1000000000)
   pub terms : IfSome (one_of (codes "terms") rows) (IsNumberIn 1 1000000)
   pub explain : IfSome (one_of (codes "explain") rows) IsTruthText
+  pub hidden : IfSome (one_of (codes "hidden") rows) IsTruthText
   pub strong : IfSome (one_of (codes "strong") rows) IsTruthText
   pub known : IfSome (one_of (codes "known") rows) IsTruthText
   pub progress : IfSome (one_of (codes "progress") rows) IsTruthText
@@ -30,6 +31,7 @@ pub record FitsSearch (rows : List Row) : Type 0 where
 pub record FitsEver (rows : List Row) : Type 0 where
   pub states : IfSome (one_of (codes "states") rows) (IsNumberIn 1 100000000)
   pub explain : IfSome (one_of (codes "explain") rows) IsTruthText
+  pub hidden : IfSome (one_of (codes "hidden") rows) IsTruthText
   pub strong : IfSome (one_of (codes "strong") rows) IsTruthText
   pub progress : IfSome (one_of (codes "progress") rows) IsTruthText
 

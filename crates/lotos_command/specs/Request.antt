@@ -11,6 +11,8 @@ use Rattle.lotos_command.specs.declared.command.Request.TheVariants as request
 use Rattle.lotos_command.specs.declared.command.DiagnoseRequest.{DiagnoseRequest}
 use Rattle.lotos_command.specs.declared.command.Extent.{Extent}
 use Rattle.lotos_command.specs.declared.command.Extent.TheVariants.{Depth, Length}
+use Rattle.lotos_command.specs.declared.command.Runs.{Runs}
+use Rattle.lotos_command.specs.declared.command.Runs.TheVariants.{Labels, Omitted, Origins}
 use Rattle.lotos_command.specs.declared.command.Interface.{Interface}
 use Rattle.lotos_command.specs.declared.command.Interface.TheVariants.{Hide, Only, Whole}
 use Rattle.lotos_command.specs.declared.command.SearchRequest.{SearchRequest}
@@ -30,7 +32,7 @@ pub record SearchView : Type 0 where
   pub limit : Option ℕ
   pub terms : ℕ
   pub after : Option Text
-  pub explain : Bool
+  pub runs : Runs
   pub interface : InterfaceView
   pub strong : Bool
   pub known : Bool
@@ -40,7 +42,7 @@ pub record SearchView : Type 0 where
 -- the view of a search for a match of any length: texts for strings
 pub record EverView : Type 0 where
   pub states : ℕ
-  pub explain : Bool
+  pub runs : Runs
   pub interface : InterfaceView
   pub strong : Bool
   pub progress : Bool
@@ -86,7 +88,7 @@ search_view request = record {
   limit = request.limit;
   terms = request.terms;
   after = option_map string_bytes request.after;
-  explain = request.explain;
+  runs = request.runs;
   interface = interface_view request.interface;
   strong = request.strong;
   known = request.known;
@@ -98,7 +100,7 @@ search_view request = record {
 abbrev pub ever_view : EverRequest → EverView
 ever_view request = record {
   states = request.states;
-  explain = request.explain;
+  runs = request.runs;
   interface = interface_view request.interface;
   strong = request.strong;
   progress = request.progress;
@@ -156,6 +158,15 @@ abbrev pub extent_from : List Row → Option Extent
 extent_from rows =
     extent_of (option_map number (one_of (codes "depth") rows)) (option_map number (one_of (codes "length") rows))
 
+-- what lines have after their sequences: the origins of internal steps if `--hidden` is given, otherwise the labels of
+-- runs if `--explain` is given
+abbrev pub runs_of : (explain hidden : Bool) → Runs
+runs_of explain hidden = if hidden then Origins else (if explain then Labels else Omitted)
+
+-- what the entries of a subcommand give of that
+abbrev pub runs_from : List Row → Runs
+runs_from rows = runs_of (flag (codes "explain") rows) (flag (codes "hidden") rows)
+
 -- the interface for which these names of `--hide` and of `--only` are given, if not both are
 abbrev pub interface_of : (hidden kept : Option Text) → Option InterfaceView
 interface_of None None = Some whole
@@ -174,7 +185,7 @@ search_with rows extent interface = record {
   limit = option_map number (one_of (codes "limit") rows);
   terms = option_map_or number (one_of (codes "terms") rows) 100000;
   after = first_of (codes "after") rows;
-  explain = flag (codes "explain") rows;
+  runs = runs_from rows;
   interface = interface;
   strong = flag (codes "strong") rows;
   known = flag (codes "known") rows;
@@ -191,7 +202,7 @@ search_from rows =
 abbrev pub ever_from : List Row → Option EverView
 ever_from rows = option_map (λ interface. record {
   states = option_map_or number (one_of (codes "states") rows) 1000000;
-  explain = flag (codes "explain") rows;
+  runs = runs_from rows;
   interface = interface;
   strong = flag (codes "strong") rows;
   progress = flag (codes "progress") rows;

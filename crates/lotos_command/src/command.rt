@@ -37,6 +37,17 @@ pub enum Extent {
     Length(u8),
 }
 
+/// What a line has after its sequence.
+#[derive(Clone, Copy, Debug, PartialEq, Eq)]
+pub enum Runs {
+    /// Nothing.
+    Omitted,
+    /// A run: the labels of its steps, internal ones included.
+    Labels,
+    /// The same run, with each internal step by what makes it.
+    Origins,
+}
+
 /// Which gates of a specification's own list a question is about. All others are hidden around its behaviour. Gates are
 /// given by their names, in any mix of cases, joined by commas; the names are not yet looked up.
 #[derive(Debug, Drop)]
@@ -62,9 +73,9 @@ pub struct SearchRequest {
     pub terms: usize,
     /// A line of a listing: only what comes after its sequence is listed. `None` for the whole listing.
     pub after: Option<String>,
-    /// Whether each line has the least run of its sequence after the sequence; the first of the shortest of any length, if
-    /// the listing is one by length.
-    pub explain: bool,
+    /// What each line has after its sequence. The run is the least of the sequence; the first of the shortest of any
+    /// length, if the listing is one by length.
+    pub runs: Runs,
     /// Which gates of the specification's own list the question is about.
     pub interface: Interface,
     /// Whether internal steps are observed: `i` is then a label like others.
@@ -83,8 +94,8 @@ pub struct EverRequest {
     /// The most product states that may be stored, at least 1. Each is the normal form of a term and a place in the
     /// pattern.
     pub states: usize,
-    /// Whether the line has the run of the match after its sequence.
-    pub explain: bool,
+    /// What the line has after its sequence. The run is that of the match.
+    pub runs: Runs,
     /// Which gates of the specification's own list the question is about.
     pub interface: Interface,
     /// Whether internal steps are observed: `i` is then a label like others.

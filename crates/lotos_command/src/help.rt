@@ -71,6 +71,7 @@ pub(crate) const WARN_LONG_HELP: &str = "Warns of what is allowed and may be a m
 If the specification is accepted, standard error has a line with the position of each
   process that no call names, or that is not reached from the specification's behaviour,
   process or specification that is declared `exit` and can never terminate,
+  specification whose behaviour is not `stop`, and can do nothing at all,
   gate of the specification or of a process that its behaviour does not use,
   gate in `|[..]|` that the left side or the right side never offers.
 Output and status stay the same. For example, it warns of the gate `b` of
@@ -164,6 +165,16 @@ these the first in the order of labels, `i` being the last label. With `--length
 have any number of steps. For example, `i; i; a; stop` with `--length 1 --explain A`
 lists
   A : i i A";
+
+pub(crate) const HIDDEN_HELP: &str = "Writes the least run with what makes each internal step";
+
+pub(crate) const HIDDEN_LONG_HELP: &str = "Writes the least run with what makes each internal step
+
+As `--explain`, which it implies, but an internal step is written by what makes it:
+`i` is an `i` of the text, `i(SEND)` an action of the gate SEND that a `hide` makes
+internal, and `i(exit)` the termination of the left side of `>>`. For example,
+`hide s in a; s; (exit >> i; b; stop)` with `--length 2 --hidden A B` lists
+  A B : A i(S) i(exit) i B";
 
 pub(crate) const HIDE_HELP: &str = "Hides these gates";
 
@@ -321,6 +332,17 @@ internal steps included. For example, `i; i; a; stop` with `--explain A` writes
 If the pattern ends with `<livelock>` or `<forever> SET`, the line goes on with steps that
 never end: ` <forever> `, the labels of some steps, and in brackets those of a loop, which
 can be repeated for ever. `A : A <forever> i [B C]` means A, i, B, C, B, C and so on.";
+
+pub(crate) const EVER_HIDDEN_LONG_HELP: &str =
+    "Writes the least run with what makes each internal step
+
+As `--explain`, which it implies, but an internal step is written by what makes it:
+`i` is an `i` of the text, `i(SEND)` an action of the gate SEND that a `hide` makes
+internal, and `i(exit)` the termination of the left side of `>>`. For example,
+`hide s in a; s; (exit >> i; b; stop)` with `--hidden A B` writes
+  A B : A i(S) i(exit) i B
+
+Steps that never end are written so too: `A B : A B <forever> [i(H)]`.";
 
 pub(crate) const EVER_STRONG_LONG_HELP: &str = "Makes the internal action `i` a label like others
 

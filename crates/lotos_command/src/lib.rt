@@ -12,6 +12,6 @@ mod request_reading;
 
 pub use command::{
     AfterRequest, CommandFault, CoverRequest, DiagnoseRequest, EverRequest, Extent, Interface,
-    Request, SearchRequest,
+    Request, Runs, SearchRequest,
 };
 pub use request_reading::request;

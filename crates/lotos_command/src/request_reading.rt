@@ -7,11 +7,11 @@ ghost use Rattle.clap.specs.Words.{all_of, first_of, found_of, kind_of, one_of, 
 ghost use Rattle.lotos_command.specs.CommandFaults.{AreAccepted, IsFaultOf, IsFaultOfEntries, IsFaultOfKind, IsNoRequestFault};
 ghost use Rattle.lotos_command.specs.EntryRules.{FitsAfter, FitsCheck, FitsCover, FitsEver, FitsRequest, FitsSearch, IsNumberIn, IsTruthText};
 ghost use Rattle.lotos_command.specs.PatternWords.{parts_between_blanks, pattern_words, pattern_words_in};
-ghost use Rattle.lotos_command.specs.Request.{HasBounds, HasCoverBounds, HasSearchBounds, RequestOf, after_from, after_view, check_from, cover_from, cover_view, ever_from, ever_view, extent_from, flag, interface_from, interface_view, number, request_from, request_view, search_from, search_view};
+ghost use Rattle.lotos_command.specs.Request.{HasBounds, HasCoverBounds, HasSearchBounds, RequestOf, after_from, after_view, check_from, cover_from, cover_view, ever_from, ever_view, extent_from, flag, interface_from, interface_view, number, request_from, request_view, runs_from, search_from, search_view};
 
 use crate::command::{
     AfterRequest, CommandFault, CoverRequest, DiagnoseRequest, EverRequest, Extent, Interface,
-    Request, SearchRequest,
+    Request, Runs, SearchRequest,
 };
 use crate::command_line::{Question, lotosseq_command, question_command};
 use crate::help::{NO_EXTENT, TWO_EXTENTS, TWO_INTERFACES};
@@ -100,7 +100,7 @@ fn read_search_request(alloc: Global, found: &ArgMatches<'_>) -> Result<SearchRe
         limit: read_limit(found),
         terms: read_terms(found),
         after: read_text(alloc, "after", found)?,
-        explain: read_explain(found),
+        runs: read_runs(found),
         interface,
         strong: read_strong(found),
         known: read_known(found),
@@ -116,12 +116,12 @@ fn read_ever_request(alloc: Global, found: &ArgMatches<'_>) -> Result<EverReques
     ensures fault { IfErr result (IsFaultOfEntries (ever_from (rows_of (found_of found.now)))) }
 {
     let interface = read_interface(alloc, Question::Ever, found)?;
-    let explain = read_explain(found);
+    let runs = read_runs(found);
     let strong = read_strong(found);
     let progress = read_progress(found);
     Ok(EverRequest {
         states: read_states(found),
-        explain,
+        runs,
         interface,
         strong,
         progress,
@@ -307,6 +307,28 @@ fn read_text(
         Some(text) => Ok(Some(String::from_str(alloc, text)?)),
         None => Ok(None),
     }
+}
+
+/// What lines have after their sequences, by `--explain` and `--hidden`.
+fn read_runs(found: &ArgMatches<'_>) -> Runs
+    requires explain { IfSome (one_of (codes "explain") (rows_of (found_of found.now))) IsTruthText }
+    requires hidden { IfSome (one_of (codes "hidden") (rows_of (found_of found.now))) IsTruthText }
+    ensures { result ≡ runs_from (rows_of (found_of found.now)) }
+{
+    if read_hidden(found) {
+        Runs::Origins
+    } else if read_explain(found) {
+        Runs::Labels
+    } else {
+        Runs::Omitted
+    }
+}
+
+fn read_hidden(found: &ArgMatches<'_>) -> bool
+    requires { IfSome (one_of (codes "hidden") (rows_of (found_of found.now))) IsTruthText }
+    ensures { result ≡ flag (codes "hidden") (rows_of (found_of found.now)) }
+{
+    found.get_flag("hidden")
 }
 
 fn read_explain(found: &ArgMatches<'_>) -> bool

@@ -3,12 +3,12 @@
 //! A device remembers whether one of its calls has failed. Contracts speak of the bytes that remain in a source and of
 //! those written to a sink, if these are known. They are known for devices in memory. Files, terminals and the standard
 //! streams report none, so there the contracts speak only of the numbers of bytes and of failures.
-ghost use Rattle.std.specs.Prelude.{◌≡◌, ℕ, Bool, false, List, Option};
+ghost use Rattle.std.specs.Prelude.{◌≡◌, ℕ, Bool, IsTrue, false, true, List, Option};
 ghost use Rattle.std.specs.Io.KnownBytes.{Keeps};
 ghost use Rattle.lotos_device.specs.DeviceContracts.{CountsGiven, Reads, Accepts, SetsFailed};
 ghost use Rattle.lotos_device.specs.WrappedDevices.{wrapped_reader, reader_failed, reader_given, wrapped_writer, writer_failed};
 
-use std::io::{Read, Write};
+use std::io::{ErrorKind, Read, Write};
 
 /// A call of a device failed.
 #[derive(Clone, Copy, Debug, PartialEq, Eq)]
@@ -59,6 +59,10 @@ pub trait Sink {
     /// Whether a call has failed. Once true, it stays true.
     fn failed(&self) -> bool
         ensures { result ≡ has_failed self.now };
+
+    /// Whether a call has failed because nobody reads any more what is written, as from a pipe that is closed.
+    fn is_unread(&self) -> bool
+        ensures { IsTrue result → has_failed self.now ≡ true };
 }
 
 /// A source over a reader of std. It counts the bytes that it gives, and fails at a read into a buffer larger than what
@@ -126,6 +130,8 @@ impl<R: Read> Source for FromRead<R> {
 pub struct FromWrite<W> {
     inner: W,
     failed: bool,
+    /// Whether the writer has said that nobody reads any more.
+    unread: bool,
 }
 
 impl<W: Write> FromWrite<W> {
@@ -137,6 +143,7 @@ impl<W: Write> FromWrite<W> {
         FromWrite {
             inner,
             failed: false,
+            unread: false,
         }
     }
 
@@ -156,8 +163,13 @@ impl<W: Write> Sink for FromWrite<W> {
     fn write(&mut self, bytes: &[u8]) -> Result<usize, DeviceFailed> {
         match self.inner.write(bytes) {
             Ok(count) if count > 0 || bytes.is_empty() => Ok(count),
-            _ => {
+            Ok(_) => {
                 self.failed = true;
+                Err(DeviceFailed)
+            }
+            Err(error) => {
+                self.failed = true;
+                self.unread |= error.kind() == ErrorKind::BrokenPipe;
                 Err(DeviceFailed)
             }
         }
@@ -166,8 +178,9 @@ impl<W: Write> Sink for FromWrite<W> {
     fn flush(&mut self) -> Result<(), DeviceFailed> {
         match self.inner.flush() {
             Ok(()) => Ok(()),
-            Err(_) => {
+            Err(error) => {
                 self.failed = true;
+                self.unread |= error.kind() == ErrorKind::BrokenPipe;
                 Err(DeviceFailed)
             }
         }
@@ -175,5 +188,9 @@ impl<W: Write> Sink for FromWrite<W> {
 
     fn failed(&self) -> bool {
         self.failed
+    }
+
+    fn is_unread(&self) -> bool {
+        self.failed && self.unread
     }
 }

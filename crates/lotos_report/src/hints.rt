@@ -1,8 +1,10 @@
 //! Hints for standard error, after a refusal: a word names a file, though a specification is read from standard input,
-//! a word is almost an element, or a name is no gate. A hint for which there is no memory is left out.
+//! a word is almost an element, a name is no gate, a command has no such option, or a fault of the text can be explained.
+//! A hint for which there is no memory is left out.
 
 use crate::messages::{Messages, NumberText};
 use crate::name_hints::{NameHint, write_name_hint};
+use crate::option_hints::hint_at_option;
 use crate::refusal::Refusal;
 use lotos_command::CommandFault;
 use lotos_pattern::PatternFault;
@@ -10,8 +12,8 @@ use std::alloc::{AllocError, Global};
 use std::io::Write;
 use strsim::levenshtein;
 
-/// What the name of a file with a specification ends in.
-const EXTENSION: &str = ".lotos";
+/// What the name of a file with a specification may end in.
+const EXTENSIONS: [&str; 3] = [".lotos", ".lot", ".lts"];
 
 /// The words of elements that are not labels.
 const ELEMENT_WORDS: [&str; 9] = [
@@ -57,7 +59,7 @@ impl WordCommand {
 }
 
 /// Gives a hint if a command is refused for a word that names a file, that is almost an element, or that names no gate:
-/// for the last `hint` is what could be meant.
+/// for the last `hint` is what could be meant. At a terminal there is one if it is refused for a fault of the text too.
 pub fn hint_after_refusal<E: Write>(
     alloc: Global,
     command: WordCommand,
@@ -70,12 +72,29 @@ pub fn hint_after_refusal<E: Write>(
         hint_at_word(alloc, command, refusal, words, &mut messages.stream);
         hint_at_unknown_gate(refusal, hint, &mut messages.stream);
     }
+    hint_at_explanation(refusal, messages);
 }
 
-/// Gives the hint if the words fit no command and are those of a command without words and a file. The first of them is
-/// the program's own name.
+/// Says at a terminal how to get an explanation, if a command is refused for a fault of the text.
+pub fn hint_at_explanation<E: Write>(refusal: Option<&Refusal>, messages: &mut Messages<E>) {
+    if messages.terminal && refusal.is_some_and(Refusal::is_of_text) {
+        let _ = writeln!(
+            messages.stream,
+            "lotosseq: for an explanation: lotosseq check --explain <FILE"
+        );
+    }
+}
+
+/// Gives a hint if the words fit no command: if the command does not have an option that another one has, or else if they
+/// are those of a command without words and a file. The first of the words is the program's own name.
 pub fn hint_after_fault<E: Write>(fault: &CommandFault, words: &[&str], err: &mut E) {
-    if let (CommandFault::Wrong(_), Some(command)) = (fault, command_of_file(words)) {
+    let CommandFault::Wrong(text) = fault else {
+        return;
+    };
+    if hint_at_option(text.as_str(), words, err) {
+        return;
+    }
+    if let Some(command) = command_of_file(words) {
         write_hint(command, err);
     }
 }
@@ -94,7 +113,7 @@ fn hint_at_word<E: Write>(
     let Some(word) = words.get(number.saturating_sub(1)) else {
         return;
     };
-    if word.as_str().ends_with(EXTENSION) {
+    if is_file_name(word.as_str()) {
         return write_hint(command.text(), err);
     }
     if !command.has_elements() {
@@ -129,6 +148,11 @@ fn doubtful_word(refusal: &Refusal) -> Option<usize> {
     }
 }
 
+/// Whether the word, which is no label, may be the name of a file: it has a slash or ends as such a name.
+fn is_file_name(word: &str) -> bool {
+    word.contains('/') || EXTENSIONS.iter().any(|end| word.ends_with(*end))
+}
+
 /// The first element's word that this one almost is: between the signs, at most two bytes are wrong and at most half of
 /// them; at most a quarter if the word has no sign, since it may be a name. A word that is not printed as it is almost
 /// is none.
@@ -161,13 +185,13 @@ fn is_sign(letter: char) -> bool {
 }
 
 /// The command without words that these words name, if one of the others is that of a file: one that is no option of
-/// `check`, or that ends as the name of a file, as options of `cover` have values.
+/// `check`, or that may be the name of a file, as options of `cover` have values.
 fn command_of_file(words: &[&str]) -> Option<&'static str> {
     match words {
         [_program, command, others @ ..] => {
             if *command == "check" && others.iter().any(|word| !word.starts_with("-")) {
                 Some("check")
-            } else if *command == "cover" && others.iter().any(|word| word.ends_with(EXTENSION)) {
+            } else if *command == "cover" && others.iter().any(|word| is_file_name(word)) {
                 Some("cover")
             } else {
                 None

@@ -4,7 +4,7 @@ use crate::outcome::{AfterWhy, EverWhy, Why};
 use crate::refusal::Refusal;
 use itoa::Buffer;
 use std::fmt;
-use std::io::Write;
+use std::io::{ErrorKind, Write};
 
 /// Where messages go: standard error, or another stream in its place.
 #[derive(Drop)]
@@ -12,6 +12,18 @@ pub struct Messages<E> {
     pub stream: E,
     /// Whether the stream is a terminal. There a report of progress is one line, which is renewed.
     pub terminal: bool,
+    /// Whether the specification is read from a terminal.
+    pub keyboard: bool,
+}
+
+/// Says that the specification is read from the keyboard, if it is and the messages go to a terminal too.
+pub fn report_keyboard<E: Write>(messages: &mut Messages<E>) {
+    if messages.terminal && messages.keyboard {
+        let _ = writeln!(
+            messages.stream,
+            "lotosseq: the specification is read from the keyboard; Ctrl-D at the beginning of a line ends it"
+        );
+    }
 }
 
 /// Reports why a command is refused.
@@ -44,6 +56,15 @@ pub fn report_failure<E: Write>(err: &mut E, why: &Why) {
         states: 0,
     };
     let _ = writeln!(err, "lotosseq: {}", CauseText { why, bounds });
+}
+
+/// Reports why the arguments of the process could not be read.
+pub fn report_unread_arguments<E: Write>(err: &mut E, cause: ErrorKind) {
+    if cause == ErrorKind::InvalidData {
+        let _ = writeln!(err, "lotosseq: an argument is not Unicode");
+    } else {
+        report_failure(err, &Why::Memory);
+    }
 }
 
 /// Reports why a search for a match stopped. `states` is the bound on the product states.
@@ -101,9 +122,32 @@ pub fn report_after_stop<E: Write>(err: &mut E, why: &AfterWhy, terms: usize) {
     }
 }
 
-/// Writes a text as it is, with its own line feeds.
+/// Writes a text with its own line feeds. Every other control character, which a terminal might obey, is `\x` and the
+/// digits of its number.
 pub fn report_text<E: Write>(err: &mut E, text: &str) {
-    let _ = write!(err, "{text}");
+    let _ = write!(err, "{}", ShownText(text));
+}
+
+/// A text as it can be shown at a terminal.
+#[derive(Clone, Copy, Debug)]
+struct ShownText<'a>(&'a str);
+
+impl fmt::Display for ShownText<'_> {
+    fn fmt<W: fmt::Write>(&self, f: &mut fmt::Formatter<W>) -> fmt::Result {
+        for letter in self.0.chars() {
+            write_letter(letter, f)?;
+        }
+        Ok(())
+    }
+}
+
+/// Writes a letter of a text.
+fn write_letter<W: fmt::Write>(letter: char, f: &mut fmt::Formatter<W>) -> fmt::Result {
+    if letter.is_control() && letter != '\n' {
+        write!(f, "\\x{:02x}", u32::from(letter))
+    } else {
+        f.write_char(letter)
+    }
 }
 
 /// The text of a cause.

@@ -105,7 +105,8 @@ pub enum AfterWhy {
 /// Why a search for a match of any length, or its output, stopped.
 #[derive(Clone, Copy, Debug)]
 pub enum EverWhy {
-    /// More product states than the request allows were found before any match. Nothing was written.
+    /// More product states than the request allows are reached, by sequences that can still match, or more normal forms
+    /// where the demand on the end is about what can come after it. Nothing was written.
     TooManyStates,
     /// Out of memory. Nothing was written.
     Memory,

@@ -1,6 +1,6 @@
 //! The progress of a search, as it is reported on standard error. Errors of the error stream are ignored.
 
-use crate::messages::{Messages, NumberText};
+use crate::messages::{Messages, NumberText, report_keyboard};
 use std::fmt;
 use std::io::Write;
 
@@ -21,6 +21,9 @@ const FIRST_REPORT: usize = 1 << 10;
 /// The greatest number of visits between two reports.
 const MAX_INTERVAL: usize = 1 << 20;
 
+/// So many terms that a prefix reaches count as one visit more.
+const TERMS_OF_VISIT: usize = 1 << 6;
+
 /// Reports to an error stream how far a search is. A terminal has one line, which is renewed, and
 /// which is cleared before a line of the output; another stream has a line for each report.
 #[derive(Drop)]
@@ -29,7 +32,9 @@ pub struct ProgressReport<'a, E> {
     /// Whether the terminal shows a report.
     shown: bool,
     counts: Counts,
-    /// The number of visits at the next report.
+    /// The number of visits, with those that terms count as.
+    work: usize,
+    /// That number at the next report.
     next: usize,
 }
 
@@ -43,8 +48,11 @@ impl<'a, E: Write> ProgressReport<'a, E> {
                 visited,
                 visits: 0,
                 length: 0,
+                with_length: 0,
+                with_one_less: 0,
                 lines: 0,
             },
+            work: 0,
             next: FIRST_REPORT,
         }
     }
@@ -54,13 +62,27 @@ impl<'a, E: Write> ProgressReport<'a, E> {
         &mut self.messages.stream
     }
 
+    /// Says that the specification is read from the keyboard, if it is.
+    pub fn before_text(&mut self) {
+        report_keyboard(self.messages);
+    }
+
     /// Notes a visit of a prefix, a state or a set of this length, and reports when it is time to.
     pub fn visit(&mut self, length: usize) {
-        self.counts.visits = self.counts.visits.saturating_add(1);
-        self.counts.length = self.counts.length.max(length);
-        if self.counts.visits == self.next {
+        self.counts.note(length);
+        self.add_work(1);
+    }
+
+    /// Notes how many terms a prefix reaches, and reports when it is time to.
+    pub fn reach(&mut self, terms: usize) {
+        self.add_work(terms / TERMS_OF_VISIT);
+    }
+
+    fn add_work(&mut self, more: usize) {
+        self.work = self.work.saturating_add(more);
+        if self.work >= self.next {
             self.report();
-            self.next = next_report(self.next);
+            self.next = next_report(self.work);
         }
     }
 
@@ -78,10 +100,10 @@ impl<'a, E: Write> ProgressReport<'a, E> {
         }
     }
 
-    /// No number of a report ever falls, so a renewed line covers the one before.
+    /// What a longer line has left after a renewed one is cleared.
     fn report(&mut self) {
         let _ = if self.messages.terminal {
-            write!(self.messages.stream, "\rlotosseq: {}", self.counts)
+            write!(self.messages.stream, "\rlotosseq: {}\x1b[K", self.counts)
         } else {
             writeln!(self.messages.stream, "lotosseq: {}", self.counts)
         };
@@ -89,7 +111,7 @@ impl<'a, E: Write> ProgressReport<'a, E> {
     }
 }
 
-/// The number of visits at the report after the one at `visits`: twice as many, up to `MAX_INTERVAL` more.
+/// The number of visits for the report after the one at `visits`: twice as many, up to `MAX_INTERVAL` more.
 fn next_report(visits: usize) -> usize {
     visits.saturating_add(visits.min(MAX_INTERVAL))
 }
@@ -103,8 +125,28 @@ struct Counts {
     /// The greatest length of what was visited: of prefixes in labels, of states in steps, of sets in the labels of the
     /// first sequence that reaches each.
     length: usize,
+    /// The number of visits of that length.
+    with_length: usize,
+    /// The number of visits of the length that was the greatest before: of states, whose lengths never fall and grow by
+    /// one, the number with one step less.
+    with_one_less: usize,
     /// The number of lines.
     lines: usize,
+}
+
+impl Counts {
+    /// Counts a visit of this length.
+    fn note(&mut self, length: usize) {
+        self.visits = self.visits.saturating_add(1);
+        if length > self.length {
+            self.with_one_less = self.with_length;
+            self.with_length = 0;
+            self.length = length;
+        }
+        if length == self.length {
+            self.with_length = self.with_length.saturating_add(1);
+        }
+    }
 }
 
 impl fmt::Display for Counts {
@@ -116,7 +158,17 @@ impl fmt::Display for Counts {
                 let lines = NumberText(self.lines);
                 write!(f, "length {length}, {visits} prefixes, {lines} lines")
             }
-            Visited::States => write!(f, "{length} steps, {visits} states"),
+            Visited::States => {
+                let before = NumberText(self.length.saturating_sub(1));
+                let (with_one_less, with_length) = (
+                    NumberText(self.with_one_less),
+                    NumberText(self.with_length),
+                );
+                write!(
+                    f,
+                    "{length} steps, {visits} states; {with_one_less} with {before} steps, {with_length} with {length} so far"
+                )
+            }
             Visited::Labels => write!(f, "{length} labels"),
             Visited::Sets => {
                 let lines = NumberText(self.lines);

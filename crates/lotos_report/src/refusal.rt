@@ -49,3 +49,10 @@ pub enum Refusal {
     #[error("E52 {} is no gate of the specification", GivenName(.0.as_str()))]
     E52(String),
 }
+
+impl Refusal {
+    /// Whether the text is refused, for a fault of the parser or of the static check.
+    pub fn is_of_text(&self) -> bool {
+        matches!(self, Refusal::Text { .. } | Refusal::Check { .. })
+    }
+}
