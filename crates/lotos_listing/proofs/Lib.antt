@@ -1,5 +1,6 @@
 pub mod SequenceOrder
 pub mod FirstEvents
+pub mod WalkViews
 pub mod WalkDescent
 pub mod WalkNext
 pub mod Labels

@@ -1,4 +1,5 @@
 pub mod OutputLines
 pub mod NamedRuns
+pub mod ItemRuns
 pub mod WriteFaults
 pub mod FlushOutcome

@@ -1,5 +1,5 @@
 -- Runs as text, with what makes their internal steps.
-use Rattle.std.specs.Prelude.{◌≡◌, ◌≢◌, List, [], ◌∷◌, ◌++◌, codes}
+use Rattle.std.specs.Prelude.{◌≡◌, ◌≢◌, Bool, true, false, List, [], ◌∷◌, ◌++◌, codes}
 use Rattle.lotos_check.specs.NameLists.{Name}
 use Rattle.lotos_store.specs.Terms.{Process, Term}
 use Rattle.lotos_store.specs.declared.label.Label.{Label as TermLabel}
@@ -10,6 +10,8 @@ use Rattle.lotos_listing.specs.Question.{ArePrinted}
 use Rattle.lotos_origins.specs.Origins.{DerivesBy}
 use Rattle.lotos_origins.specs.declared.origin.Origin.{Origin}
 use Rattle.lotos_origins.specs.declared.origin.Origin.TheVariants as origin
+use Rattle.lotos_command.specs.declared.command.Runs.{Runs}
+use Rattle.lotos_command.specs.declared.command.Runs.TheVariants.{Labels, Omitted, Origins}
 
 -- the text of an internal step with this origin: `i`, `i(` and the gate as it is hidden and `)`, or `i(exit)`
 abbrev pub IsOriginText : List Name → Origin → Label → Type 0
@@ -32,6 +34,12 @@ pub data AreNamed (names : List Name) : List TermLabel → List Origin → List 
   more_named : {k : TermLabel} {ks : List TermLabel} {text : Label} {texts : List Label} {os rest left : List Origin} →
       IsNamedStep names k os text rest → AreNamed names ks rest texts left →
       AreNamed names (k ∷ ks) os (text ∷ texts) left
+
+-- whether lines have runs
+abbrev pub writes_runs : Runs → Bool
+writes_runs Omitted = false
+writes_runs Labels = true
+writes_runs Origins = true
 
 module _ (names : List Name) (processes : List Process) where
   -- steps with these labels lead from the first term to the last, and these are their texts, where those of internal

@@ -13,7 +13,7 @@ use Rattle.lotos_store.specs.declared.label.Label.{Label as TermLabel}
 use Rattle.lotos_listing.specs.Order.{Label}
 use Rattle.lotos_listing.specs.Question.{ArePrinted}
 
--- an item of a listing: a sequence, and its least run; or what is observed of a match, and its run
+-- an item of a listing: a sequence, and what is written of its run; or what is observed of a match, and of its run
 pub record Item : Type 0 where
   pub sequence : List Label
   pub run : List Label

@@ -1,21 +1,25 @@
 //! The output of the commands: lines, and the flush after them.
 //!
-//! [`format_sequence`], [`format_sequence_after`], [`complete_line`], [`append_run`], [`append_round`], [`format_next`],
-//! [`format_labels`] and [`format_processes`] compose the text of a sequence and the lines of each command.
-//! [`append_named_run`] and [`append_named_round`] write internal steps by what makes them.
+//! [`format_sequence`], [`format_sequence_after`], [`append_run`], [`append_round`], [`format_next`], [`format_labels`]
+//! and [`format_processes`] compose the text of a sequence and the lines of each command; [`append_named_run`] and
+//! [`append_named_round`] write internal steps by what makes them. [`ItemRuns`] writes the runs of a listing's items.
 //! [`flush_complete`], [`flush_stopped`] and [`write_and_flush`] end the output with one flush, and tell whether it
 //! failed. An [`OutputProgress`] is told of each line before it is written.
 #![tactic(auto)]
 
+mod item_runs;
 mod named_runs;
 mod output_flush;
 mod output_lines;
 mod output_progress;
+mod run_names;
 
+pub use item_runs::ItemRuns;
 pub use named_runs::{append_named_round, append_named_run};
 pub use output_flush::{flush_complete, flush_stopped, write_and_flush};
 pub use output_lines::{
-    append_round, append_run, complete_line, format_labels, format_next, format_processes,
-    format_sequence, format_sequence_after,
+    append_round, append_run, format_labels, format_next, format_processes, format_sequence,
+    format_sequence_after,
 };
 pub use output_progress::OutputProgress;
+pub use run_names::RunNames;

@@ -1,6 +1,5 @@
 //! Sequences and processes as text.
 ghost use Rattle.std.specs.Prelude.{◌≡◌, ◌≤◌, ◌∷◌, [], ◌++◌, IfOk, IfSome, IsUtf8, List, OnOk, drop, flat_map, length, map, string_bytes, take, true};
-ghost use Rattle.std.specs.String.Boundary.{IsSplitPoint};
 ghost use Rattle.lotos_check.specs.CheckedView.{process_of};
 ghost use Rattle.lotos_listing.specs.Order.{Label as Text};
 ghost use Rattle.lotos_listing.specs.Question.{ArePrinted};
@@ -136,26 +135,6 @@ fn append_text(bytes: &mut Vec<u8>, text: &str) -> Result<(), AllocError>
         bytes.push(*byte)?;
     }
     Ok(())
-}
-
-/// Completes the line of a sequence whose text it has: appends, with `explain`, ` : ` and the run, and a line feed. The
-/// line can be cut after the text again.
-pub fn complete_line(
-    alloc: Global,
-    gates: &[Name],
-    run: &[Label],
-    explain: bool,
-    line: &mut String,
-) -> Result<(), AllocError>
-    requires { (w : List Text) × ArePrinted gates.now run.now w }
-    ensures whole { OnOk result ((w : List Text) → ArePrinted gates.now run.now w →
-        string_bytes line.new ≡ string_bytes line.old ++ run_text explain w ++ 10 ∷ []) }
-    ensures cut { OnOk result (IsSplitPoint (string_bytes line.new) (length (string_bytes line.old))) }
-{
-    if explain {
-        append_run(alloc, gates, run, line)?;
-    }
-    line.push('\n')
 }
 
 /// Appends ` : ` and the run. The gates have these names.

@@ -3,9 +3,12 @@
 use lotos_check::AcceptedText;
 use lotos_listing::{NoProgress, Progress};
 
-/// An observer of a command that searches. It is told when a specification is accepted, what the search visits, and
-/// when a line is written.
+/// An observer of a command that searches. It is told when a text is read and when its specification is accepted, what
+/// the search visits, and when a line is written.
 pub trait OutputProgress: Progress {
+    /// Is told that the text is read next.
+    fn before_text(&mut self) {}
+
     /// Is told that the text is accepted, and what was found of it.
     fn accepted(&mut self, text: &[u8], accepted_text: &AcceptedText);
 

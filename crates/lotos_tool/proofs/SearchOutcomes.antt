@@ -1,5 +1,5 @@
 -- The question and the outcome of a search, from the request and the text.
-use Rattle.std.proofs.Common.{◌≡◌, ◌∙◌, ℕ, List, Option, ap, false, true, inl, inr, refl, sym, subst}
+use Rattle.std.proofs.Common.{◌≡◌, ◌∙◌, ℕ, List, Option, Some, ap, false, true, inl, inr, refl, sym, subst}
 use Rattle.std.proofs.KnownBytes.{Keeps-refl}
 use Rattle.lotos_check.specs.Flat.{System}
 use Rattle.lotos_terms.specs.TableView.{TableView}
@@ -11,10 +11,16 @@ use Rattle.lotos_listing.specs.Question.{IsQuestionOf}
 use Rattle.lotos_length.specs.LengthListings.{IsLengthQuestionOf, LengthQuestion}
 use Rattle.lotos_length.specs.LengthSteps as length
 use Rattle.lotos_length.specs.LengthSteps.{LengthState}
+use Rattle.lotos_ever.specs.MatchQuestions.{IsMatchQuestionOf, MatchQuestion}
+use Rattle.std.specs.Prelude.{Err, IfOk, Ok, Result}
+use Rattle.lotos_output.specs.ItemRuns.{IsAboutSystem, RunsView, labels, omitted, origins, runs_of, runs_view}
+use Rattle.lotos_output.specs.declared.item_runs.ItemRuns.{ItemRuns}
+use Rattle.lotos_tool.specs.WrittenItems.{AreRunsFor, AreRunsWith}
+use Rattle.lotos_tool.specs.ListingQuestions as listings
 use Rattle.lotos_tool.specs.ListingOutcome.{ListingOutcome}
 use Rattle.lotos_tool.specs.declared.listing_output.ListingOptions.{ListingOptions}
-use Rattle.lotos_tool.specs.ListingQuestions.{HasBoundsOf, IsOneSetTooMany, ListingQuestion, ListingState, by_cover, by_depth, by_length, depth_state}
-use Rattle.lotos_tool.specs.ListingQuestions.{length_state}
+use Rattle.lotos_tool.specs.ListingQuestions.{HasBoundsOf, HasPattern, IsOneSetTooMany, ListingQuestion, ListingState, by_cover, by_depth, by_length, depth_state}
+use Rattle.lotos_tool.specs.ListingQuestions.{length_state, match_question}
 use Rattle.lotos_tool.specs.QuestionParts.{IsMarkOf, ReadsAsked, words_of}
 use Rattle.lotos_tool.specs.RefusalCauses.{IsInterfaceRefusal, IsSearchRefusal}
 use Rattle.lotos_tool.specs.Rejections.{IsGateRejection, IsMarkRejection, IsPatternRejection, IsRejectionBy, end_of, is_input_fault}
@@ -29,6 +35,7 @@ use Rattle.lotos_report.specs.declared.outcome.Ended.TheVariants.{Complete, Refu
 use Rattle.lotos_report.specs.declared.outcome.Why.TheVariants as why
 use Rattle.lotos_command.specs.declared.command.Extent.TheVariants.{Depth, Length}
 use Rattle.lotos_command.specs.declared.command.SearchRequest.{SearchRequest}
+use Rattle.lotos_output.specs.NamedRuns.{writes_runs}
 use Rattle.lotos_tool.proofs.Rejections.{gate_means, interface_means, mark_means, pattern_means, taken_asked}
 
 -- a search of the system that began with the request's depth and terms is one for the request
@@ -46,7 +53,7 @@ asked_of request system held p mark depth search extent question begun = record 
 -- and so is one that began with its length, its terms, and whether runs are written
 pub length_asked_of : (request : SearchRequest) (system : System) (held : TableView) (p : Pattern) (mark : Option (List Label)) (most : ℕ)
     (search : LengthState) →
-    request.extent ≡ Length most → IsLengthQuestionOf system search.question → length.IsBegun held p most request.terms mark request.explain search →
+    request.extent ≡ Length most → IsLengthQuestionOf system search.question → length.IsBegun held p most request.terms mark (writes_runs request.runs) search →
     IsSearchFor request system p mark (length_state search)
 length_asked_of request system held p mark most search extent question begun = record {
   question = question;
@@ -59,6 +66,38 @@ length_asked_of request system held p mark most search extent question begun = r
   cursor = begun.cursor;
   stage = begun.stage;
 }
+
+-- a system has one question for each pattern
+abbrev pub IsOneQuestion : Type 0
+IsOneQuestion = (system : System) (q r : MatchQuestion) → IsMatchQuestionOf system q → IsMatchQuestionOf system r → q.pattern ≡ r.pattern → q ≡ r
+
+-- so runs that are followed in another table of the system are those of the search
+pub runs_for : IsOneQuestion → (request : SearchRequest) (system : System) (p : Pattern) (mark : Option (List Label)) (search : ListingState)
+    (runs : RunsView) →
+    IsSearchFor request system p mark search → runs_of runs ≡ request.runs → IsAboutSystem system p runs → AreRunsFor search.question request.runs runs
+runs_for one request system p mark search runs begun wanted about =
+    record { wanted_are = wanted; with = with_runs search.question runs begun.question begun.pattern begun.bounds wanted about }
+  where
+    with_runs : (q : ListingQuestion) (runs : RunsView) → listings.IsQuestionOf system q → HasPattern q p → HasBoundsOf request q →
+        runs_of runs ≡ request.runs → IsAboutSystem system p runs → AreRunsWith q runs
+    with_runs q omitted asked pattern bounds wanted about = tt
+    with_runs q labels asked pattern bounds wanted about = tt
+    with_runs (by_depth q) (origins m) asked pattern bounds wanted (is, has) = (
+      tt,
+      ap (λ x. Some x) (one system (match_question q) m
+          (record { named = asked.named; gates = asked.gates; processes = asked.processes; start = asked.start }) is (pattern ∙ sym has)),
+      is.named,
+    )
+    with_runs (by_length q) (origins m) asked pattern bounds wanted (is, has) =
+        (bounds.2 ∙ ap writes_runs (sym wanted), ap (λ x. Some x) (one system q.matches m asked is (pattern ∙ sym has)), is.named)
+    with_runs (by_cover q) (origins m) asked pattern bounds wanted about = absurd pattern
+
+-- what begins the writing of runs gives those of the search
+pub runs_begun : {E : Type 0} → IsOneQuestion → (request : SearchRequest) (system : System) (p : Pattern) (mark : Option (List Label)) (result : Result ItemRuns E) →
+    IfOk result (λ r. runs_of (runs_view r) ≡ request.runs) → IfOk result (λ r. IsAboutSystem system p (runs_view r)) →
+    IfOk result (λ r. (search : ListingState) → IsSearchFor request system p mark search → AreRunsFor search.question request.runs (runs_view r))
+runs_begun one request system p mark (Ok r) wanted about = λ search begun. runs_for one request system p mark search (runs_view r) begun wanted about
+runs_begun one request system p mark (Err e) wanted about = tt
 
 -- the question of a search for the request is that of the request and the text
 pub asks : (request : SearchRequest) (left left' : Option (List ℕ)) (system : System) (p : Pattern) (mark : Option (List Label)) (search : ListingState) →

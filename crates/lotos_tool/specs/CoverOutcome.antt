@@ -1,5 +1,5 @@
 -- What each outcome of the command `cover` means.
-use Rattle.std.specs.Prelude.{◌≡◌, ℕ, ◌⊎◌, false, List, Option}
+use Rattle.std.specs.Prelude.{◌≡◌, ℕ, ◌⊎◌, List, Option}
 use Rattle.std.specs.Io.KnownBytes.{Keeps}
 use Rattle.lotos_check.specs.Flat.{System}
 use Rattle.lotos_listing.specs.Order.{Label}
@@ -13,6 +13,7 @@ use Rattle.lotos_tool.specs.declared.listing_output.ListingOptions.{ListingOptio
 use Rattle.lotos_report.specs.declared.outcome.Ended.{Ended}
 use Rattle.lotos_report.specs.declared.outcome.Ended.TheVariants.{Refused, Stopped}
 use Rattle.lotos_report.specs.declared.outcome.Why.TheVariants as why
+use Rattle.lotos_command.specs.declared.command.Runs.TheVariants.{Omitted}
 use Rattle.lotos_command.specs.declared.command.CoverRequest.{CoverRequest}
 
 -- what was read for the request: the system that is asked, and the mark of the line, if one is given
@@ -38,7 +39,7 @@ pub record IsCoverQuestionOfText (request : CoverRequest) (left left' : Option (
 
 -- what the request asks of the output: no runs
 abbrev pub cover_options_of : CoverRequest → ListingOptions
-cover_options_of request = record { explain = false; limit = request.limit }
+cover_options_of request = record { runs = Omitted; limit = request.limit }
 
 -- what each outcome of a cover means: that of a listing of its lines, if its line and its text are not refused and
 -- memory does not run out before the output begins

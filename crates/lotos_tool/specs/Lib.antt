@@ -9,6 +9,7 @@ pub mod SearchOutcome
 pub mod CheckOutcome
 pub mod EverOutcome
 pub mod ListingParts
+pub mod WrittenItems
 pub mod SearchParts
 pub mod EverParts
 pub mod AfterOutcome

@@ -1,9 +1,10 @@
 -- The question of a listing, by depth or by length or of a cover: its members, their runs, and the sequences at which
 -- it stops.
-use Rattle.std.specs.Prelude.{◌≡◌, ℕ, ◌⊎◌, List, [], Option, None, Some, Result, Ok, Err, ⊤}
+use Rattle.std.specs.Prelude.{◌≡◌, ℕ, ◌⊎◌, List, [], MatchOption, Option, None, Some, Result, Ok, Err, ⊤}
 use Rattle.lotos_check.specs.Flat.{System}
 use Rattle.lotos_check.specs.NameLists.{Name}
 use Rattle.lotos_pattern.specs.Patterns.{Pattern}
+use Rattle.lotos_pattern.specs.declared.ever_pattern.EndKind.TheVariants as kinds
 use Rattle.lotos_listing.specs.ListingSteps as steps
 use Rattle.lotos_listing.specs.ListingSteps.{Stage, running, ended, halted}
 use Rattle.lotos_listing.specs.Order.{Label}
@@ -13,16 +14,20 @@ use Rattle.lotos_listing.specs.declared.found.Found.{Found}
 use Rattle.lotos_listing.specs.declared.found.Halt.{Halt}
 use Rattle.lotos_listing.specs.declared.found.Halt.TheVariants as halt
 use Rattle.lotos_search.specs.SearchSteps.{SearchState}
+use Rattle.lotos_ever.specs.MatchQuestions.{MatchQuestion, MayEndFor}
 use Rattle.lotos_length.specs.LengthListings as lengths
 use Rattle.lotos_length.specs.LengthSteps.{LengthState}
 use Rattle.lotos_cover.specs.CoverListings as covers
 use Rattle.lotos_cover.specs.CoverSteps.{CoverState}
 use Rattle.lotos_cover.specs.declared.cover_halt.CoverHalt.{CoverHalt}
 use Rattle.lotos_cover.specs.declared.cover_halt.CoverHalt.TheVariants as cover_halt
+use Rattle.lotos_output.specs.NamedRuns.{IsNamedRun, writes_runs}
 use Rattle.lotos_tool.specs.declared.listing_halt.ListingHalt.{ListingHalt}
 use Rattle.lotos_tool.specs.declared.listing_halt.ListingHalt.TheVariants.{Failed, Memory, OverStates, OverTerms}
 use Rattle.lotos_command.specs.declared.command.SearchRequest.{SearchRequest}
 use Rattle.lotos_command.specs.declared.command.Extent.TheVariants as extent
+use Rattle.lotos_command.specs.declared.command.Runs.{Runs}
+use Rattle.lotos_command.specs.declared.command.Runs.TheVariants.{Labels, Omitted, Origins}
 
 -- the question of a listing: of the sequences of derivations of at most so many steps, of those of at most so many
 -- labels, or of the lines of a cover
@@ -30,6 +35,11 @@ pub data ListingQuestion : Type 0 where
   by_depth : depths.Question → ListingQuestion
   by_length : lengths.LengthQuestion → ListingQuestion
   by_cover : covers.CoverQuestion → ListingQuestion
+
+-- the names, processes, start and pattern of a question by depth
+abbrev pub match_question : depths.Question → MatchQuestion
+match_question q =
+    record { names = q.names; processes = q.processes; start = q.start; pattern = q.pattern }
 
 -- the names of the gates
 abbrev pub names_of : ListingQuestion → List Name
@@ -42,6 +52,13 @@ abbrev pub HasPattern : ListingQuestion → Pattern → Type 0
 HasPattern (by_depth q) p = q.pattern ≡ p
 HasPattern (by_length q) p = q.matches.pattern ≡ p
 HasPattern (by_cover q) p = ⊥
+
+-- the names, processes, start and pattern whose derivations put sequences into the listing; none if it is that of a
+-- cover
+abbrev pub matches_of : ListingQuestion → Option MatchQuestion
+matches_of (by_depth q) = Some (match_question q)
+matches_of (by_length q) = Some q.matches
+matches_of (by_cover q) = None
 
 -- the greatest number of labels of a member, unless the listing stops before it
 abbrev pub most_of : ListingQuestion → ℕ
@@ -60,7 +77,7 @@ IsQuestionOf system (by_cover q) = covers.IsCoverQuestionOf system q
 abbrev pub HasBoundsOf : SearchRequest → ListingQuestion → Type 0
 HasBoundsOf request (by_depth q) = (request.extent ≡ extent.Depth q.depth) × (q.terms ≡ request.terms)
 HasBoundsOf request (by_length q) =
-    (request.extent ≡ extent.Length q.length) × (q.terms ≡ request.terms) × (q.runs ≡ request.explain)
+    (request.extent ≡ extent.Length q.length) × (q.terms ≡ request.terms) × (q.runs ≡ writes_runs request.runs)
 HasBoundsOf request (by_cover q) = ⊥
 
 -- the sequence is in the listing
@@ -75,6 +92,18 @@ abbrev pub IsLeastRunOf : ListingQuestion → List Label → List Label → Type
 IsLeastRunOf (by_depth q) s run = depths.IsLeastRunOf q s run
 IsLeastRunOf (by_length q) s run = lengths.IsWantedRun q s run
 IsLeastRunOf (by_cover q) s run = run ≡ []
+
+-- the second texts are those of a derivation by the run that may end as the pattern demands, where those of internal
+-- steps say what makes them
+abbrev pub IsNamedRunOf : ListingQuestion → (run shown : List Label) → Type 0
+IsNamedRunOf q run shown = MatchOption (matches_of q) ⊥
+    (λ m. IsNamedRun m.names m.processes m.start (MayEndFor m kinds.Refuses) run shown)
+
+-- the run is written of the sequence: its least run, with what makes its internal steps if that is wanted
+abbrev pub IsWrittenRunOf : Runs → ListingQuestion → (s written : List Label) → Type 0
+IsWrittenRunOf Omitted q s written = IsLeastRunOf q s written
+IsWrittenRunOf Labels q s written = IsLeastRunOf q s written
+IsWrittenRunOf Origins q s written = (run : List Label) × IsLeastRunOf q s run × IsNamedRunOf q run written
 
 -- the prefix can still match and reaches more terms than the bound, or more normal forms if the listing is by length
 abbrev pub IsOversizedPrefix : ListingQuestion → List Label → Type 0

@@ -7,14 +7,13 @@ ghost use Rattle.lotos_tool.specs.ProgramRuns.{NoArgumentRead, Ran};
 use crate::program::run;
 use crate::question_parts::borrow_texts;
 use lotos_device::{Sink, Source};
-use lotos_report::{Messages, Why, report_failure};
+use lotos_report::{Messages, Why, report_failure, report_unread_arguments};
 use std::alloc::{AllocError, Global};
 use std::env::Args;
 use std::io::{self, Write};
 
 /// Runs the command that the arguments of a process ask for, as `run` does, and returns the exit status. Arguments
-/// that could not be read, because memory ran out or one of them is not Unicode, are reported as out of memory, with
-/// status 5.
+/// that could not be read, because memory ran out or one of them is not Unicode, are reported as such, with status 5.
 pub fn run_args<R: Source, W: Sink, E: Write>(
     alloc: Global,
     args: io::Result<Args>,
@@ -33,8 +32,9 @@ pub fn run_args<R: Source, W: Sink, E: Write>(
     ensures given { R.given reader.new ≤ R.given reader.old + (max_text_length + 1) }
     ensures output { W.has_failed out.new ≡ (result == 6) }
 {
-    let Ok(args) = args else {
-        return report_no_words(messages);
+    let args = match args {
+        Ok(args) => args,
+        Err(error) => return report_no_arguments(&error, messages),
     };
     let Ok(words) = words_of(alloc, args) else {
         return report_no_words(messages);
@@ -72,6 +72,14 @@ fn run_words<R: Source, W: Sink, E: Write>(
         Ok(texts) => run(alloc, texts.as_slice(), reader, out, messages),
         Err(AllocError) => report_no_words(messages),
     }
+}
+
+/// Reports why the arguments could not be read, and returns the status.
+fn report_no_arguments<E: Write>(error: &io::Error, messages: &mut Messages<E>) -> u8
+    ensures { result ≡ 5 }
+{
+    report_unread_arguments(&mut messages.stream, error.kind());
+    5
 }
 
 /// Reports that memory ran out before the words were read, and returns the status.

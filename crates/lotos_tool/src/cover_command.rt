@@ -15,13 +15,13 @@ use crate::rejection::{Rejection, end_of};
 use crate::search_command::out_of_memory;
 use crate::specification_input::read_asked;
 use lotos_check::Checked;
-use lotos_command::CoverRequest;
+use lotos_command::{CoverRequest, Runs};
 use lotos_cover::CoverSearch;
 use lotos_cover::laws::begun_cover_search_has_question;
 use lotos_device::{Sink, Source};
 use lotos_listing::Mark;
 use lotos_normal::NormalTable;
-use lotos_output::OutputProgress;
+use lotos_output::{ItemRuns, OutputProgress};
 use lotos_report::Ended;
 use std::alloc::{AllocError, Global};
 
@@ -101,10 +101,11 @@ fn cover_system<W: Sink, P: OutputProgress>(
     match begin_cover(alloc, request, system, mark) {
         Ok(mut search) => {
             let options = ListingOptions {
-                explain: false,
+                runs: Runs::Omitted,
                 limit: request.limit,
             };
-            write_listing(alloc, options, &mut search, writer, progress)
+            let mut runs = ItemRuns::Omitted;
+            write_listing(alloc, options, &mut runs, &mut search, writer, progress)
         }
         Err(AllocError) => out_of_memory(),
     }

@@ -16,7 +16,7 @@ use lotos_check::{Checked, check_parsed, parse_text};
 use lotos_command::DiagnoseRequest;
 use lotos_device::{Sink, Source};
 use lotos_explain::{explain_check_fault, explain_text_fault};
-use lotos_report::{Ended, Refusal, write_warnings};
+use lotos_report::{Ended, MutedStream, Refusal, write_warnings};
 use lotos_text::Specification;
 use lotos_warn::warnings;
 use std::alloc::Global;
@@ -106,7 +106,7 @@ fn report_processes<W: Sink, E: Write>(
     ensures output { W.has_failed out.new ≡ (result == 6) }
 {
     let ended = write_processes(alloc, system, out);
-    let status = report_check(&ended, err);
+    let status = report_check(&ended, &mut MutedStream::new(err, out.is_unread()));
     if asked.warn && status == 0 {
         warn(alloc, text, specification, system, err);
     }

@@ -4,10 +4,14 @@ ghost use Rattle.lotos_text.specs.Limits.{max_text_length};
 ghost use Rattle.lotos_check.specs.CheckedView.{system_of};
 ghost use Rattle.lotos_check.specs.Flat.{System};
 ghost use Rattle.lotos_terms.specs.TableView.{IsTableOf};
-ghost use Rattle.lotos_tool.specs.EverOutcome.{AreEverParts, EverOutcome, is_ever_input_fault, is_ever_output_fault};
-ghost use Rattle.lotos_tool.specs.EverParts.{HasLine, HasNoLine, IsEndWithoutMatch, IsOutcomeFor, IsRoundOf, IsWritten};
+ghost use Rattle.lotos_ever.specs.MatchQuestions.{IsEndedMatch, match_question_of};
+ghost use Rattle.lotos_ever.specs.NamedRuns.{EndsAsDemanded};
+ghost use Rattle.lotos_tool.specs.EverOutcome.{AreEverParts, EverOutcome, IsMatchLine, MatchTexts, is_ever_input_fault, is_ever_output_fault};
+ghost use Rattle.lotos_tool.specs.EverParts.{AreNamedTextsOf, HasLine, HasTexts, HasNoLine, IsEndWithoutMatch, IsOutcomeFor, IsRoundOf, IsWritten};
+ghost use Rattle.lotos_tool.specs.EverParts.{question_about};
 ghost use Rattle.lotos_listing.specs.Order.{Label as Text};
-ghost use Rattle.lotos_output.specs.OutputLines.{Item, IsItemOf, match_line, round_text_if};
+ghost use Rattle.lotos_listing.specs.Question.{ArePrinted};
+ghost use Rattle.lotos_output.specs.OutputLines.{round_text_if, run_text};
 ghost use Rattle.lotos_tool.specs.RefusalCauses.{IsEverRefusal};
 ghost use Rattle.lotos_tool.specs.Rejections.{IsRejectionBy, is_input_failure};
 
@@ -15,16 +19,21 @@ use crate::question_parts::{read_ever_pattern, refuse_unknown_gates};
 use crate::rejection::{Rejection, ever_end_of};
 use crate::specification_input::read_asked;
 use lotos_check::Checked;
-use lotos_command::EverRequest;
+use lotos_command::{EverRequest, Runs};
 use lotos_device::{DeviceFailed, Sink, Source};
-use lotos_ends::Lasso;
-use lotos_ever::laws::table_has_match_question;
-use lotos_ever::{EndedMatch, Halt, find_shortest_match_with_end};
+use lotos_ever::laws::{matches_end_as_demanded, table_has_match_question};
+use lotos_ever::{EndedMatch, Halt, find_shortest_match_with_end, name_run};
 use lotos_listing::Progress;
 use lotos_normal::NormalTable;
-use lotos_output::{OutputProgress, append_round, append_run, format_sequence, write_and_flush};
+use lotos_origins::laws::origins_stay_in_table;
+use lotos_output::{
+    OutputProgress, append_named_round, append_named_run, append_round, append_run,
+    format_sequence, write_and_flush,
+};
 use lotos_pattern::EverPattern;
 use lotos_report::{EverEnded, EverWhy};
+use lotos_terms::Label;
+use lotos_terms::laws::steps_stay_in_table;
 use lotos_text::Name;
 use std::alloc::{AllocError, Global};
 
@@ -141,47 +150,68 @@ fn find_line_in<P: Progress>(
     table_has_match_question();
     table.recall_sound();
     match find_shortest_match_with_end(alloc, table, pattern, request.states, progress)? {
-        Some(ended) => Ok(Some(format_match(alloc, table.gates(), &ended, request.explain)?)),
+        Some(ended) => Ok(Some(format_match(alloc, table, pattern, &ended, request.runs)?)),
         None => Ok(None),
     }
 }
 
-/// The line of a match: its sequence, with `explain` its run and the steps that go round where it ends, if there are
-/// such, and a line feed. The gates have these names.
+/// The line of a match: its sequence, if runs are written its run and the steps that go round where it ends, if there are
+/// such, and a line feed.
 fn format_match(
     alloc: Global,
-    gates: &[Name],
+    table: &mut NormalTable,
+    pattern: &EverPattern,
     ended: &EndedMatch,
-    explain: bool,
+    runs: Runs,
 ) -> Result<Vec<u8>, AllocError>
-    requires printed { (item : Item) ×
-        IsItemOf gates.now ended.now.found.sequence.items ended.now.found.word.items item }
-    requires round { (round : Option (List Text × List Text)) × IsRoundOf gates.now ended.now.lasso round }
-    ensures { IfOk result (λ line. (item : Item) (round : Option (List Text × List Text)) →
-        IsItemOf gates.now ended.now.found.sequence.items ended.now.found.word.items item →
-        IsRoundOf gates.now ended.now.lasso round → line.items ≡ match_line explain item round) }
+    requires { IsEndedMatch (match_question_of table.old pattern.now.pattern) pattern.now.kind ended.now }
+    ensures { IfOk result (λ line. IsMatchLine runs (question_about table.old pattern.now) line.items) }
 {
-    let mut line = format_sequence(alloc, gates, ended.found.sequence.as_slice())?;
-    if explain {
-        append_run(alloc, gates, ended.found.word.as_slice(), &mut line)?;
-        append_lasso(alloc, gates, &ended.lasso, &mut line)?;
-    }
+    let mut line = format_sequence(alloc, table.gates(), ended.found.sequence.as_slice())?;
+    append_texts(alloc, table, pattern, ended, runs, &mut line)?;
     line.push('\n')?;
     Ok(line.into_bytes())
 }
 
-/// Appends the steps that go round, if there are such.
-fn append_lasso(
+/// Appends the run of a match, and the steps that go round where it ends, if there are such, as they are to be written.
+fn append_texts(
     alloc: Global,
-    gates: &[Name],
-    lasso: &Option<Lasso>,
+    table: &mut NormalTable,
+    pattern: &EverPattern,
+    ended: &EndedMatch,
+    runs: Runs,
     line: &mut String,
 ) -> Result<(), AllocError>
-    requires { (round : Option (List Text × List Text)) × IsRoundOf gates.now lasso.now round }
-    ensures { OnOk result ((round : Option (List Text × List Text)) → IsRoundOf gates.now lasso.now round →
-        string_bytes line.new ≡ string_bytes line.old ++ round_text_if true round) }
+    requires { IsEndedMatch (match_question_of table.old pattern.now.pattern) pattern.now.kind ended.now }
+    ensures { OnOk result
+        ((is : IsEndedMatch (match_question_of table.old pattern.now.pattern) pattern.now.kind ended.now) →
+        HasTexts runs (question_about table.old pattern.now) is.found.run is.found.first.matches.last
+        (string_bytes line.old) (string_bytes line.new)) }
 {
-    match lasso {
+    matches_end_as_demanded();
+    table.recall_sound();
+    match runs {
+        Runs::Omitted => Ok(()),
+        Runs::Labels => append_labels(alloc, table.gates(), ended, line),
+        Runs::Origins => append_origins(alloc, table, pattern, ended.found.word.as_slice(), line),
+    }
+}
+
+/// Appends the run of a match, and the steps that go round where it ends, if there are such. The gates have these names.
+fn append_labels(
+    alloc: Global,
+    gates: &[Name],
+    ended: &EndedMatch,
+    line: &mut String,
+) -> Result<(), AllocError>
+    requires run { (w : List Text) × ArePrinted gates.now ended.now.found.word.items w }
+    requires round { (round : Option (List Text × List Text)) × IsRoundOf gates.now ended.now.lasso round }
+    ensures { OnOk result ((w : List Text) (round : Option (List Text × List Text)) →
+        ArePrinted gates.now ended.now.found.word.items w → IsRoundOf gates.now ended.now.lasso round →
+        string_bytes line.new ≡ string_bytes line.old ++ run_text true w ++ round_text_if true round) }
+{
+    append_run(alloc, gates, ended.found.word.as_slice(), line)?;
+    match &ended.lasso {
         None => Ok(()),
         Some(lasso) => {
             append_round(
@@ -192,6 +222,38 @@ fn append_lasso(
                 line,
             )
         }
+    }
+}
+
+/// Appends the run of a match, with what makes its internal steps, and so the steps that go round where it ends, if there
+/// are such.
+fn append_origins(
+    alloc: Global,
+    table: &mut NormalTable,
+    pattern: &EverPattern,
+    run: &[Label],
+    line: &mut String,
+) -> Result<(), AllocError>
+    requires { EndsAsDemanded (match_question_of table.old pattern.now.pattern) pattern.now.kind run.now }
+    ensures { OnOk result ((texts : MatchTexts) ×
+        AreNamedTextsOf (question_about table.old pattern.now) run.now texts ×
+        (string_bytes line.new ≡ string_bytes line.old ++ run_text true texts.run ++
+        round_text_if true texts.round)) }
+{
+    steps_stay_in_table();
+    origins_stay_in_table();
+    table.recall_sound();
+    let named = name_run(alloc, table, pattern, run)?;
+    append_named_run(table.gates(), run, named.origins.as_slice(), line)?;
+    match &named.round {
+        None => Ok(()),
+        Some(round) => append_named_round(
+            table.gates(),
+            round.row.as_slice(),
+            round.turn.as_slice(),
+            round.origins.as_slice(),
+            line,
+        ),
     }
 }
 

@@ -5,7 +5,9 @@ ghost use Rattle.lotos_listing.specs.Order.{Label as Text};
 ghost use Rattle.lotos_listing.specs.Question.{ArePrinted};
 ghost use Rattle.lotos_listing.specs.ListingSteps.{running};
 ghost use Rattle.lotos_tool.specs.ListingQuestions.{IsHalt, names_of};
-ghost use Rattle.lotos_output.specs.OutputLines.{HasText, Item, IsItemOf, line_of, sequence_text};
+ghost use Rattle.lotos_output.specs.ItemRuns.{CanWriteRun, runs_view};
+ghost use Rattle.lotos_output.specs.OutputLines.{HasText, Item, IsItemOf, sequence_text};
+ghost use Rattle.lotos_tool.specs.WrittenItems.{AreRunsFor, IsWrittenItem, item_line};
 ghost use Rattle.lotos_tool.specs.ListingOutcome.{ListingOutcome};
 ghost use Rattle.lotos_check.specs.NameLists.{Name as GateName};
 ghost use Rattle.lotos_store.specs.declared.label.Label.{Label as TermLabel};
@@ -15,23 +17,24 @@ ghost use Rattle.lotos_output.specs.WriteFaults.{is_output_fault, is_write_fault
 
 use crate::listing_halt::ListingHalt;
 use crate::listing_search::{ListingSearch, items_decrease_remaining};
+use lotos_command::Runs;
 use lotos_device::{DeviceFailed, Sink, write_bytes};
 use lotos_listing::Found;
 use lotos_listing::laws::strict_order;
 use lotos_output::{
-    OutputProgress, complete_line, flush_complete, flush_stopped, format_sequence,
-    format_sequence_after,
+    ItemRuns, OutputProgress, flush_complete, flush_stopped, format_sequence, format_sequence_after,
 };
 use lotos_report::{Ended, Why};
 use lotos_terms::Label;
+use lotos_terms::laws::label_text_is_unique;
 use lotos_text::Name;
 use std::alloc::{AllocError, Global};
 
 /// What the output of a listing has, and how long it may be.
 #[derive(Clone, Copy, Debug)]
 pub(crate) struct ListingOptions {
-    /// Whether a line has the run of its sequence.
-    pub explain: bool,
+    /// What a line has after its sequence.
+    pub runs: Runs,
     /// The greatest number of lines, at least 1.
     pub limit: Option<u32>,
 }
@@ -43,11 +46,13 @@ pub(crate) struct ListingOptions {
 pub fn write_listing<S: ListingSearch, W: Sink, P: OutputProgress>(
     alloc: Global,
     options: ListingOptions,
+    runs: &mut ItemRuns,
     search: &mut S,
     writer: &mut W,
     progress: &mut P,
 ) -> Ended
     requires begun { (S.state search.old).stage ≡ running }
+    requires runs { AreRunsFor (S.state search.old).question options.runs (runs_view runs.old) }
     requires limit { IfSome options.limit (λ n. 1 ≤ n) }
     requires unfailed { W.has_failed writer.old ≡ false }
     ensures ends { ListingOutcome options (S.state search.old).question
@@ -56,6 +61,7 @@ pub fn write_listing<S: ListingSearch, W: Sink, P: OutputProgress>(
 {
     items_decrease_remaining();
     strict_order();
+    label_text_is_unique();
     let mut last = None;
     let mut labels = Vec::new(alloc);
     let mut lines: u64 = 0;
@@ -76,7 +82,7 @@ pub fn write_listing<S: ListingSearch, W: Sink, P: OutputProgress>(
             &found,
             known,
             text_of_last(&last),
-            options.explain,
+            runs,
             writer,
         ) {
             Ok(text) => last = Some(text),
@@ -111,24 +117,25 @@ fn write_item<S: ListingSearch, W: Sink>(
     found: &Found,
     known: &[Label],
     text: &str,
-    explain: bool,
+    runs: &mut ItemRuns,
     writer: &mut W,
 ) -> Result<String, Why>
     requires printed { (item : Item) ×
         IsItemOf (names_of (S.state search.now).question) found.now.sequence.items found.now.word.items item }
     requires known { HasText (names_of (S.state search.now).question) known.now text.now }
+    requires run { CanWriteRun (names_of (S.state search.now).question) (runs_view runs.old) found.now.word.items }
     requires unfailed { W.has_failed writer.old ≡ false }
-    ensures whole { OnOk result ((item : Item) →
-        IsItemOf (names_of (S.state search.now).question) found.now.sequence.items found.now.word.items item →
-        Appends (W.written writer.old) (W.written writer.new) (line_of explain item)) }
-    ensures text { IfOk result (λ text. (item : Item) →
-        IsItemOf (names_of (S.state search.now).question) found.now.sequence.items found.now.word.items item →
-        string_bytes text ≡ sequence_text item.sequence) }
+    ensures same { runs_view runs.new ≡ runs_view runs.old }
+    ensures whole { OnOk result ((item : Item) ×
+        IsWrittenItem (names_of (S.state search.now).question) (runs_view runs.old) found.now item ×
+        Appends (W.written writer.old) (W.written writer.new) (item_line (runs_view runs.old) item)) }
+    ensures text { IfOk result (λ text. (s : List Text) →
+        ArePrinted (names_of (S.state search.now).question) found.now.sequence.items s →
+        string_bytes text ≡ sequence_text s) }
     ensures memory { IsErrOf result Why.Memory → Keeps (W.written writer.old) (W.written writer.new) }
-    ensures part { IsErrOf result Why.Write →
-        (item : Item) →
-        IsItemOf (names_of (S.state search.now).question) found.now.sequence.items found.now.word.items item →
-        AppendsPart (W.written writer.old) (W.written writer.new) (line_of explain item) }
+    ensures part { IsErrOf result Why.Write → (item : Item) ×
+        IsWrittenItem (names_of (S.state search.now).question) (runs_view runs.old) found.now item ×
+        AppendsPart (W.written writer.old) (W.written writer.new) (item_line (runs_view runs.old) item) }
     ensures causes { IfErr result (λ why. (why ≡ Why.Memory) ⊎ (why ≡ Why.Write)) }
     ensures failed { W.has_failed writer.new ≡ is_write_fault result }
 {
@@ -138,7 +145,7 @@ fn write_item<S: ListingSearch, W: Sink>(
         return Err(Why::Memory);
     };
     let end = line.len();
-    let Ok(()) = complete_line(alloc, gates, found.word.as_slice(), explain, &mut line) else {
+    let Ok(()) = runs.complete_line(alloc, gates, found.word.as_slice(), &mut line) else {
         return Err(Why::Memory);
     };
     match write_bytes(writer, line.as_bytes()) {

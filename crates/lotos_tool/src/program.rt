@@ -6,7 +6,7 @@ ghost use Rattle.lotos_tool.specs.EverOutcome.{is_ever_output_cause, is_ever_out
 ghost use Rattle.lotos_tool.specs.AfterOutcome.{is_after_output_cause, is_after_output_fault};
 ghost use Rattle.lotos_command.specs.Request.{HasCoverBounds, HasSearchBounds};
 ghost use Rattle.lotos_pattern.specs.Spelling.{texts_of};
-ghost use Rattle.lotos_tool.specs.ProgramRuns.{AfterReported, CoverReported, EverReported, IsAnswerTo, Ran, SearchReported, TextWritten, after_status_of, after_stop_status_of, check_status_of, ever_status_of, ever_stop_status_of, status_of, stop_status_of};
+ghost use Rattle.lotos_tool.specs.ProgramRuns.{AfterReported, CheckReported, CoverReported, EverReported, IsAnswerTo, Ran, SearchReported, TextWritten, after_status_of, after_stop_status_of, check_status_of, ever_status_of, ever_stop_status_of, status_of, stop_status_of};
 
 use crate::after_command::after;
 use crate::check_command::check_text;
@@ -16,15 +16,17 @@ use crate::ever_command::ever;
 use crate::search_command::list;
 use crate::search_observer::{Noted, Observed, SearchObserver};
 use lotos_command::{
-    AfterRequest, CommandFault, CoverRequest, EverRequest, Request, SearchRequest, request,
+    AfterRequest, CommandFault, CoverRequest, DiagnoseRequest, EverRequest, Request, SearchRequest,
+    request,
 };
 use lotos_device::{DeviceFailed, Sink, Source};
 use lotos_listing::Searched;
 use lotos_output::write_and_flush;
 use lotos_report::{
-    AfterEnded, AfterWhy, Bounds, Ended, EverEnded, EverWhy, Messages, Visited, Why, WordCommand,
-    hint_after_fault, hint_after_refusal, report_after_stop, report_ever_stop, report_failure,
-    report_label, report_no_match, report_refusal, report_stop, report_text,
+    AfterEnded, AfterWhy, Bounds, Ended, EverEnded, EverWhy, Messages, MutedStream, Visited, Why,
+    WordCommand, hint_after_fault, hint_after_refusal, hint_at_explanation, report_after_stop,
+    report_ever_stop, report_failure, report_keyboard, report_label, report_no_match,
+    report_refusal, report_stop, report_text,
 };
 use std::alloc::Global;
 use std::io::Write;
@@ -53,14 +55,55 @@ pub fn run<R: Source, W: Sink, E: Write>(
     ensures output { W.has_failed out.new ≡ (result == 6) }
 {
     match request(alloc, words) {
-        Ok(Request::Check) => report_check(&check_text(alloc, reader, out), &mut messages.stream),
-        Ok(Request::Diagnose(asked)) => diagnose(alloc, &asked, reader, out, &mut messages.stream),
+        Ok(Request::Check) => run_check(alloc, reader, out, messages),
+        Ok(Request::Diagnose(asked)) => run_diagnosis(alloc, &asked, reader, out, messages),
         Ok(Request::Search(asked)) => run_search(alloc, &asked, reader, out, messages),
         Ok(Request::Ever(asked)) => run_ever(alloc, &asked, reader, out, messages),
         Ok(Request::After(asked)) => run_after(alloc, &asked, reader, out, messages),
         Ok(Request::Cover(asked)) => run_cover(alloc, &asked, reader, out, messages),
         Err(fault) => end_without_command(&fault, words, out, &mut messages.stream),
     }
+}
+
+/// Runs a check and reports it. Returns its status.
+fn run_check<R: Source, W: Sink, E: Write>(
+    alloc: Global,
+    reader: &mut R,
+    out: &mut W,
+    messages: &mut Messages<E>,
+) -> u8
+    requires reader { R.has_failed reader.old ≡ false }
+    requires out { W.has_failed out.old ≡ false }
+    ensures reported { CheckReported (R.remaining reader.old) (R.remaining reader.new)
+        (W.written out.old) (W.written out.new) (R.has_failed reader.new) result }
+    ensures given { R.given reader.new ≤ R.given reader.old + (max_text_length + 1) }
+    ensures output { W.has_failed out.new ≡ (result == 6) }
+{
+    report_keyboard(messages);
+    let ended = check_text(alloc, reader, out);
+    let mut stream = MutedStream::new(&mut messages.stream, out.is_unread());
+    let status = report_check(&ended, &mut stream);
+    hint_at_explanation(ended.refusal(), messages);
+    status
+}
+
+/// Runs a check with diagnostics and reports it. Returns its status.
+fn run_diagnosis<R: Source, W: Sink, E: Write>(
+    alloc: Global,
+    asked: &DiagnoseRequest,
+    reader: &mut R,
+    out: &mut W,
+    messages: &mut Messages<E>,
+) -> u8
+    requires reader { R.has_failed reader.old ≡ false }
+    requires out { W.has_failed out.old ≡ false }
+    ensures reported { CheckReported (R.remaining reader.old) (R.remaining reader.new)
+        (W.written out.old) (W.written out.new) (R.has_failed reader.new) result }
+    ensures given { R.given reader.new ≤ R.given reader.old + (max_text_length + 1) }
+    ensures output { W.has_failed out.new ≡ (result == 6) }
+{
+    report_keyboard(messages);
+    diagnose(alloc, asked, reader, out, &mut messages.stream)
 }
 
 /// Runs a search and reports it, with a hint if one of its words names a file, is almost an element or is refused
@@ -94,7 +137,8 @@ fn run_search<R: Source, W: Sink, E: Write>(
         terms: request.terms,
         states: 0,
     };
-    let status = report_search(&ended, bounds, &mut messages.stream);
+    let mut stream = MutedStream::new(&mut messages.stream, out.is_unread());
+    let status = report_search(&ended, bounds, &mut stream);
     hint_after_refusal(
         alloc,
         WordCommand::Search,
@@ -133,13 +177,8 @@ fn run_ever<R: Source, W: Sink, E: Write>(
     let mut observer = SearchObserver::new(alloc, observed, messages);
     let ended = ever(alloc, request, reader, out, &mut observer);
     let Noted { hint, searched } = observer.finish();
-    let status = report_ever(
-        &ended,
-        &searched,
-        words,
-        request.states,
-        &mut messages.stream,
-    );
+    let mut stream = MutedStream::new(&mut messages.stream, out.is_unread());
+    let status = report_ever(&ended, &searched, words, request.states, &mut stream);
     hint_after_refusal(
         alloc,
         WordCommand::Ever,
@@ -178,7 +217,8 @@ fn run_after<R: Source, W: Sink, E: Write>(
     let mut observer = SearchObserver::new(alloc, observed, messages);
     let ended = after(alloc, request, reader, out, &mut observer);
     let Noted { hint, .. } = observer.finish();
-    let status = report_after(&ended, words, request.terms, &mut messages.stream);
+    let mut stream = MutedStream::new(&mut messages.stream, out.is_unread());
+    let status = report_after(&ended, words, request.terms, &mut stream);
     hint_after_refusal(
         alloc,
         WordCommand::After,
@@ -220,7 +260,10 @@ fn run_cover<R: Source, W: Sink, E: Write>(
         terms: request.terms,
         states: request.states,
     };
-    report_search(&ended, bounds, &mut messages.stream)
+    let mut stream = MutedStream::new(&mut messages.stream, out.is_unread());
+    let status = report_search(&ended, bounds, &mut stream);
+    hint_at_explanation(ended.refusal(), messages);
+    status
 }
 
 /// Answers words that make no request, with a hint if one of them names a file, and returns the status.
@@ -396,7 +439,7 @@ fn write_text<W: Sink, E: Write>(text: &str, out: &mut W, err: &mut E) -> u8
     match write_and_flush(out, text.as_bytes()) {
         Ok(()) => 0,
         Err(DeviceFailed) => {
-            report_failure(err, &Why::Write);
+            report_failure(&mut MutedStream::new(err, out.is_unread()), &Why::Write);
             6
         }
     }

@@ -7,7 +7,10 @@ ghost use Rattle.lotos_output.specs.WriteFaults.{is_output_fault};
 ghost use Rattle.lotos_tool.specs.RefusalCauses.{IsSearchRefusal};
 ghost use Rattle.lotos_tool.specs.Rejections.{IsRejectionBy, is_input_failure, is_input_fault};
 ghost use Rattle.lotos_tool.specs.SearchOutcome.{AreSearchParts, SearchOutcome};
-ghost use Rattle.lotos_tool.specs.ListingQuestions.{depth_state, length_state};
+ghost use Rattle.lotos_output.specs.ItemRuns.{runs_view};
+ghost use Rattle.lotos_output.specs.NamedRuns.{writes_runs};
+ghost use Rattle.lotos_tool.specs.ListingQuestions.{ListingState, depth_state, length_state};
+ghost use Rattle.lotos_tool.specs.WrittenItems.{AreRunsFor};
 ghost use Rattle.lotos_tool.specs.SearchParts.{IsOutcomeFor, IsSearchFor};
 ghost use Rattle.lotos_command.specs.declared.command.Extent.TheVariants.{Depth, Length};
 ghost use Rattle.lotos_report.specs.declared.outcome.Ended.TheVariants.{Stopped};
@@ -18,13 +21,14 @@ use crate::question_parts::{read_mark, read_pattern, refuse_unknown_gates};
 use crate::rejection::{Rejection, end_of};
 use crate::specification_input::read_asked;
 use lotos_check::Checked;
-use lotos_command::{Extent, SearchRequest};
+use lotos_command::{Extent, Runs, SearchRequest};
 use lotos_device::{Sink, Source};
+use lotos_ever::laws::match_question_is_unique;
 use lotos_length::LengthSearch;
 use lotos_length::laws::begun_length_search_has_question;
 use lotos_listing::Mark;
 use lotos_normal::NormalTable;
-use lotos_output::OutputProgress;
+use lotos_output::{ItemRuns, OutputProgress};
 use lotos_pattern::Pattern;
 use lotos_report::{Ended, Why};
 use lotos_search::Search;
@@ -65,11 +69,20 @@ pub fn list<R: Source, W: Sink, P: OutputProgress>(
     ensures output { W.has_failed writer.new ≡ is_output_fault result }
 {
     match read_parts(alloc, request, reader, progress) {
-        Ok((pattern, mark, system)) => list_system(
-            alloc, request, system, pattern, mark, writer, progress,
-        ),
+        Ok(parts) => list_system(alloc, request, parts, writer, progress),
         Err(rejection) => end_of(rejection),
     }
+}
+
+/// What was read for a request.
+#[derive(Drop)]
+struct SearchParts {
+    /// The specification that is asked.
+    system: Checked,
+    /// The pattern of the words.
+    pattern: Pattern,
+    /// The mark of the line, if one is given.
+    mark: Option<Mark>,
 }
 
 /// The pattern of the words, the mark of the line, and the specification that is asked, whose gates are known if the
@@ -79,11 +92,11 @@ fn read_parts<R: Source, P: OutputProgress>(
     request: &SearchRequest,
     reader: &mut R,
     progress: &mut P,
-) -> Result<(Pattern, Option<Mark>, Checked), Rejection>
+) -> Result<SearchParts, Rejection>
     requires reader { R.has_failed reader.old ≡ false }
-    ensures parts { IfOk result (λ (pattern, mark, system).
-        AreSearchParts request.now (R.remaining reader.old) (R.remaining reader.new) (system_of system)
-        pattern mark) }
+    ensures parts { IfOk result (λ parts.
+        AreSearchParts request.now (R.remaining reader.old) (R.remaining reader.new) (system_of parts.system)
+        parts.pattern parts.mark) }
     ensures rejected { IfErr result (IsRejectionBy (IsSearchRefusal request.now)
         (R.remaining reader.old) (R.remaining reader.new)) }
     ensures given { R.given reader.new ≤ R.given reader.old + (max_text_length + 1) }
@@ -93,43 +106,79 @@ fn read_parts<R: Source, P: OutputProgress>(
     let mark = read_mark(alloc, &request.after, request.strong)?;
     let system = read_asked(alloc, &request.interface, reader, progress)?;
     refuse_unknown_gates(alloc, &request.words, request.known, &system)?;
-    Ok((pattern, mark, system))
+    Ok(SearchParts {
+        system,
+        pattern,
+        mark,
+    })
 }
 
 /// Writes the listing of an accepted specification.
 fn list_system<W: Sink, P: OutputProgress>(
     alloc: Global,
     request: &SearchRequest,
-    system: Checked,
-    pattern: Pattern,
-    mark: Option<Mark>,
+    parts: SearchParts,
     writer: &mut W,
     progress: &mut P,
 ) -> Ended
     requires bounds { HasSearchBounds request.now }
     requires writer { W.has_failed writer.old ≡ false }
-    ensures outcome { IsOutcomeFor request.now (system_of system) pattern mark
+    ensures outcome { IsOutcomeFor request.now (system_of parts.system) parts.pattern parts.mark
+        (W.written writer.old) (W.written writer.new) result }
+    ensures failed { W.has_failed writer.new ≡ is_output_fault result }
+{
+    match begin_runs(alloc, request, &parts) {
+        Ok(mut runs) => list_items(alloc, request, parts, &mut runs, writer, progress),
+        Err(AllocError) => out_of_memory(),
+    }
+}
+
+/// Writes the items of the listing of an accepted specification, with their runs as is wanted.
+fn list_items<W: Sink, P: OutputProgress>(
+    alloc: Global,
+    request: &SearchRequest,
+    parts: SearchParts,
+    runs: &mut ItemRuns,
+    writer: &mut W,
+    progress: &mut P,
+) -> Ended
+    requires bounds { HasSearchBounds request.now }
+    requires runs { (search : ListingState) →
+        IsSearchFor request.now (system_of parts.system) parts.pattern parts.mark search →
+        AreRunsFor search.question request.now.runs (runs_view runs.old) }
+    requires writer { W.has_failed writer.old ≡ false }
+    ensures outcome { IsOutcomeFor request.now (system_of parts.system) parts.pattern parts.mark
         (W.written writer.old) (W.written writer.new) result }
     ensures failed { W.has_failed writer.new ≡ is_output_fault result }
 {
     let options = ListingOptions {
-        explain: request.explain,
+        runs: request.runs,
         limit: request.limit,
     };
     match request.extent {
-        Extent::Depth(depth) => {
-            match begin_by_depth(alloc, request, depth, system, pattern, mark) {
-                Ok(mut search) => write_listing(alloc, options, &mut search, writer, progress),
-                Err(AllocError) => out_of_memory(),
-            }
-        }
-        Extent::Length(length) => {
-            match begin_by_length(alloc, request, length, system, pattern, mark) {
-                Ok(mut search) => write_listing(alloc, options, &mut search, writer, progress),
-                Err(AllocError) => out_of_memory(),
-            }
-        }
+        Extent::Depth(depth) => match begin_by_depth(alloc, request, depth, parts) {
+            Ok(mut search) => write_listing(alloc, options, runs, &mut search, writer, progress),
+            Err(AllocError) => out_of_memory(),
+        },
+        Extent::Length(length) => match begin_by_length(alloc, request, length, parts) {
+            Ok(mut search) => write_listing(alloc, options, runs, &mut search, writer, progress),
+            Err(AllocError) => out_of_memory(),
+        },
     }
+}
+
+/// How the runs of the listing of an accepted specification are written.
+fn begin_runs(
+    alloc: Global,
+    request: &SearchRequest,
+    parts: &SearchParts,
+) -> Result<ItemRuns, AllocError>
+    ensures { IfOk result (λ runs. (search : ListingState) →
+        IsSearchFor request.now (system_of parts.now.system) parts.now.pattern parts.now.mark search →
+        AreRunsFor search.question request.now.runs (runs_view runs)) }
+{
+    match_question_is_unique();
+    ItemRuns::new(alloc, request.runs, &parts.system, &parts.pattern)
 }
 
 /// Begins the search of an accepted specification for the sequences of derivations of at most `depth` steps.
@@ -137,16 +186,19 @@ fn begin_by_depth(
     alloc: Global,
     request: &SearchRequest,
     depth: u8,
-    system: Checked,
-    pattern: Pattern,
-    mark: Option<Mark>,
+    parts: SearchParts,
 ) -> Result<Search, AllocError>
     requires some { 1 ≤ request.now.terms }
     requires extent { request.now.extent ≡ Depth depth }
-    ensures { IfOk result (λ search. IsSearchFor request.now (system_of system) pattern mark
-        (depth_state search)) }
+    ensures { IfOk result (λ search.
+        IsSearchFor request.now (system_of parts.system) parts.pattern parts.mark (depth_state search)) }
 {
     begun_search_has_question();
+    let SearchParts {
+        system,
+        pattern,
+        mark,
+    } = parts;
     let table = Table::new(alloc, system)?;
     table.recall_sound();
     Search::begin(alloc, table, pattern, depth, mark, request.terms)
@@ -158,17 +210,21 @@ fn begin_by_length(
     alloc: Global,
     request: &SearchRequest,
     length: u8,
-    system: Checked,
-    pattern: Pattern,
-    mark: Option<Mark>,
+    parts: SearchParts,
 ) -> Result<LengthSearch, AllocError>
     requires extent { request.now.extent ≡ Length length }
-    ensures { IfOk result (λ search. IsSearchFor request.now (system_of system) pattern mark
-        (length_state search)) }
+    ensures { IfOk result (λ search.
+        IsSearchFor request.now (system_of parts.system) parts.pattern parts.mark (length_state search)) }
 {
     begun_length_search_has_question();
+    let SearchParts {
+        system,
+        pattern,
+        mark,
+    } = parts;
     let table = NormalTable::new(alloc, system)?;
     table.recall_sound();
+    let with_runs = writes_runs(request.runs);
     LengthSearch::begin(
         alloc,
         table,
@@ -176,8 +232,18 @@ fn begin_by_length(
         length,
         request.terms,
         mark,
-        request.explain,
+        with_runs,
     )
+}
+
+/// Whether lines have runs.
+fn writes_runs(runs: Runs) -> bool
+    ensures { result ≡ writes_runs runs }
+{
+    match runs {
+        Runs::Omitted => false,
+        Runs::Labels | Runs::Origins => true,
+    }
 }
 
 /// The outcome if memory runs out before the listing begins.

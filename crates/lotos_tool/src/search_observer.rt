@@ -25,8 +25,9 @@ pub(crate) struct Observed<'a> {
     pub visited: Visited,
 }
 
-/// An observer that writes to an error stream: when a specification is accepted, which names in the words are none of
-/// its gates, if such words are not refused; and how far the search is, if that is asked for.
+/// An observer that writes to an error stream: whether a specification is read from the keyboard; when it is accepted,
+/// which names in the words are none of its gates, if such words are not refused; and how far the search is, if that is
+/// asked for.
 #[derive(Drop)]
 pub(crate) struct SearchObserver<'w, 'm, E> {
     alloc: Global,
@@ -81,12 +82,23 @@ impl<E: Write> Progress for SearchObserver<'_, '_, E> {
         }
     }
 
+    #[inline(always)]
+    fn reached(&mut self, terms: usize) {
+        if self.observed.reports_progress {
+            self.progress.reach(terms);
+        }
+    }
+
     fn found_none(&mut self, searched: Searched) {
         self.searched = Some(searched);
     }
 }
 
 impl<E: Write> OutputProgress for SearchObserver<'_, '_, E> {
+    fn before_text(&mut self) {
+        self.progress.before_text();
+    }
+
     fn accepted(&mut self, text: &[u8], accepted_text: &AcceptedText) {
         let gates = accepted_text.system.gates();
         let Ok(names) = unknown_names(self.alloc, self.observed.words, gates) else {

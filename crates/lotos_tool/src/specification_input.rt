@@ -38,7 +38,8 @@ pub fn read_specification<R: Source>(alloc: Global, reader: &mut R) -> Result<Ch
 
 /// Reads a whole text as [`read_specification`] does, and returns its specification with the gates hidden that the
 /// interface leaves out. If the text is accepted, the interface is refused with E52 where it has a name that is no gate
-/// of the specification's own list. Otherwise the observer is told of the text and of the specification that is returned.
+/// of the specification's own list. The observer is told before the text is read, and, if nothing is refused, of the text
+/// and of the specification that is returned.
 pub fn read_asked<R: Source, P: OutputProgress>(
     alloc: Global,
     interface: &Interface,
@@ -53,6 +54,7 @@ pub fn read_asked<R: Source, P: OutputProgress>(
     ensures given { R.given reader.new ≤ R.given reader.old + (max_text_length + 1) }
     ensures failed { R.has_failed reader.new ≡ is_input_failure result }
 {
+    progress.before_text();
     let text = read_input(alloc, reader)?;
     let asked_text = accept_asked(alloc, text.as_slice(), interface)?;
     progress.accepted(text.as_slice(), &asked_text);

@@ -1,8 +1,10 @@
 use Rattle.std.proofs.Common.{◌≡◌, ◌∙◌, Err, ap, false, refl, rules, subst, sym, true}
 use Rattle.lotos_tool.specs.ListingParts.{HasLastText, is_at_limit}
+use Rattle.lotos_tool.specs.WrittenItems.{AreRunsFor}
+use Rattle.lotos_output.specs.ItemRuns.{runs_view}
 use Rattle.lotos_tool.specs.ListingQuestions.{ListingQuestion, names_of}
 use Rattle.lotos_tool.proofs.Calls.{halt_failed, told_end, told_halt, returned_item}
-use Rattle.lotos_tool.proofs.ListingProgress.{below_limit, ends_finished, ends_halted, ends_limited, ends_unwritten, item_of, its_labels_now}
+use Rattle.lotos_tool.proofs.ListingProgress.{below_limit, ends_finished, ends_halted, ends_limited, ends_unwritten, its_labels_now, its_run_now}
 use Rattle.lotos_tool.proofs.ListingProgress.{none_below, progress_more, progress_none, text_kept, within_more}
 use Rattle.lotos_tool.proofs.listing_output.write_listing.Goals as goal
 
@@ -12,6 +14,7 @@ loop-found-init g c = record {
   progress = progress_none _ _ _ _;
   last = c.new-labels.ensures.items;
   below = none_below _ c.requires.limit;
+  runs = c.requires.runs;
   question = refl;
   stage = c.requires.begun;
   unfailed = c.requires.unfailed;
@@ -20,72 +23,105 @@ loop-found-init g c = record {
 pub returns-in-Ok-None-clause-ends : goal.returns-in-Ok-None-clause-ends
 returns-in-Ok-None-clause-ends g c =
     let inv = c.loop-found.invariant in
+    let old = g.S.ListingSearch.state c.loop-found.search in
+    let new = g.S.ListingSearch.state c.next_item.new.self in
     ends_finished _ _ _ _ c.strict_order.ensures.total _ _ _ _ inv.items inv.progress _ _ c.flush_complete.result inv.question
-    (told_end (g.S.ListingSearch.state c.loop-found.search) (g.S.ListingSearch.state c.next_item.new.self) _ inv.stage c.in-Ok-None.field-0-is c.in-Ok-None.ensures.next_returns) inv.below c.flush_complete.ensures.finished
+    (told_end old new _ inv.stage c.in-Ok-None.field-0-is c.in-Ok-None.ensures.next_returns) inv.below c.flush_complete.ensures.finished
 
 pub cause_of_halt-why-requires-clause-halt : goal.cause_of_halt-why-requires-clause-halt
 cause_of_halt-why-requires-clause-halt g c =
     let inv = c.loop-found.invariant in
-    ((g.S.ListingSearch.state c.loop-found.search).cursor, told_halt (g.S.ListingSearch.state c.loop-found.search) (g.S.ListingSearch.state c.next_item.new.self) c.in-Err.halt c.next_item.ensures.same inv.stage c.in-Err.ensures.next_returns)
+    let old = g.S.ListingSearch.state c.loop-found.search in
+    let new = g.S.ListingSearch.state c.next_item.new.self in
+    (old.cursor, told_halt old new c.in-Err.halt c.next_item.ensures.same inv.stage c.in-Err.ensures.next_returns)
 
 pub returns-in-Err-clause-ends : goal.returns-in-Err-clause-ends
 returns-in-Err-clause-ends g c =
     let inv = c.loop-found.invariant in
-    let halt = told_halt (g.S.ListingSearch.state c.loop-found.search) (g.S.ListingSearch.state c.next_item.new.self) c.in-Err.halt c.next_item.ensures.same inv.stage c.in-Err.ensures.next_returns in
-    ends_halted _ _ _ _ c.strict_order.ensures.total _ _ _ _ inv.items inv.progress _ _ _ c.cause_of_halt-why.result (c.next_item.ensures.same ∙ inv.question) inv.below
-    (c.cause_of_halt-why.ensures.cause (g.S.ListingSearch.state c.loop-found.search).cursor halt) c.cause_of_halt-why.ensures.kept
+    let old = g.S.ListingSearch.state c.loop-found.search in
+    let new = g.S.ListingSearch.state c.next_item.new.self in
+    let halt = told_halt old new c.in-Err.halt c.next_item.ensures.same inv.stage c.in-Err.ensures.next_returns in
+    ends_halted _ _ _ _ c.strict_order.ensures.total _ _ _ _ inv.items inv.progress _ _ _ c.cause_of_halt-why.result
+    (c.next_item.ensures.same ∙ inv.question)
+    inv.below
+    (c.cause_of_halt-why.ensures.cause old.cursor halt) c.cause_of_halt-why.ensures.kept
 
 pub returns-in-Err-clause-failed : goal.returns-in-Err-clause-failed
 returns-in-Err-clause-failed g c =
     let inv = c.loop-found.invariant in
-    let halt = told_halt (g.S.ListingSearch.state c.loop-found.search) (g.S.ListingSearch.state c.next_item.new.self) c.in-Err.halt c.next_item.ensures.same inv.stage c.in-Err.ensures.next_returns in
-    halt_failed (g.S.ListingSearch.state c.next_item.new.self).question (g.S.ListingSearch.state c.loop-found.search).cursor _ c.cause_of_halt-why.result (c.cause_of_halt-why.ensures.cause (g.S.ListingSearch.state c.loop-found.search).cursor halt)
+    let old = g.S.ListingSearch.state c.loop-found.search in
+    let new = g.S.ListingSearch.state c.next_item.new.self in
+    let halt = told_halt old new c.in-Err.halt c.next_item.ensures.same inv.stage c.in-Err.ensures.next_returns in
+    halt_failed new.question old.cursor _ c.cause_of_halt-why.result (c.cause_of_halt-why.ensures.cause old.cursor halt)
 
 pub write_item-requires-clause-printed : goal.write_item-requires-clause-printed
 write_item-requires-clause-printed g c =
     let inv = c.loop-found.invariant in
-    let returned = returned_item (g.S.ListingSearch.state c.loop-found.search) (g.S.ListingSearch.state c.next_item.new.self) _ _ inv.stage c.in-Ok-Some.field-0-is c.in-Ok-Some.ensures.next_returns in
-    its_labels_now (g.S.ListingSearch.state c.loop-found.search) (g.S.ListingSearch.state c.next_item.new.self) c.in-Ok-Some.found c.next_item.ensures.same returned.0
+    let old = g.S.ListingSearch.state c.loop-found.search in
+    let new = g.S.ListingSearch.state c.next_item.new.self in
+    let returned = returned_item old new _ _ inv.stage c.in-Ok-Some.field-0-is c.in-Ok-Some.ensures.next_returns in
+    its_labels_now old new c.in-Ok-Some.found c.next_item.ensures.same returned.0
 
 pub write_item-requires-clause-known : goal.write_item-requires-clause-known
 write_item-requires-clause-known g c =
     let inv = c.loop-found.invariant in
-    let names = names_of (g.S.ListingSearch.state c.next_item.new.self).question in
+    let new = g.S.ListingSearch.state c.next_item.new.self in
+    let names = names_of new.question in
     let same = sym (c.next_item.ensures.same ∙ inv.question) in
     let last = subst (λ (q : ListingQuestion). HasLastText (names_of q) c.loop-found.labels.items c.loop-found.last) same inv.last in
     c.text_of_last.ensures names _ (subst (λ ls. HasLastText names ls c.loop-found.last) (sym c.as_slice-known.ensures.value) last)
 
+pub write_item-requires-clause-run : goal.write_item-requires-clause-run
+write_item-requires-clause-run g c =
+    let inv = c.loop-found.invariant in
+    let old = g.S.ListingSearch.state c.loop-found.search in
+    let new = g.S.ListingSearch.state c.next_item.new.self in
+    let returned = returned_item old new _ _ inv.stage c.in-Ok-Some.field-0-is c.in-Ok-Some.ensures.next_returns in
+    its_run_now c.label_text_is_unique.ensures old new c.in-Ok-Some.found c.args.options.runs (runs_view c.loop-found.runs) c.next_item.ensures.same
+    (subst (λ (q : ListingQuestion). AreRunsFor q c.args.options.runs (runs_view c.loop-found.runs)) (sym inv.question) inv.runs) returned.0
+
 pub returns-in-Err-write_item-clause-ends : goal.returns-in-Err-write_item-clause-ends
 returns-in-Err-write_item-clause-ends g c =
     let inv = c.loop-found.invariant in
-    let returned = returned_item (g.S.ListingSearch.state c.loop-found.search) (g.S.ListingSearch.state c.next_item.new.self) _ _ inv.stage c.in-Ok-Some.field-0-is c.in-Ok-Some.ensures.next_returns in
+    let old = g.S.ListingSearch.state c.loop-found.search in
+    let new = g.S.ListingSearch.state c.next_item.new.self in
+    let returned = returned_item old new _ _ inv.stage c.in-Ok-Some.field-0-is c.in-Ok-Some.ensures.next_returns in
     let failed = c.in-Err-write_item.ensures in
-    ends_unwritten _ _ _ _ c.strict_order.ensures.total _ _ _ _ inv.items inv.progress _ _ _ _ _ c.in-Err-write_item.why inv.question (c.next_item.ensures.same ∙ inv.question) returned.0 inv.below
+    ends_unwritten _ _ _ _ c.strict_order.ensures.total _ _ _ _ inv.items inv.progress _ _ _ _ _ c.in-Err-write_item.why inv.question
+    (c.next_item.ensures.same ∙ inv.question) returned.0
+    (runs_view c.loop-found.runs) inv.runs inv.below
     failed.causes (λ e. failed.memory (ap Err e)) (λ e. failed.part (ap Err e))
 
 pub returns-then-is_at_limit-clause-ends : goal.returns-then-is_at_limit-clause-ends
 returns-then-is_at_limit-clause-ends g c =
     let inv = c.loop-found.invariant in
-    let returned = returned_item (g.S.ListingSearch.state c.loop-found.search) (g.S.ListingSearch.state c.next_item.new.self) _ _ inv.stage c.in-Ok-Some.field-0-is c.in-Ok-Some.ensures.next_returns in
-    let more = progress_more _ _ _ _ c.strict_order.ensures.total _ _ _ _ inv.items inv.progress _ _ _ _ _ _ c.in-Ok.text inv.question (c.next_item.ensures.same ∙ inv.question) returned.0
-    c.in-Ok.ensures.whole c.in-Ok.ensures.text c.saturating_add-lines.ensures in
+    let old = g.S.ListingSearch.state c.loop-found.search in
+    let new = g.S.ListingSearch.state c.next_item.new.self in
+    let returned = returned_item old new _ _ inv.stage c.in-Ok-Some.field-0-is c.in-Ok-Some.ensures.next_returns in
+    let more = progress_more _ _ _ _ c.strict_order.ensures.total _ _ _ _ inv.items inv.progress _ _ _ _ _ _ c.in-Ok.text inv.question
+    (c.next_item.ensures.same ∙ inv.question) returned.0
+    (runs_view c.loop-found.runs) inv.runs c.in-Ok.ensures.whole c.in-Ok.ensures.text c.saturating_add-lines.ensures in
     let at : is_at_limit c.saturating_add-lines.result c.args.options.limit ≡ true = search rules in
     ends_limited _ _ _ _ c.strict_order.ensures.total _ _ _ _ _ more _ _ c.flush_stopped-why.result c.is_at_limit.ensures.small at
-    (within_more inv.items (item_of _ _ _ _ returned.0) c.args.options.limit inv.below) c.flush_stopped-why.ensures.cause c.flush_stopped-why.ensures.kept
+    (within_more inv.items c.in-Ok.ensures.whole.0 c.args.options.limit inv.below) c.flush_stopped-why.ensures.cause c.flush_stopped-why.ensures.kept
 
 pub loop-found-preserved : goal.loop-found-preserved
 loop-found-preserved g c =
     let inv = c.loop-found.invariant in
-    let returned = returned_item (g.S.ListingSearch.state c.loop-found.search) (g.S.ListingSearch.state c.next_item.new.self) _ _ inv.stage c.in-Ok-Some.field-0-is c.in-Ok-Some.ensures.next_returns in
-    let more = progress_more _ _ _ _ c.strict_order.ensures.total _ _ _ _ inv.items inv.progress _ _ _ _ _ _ c.in-Ok.text inv.question (c.next_item.ensures.same ∙ inv.question) returned.0
-    c.in-Ok.ensures.whole c.in-Ok.ensures.text c.saturating_add-lines.ensures in
+    let old = g.S.ListingSearch.state c.loop-found.search in
+    let new = g.S.ListingSearch.state c.next_item.new.self in
+    let returned = returned_item old new _ _ inv.stage c.in-Ok-Some.field-0-is c.in-Ok-Some.ensures.next_returns in
+    let more = progress_more _ _ _ _ c.strict_order.ensures.total _ _ _ _ inv.items inv.progress _ _ _ _ _ _ c.in-Ok.text inv.question
+    (c.next_item.ensures.same ∙ inv.question) returned.0
+    (runs_view c.loop-found.runs) inv.runs c.in-Ok.ensures.whole c.in-Ok.ensures.text c.saturating_add-lines.ensures in
     let at : is_at_limit c.saturating_add-lines.result c.args.options.limit ≡ false = search rules in
     record {
       items = _;
       progress = more;
-      last = text_kept (g.S.ListingSearch.state c.loop-found.search) (g.S.ListingSearch.state c.next_item.new.self) c.in-Ok-Some.found c.in-Ok.text _
+      last = text_kept old new c.in-Ok-Some.found c.in-Ok.text _
           c.next_item.ensures.same inv.question returned.0 c.in-Ok.ensures.text;
-      below = below_limit _ _ _ at more.count (within_more inv.items (item_of _ _ _ _ returned.0) c.args.options.limit inv.below) c.is_at_limit.ensures.small;
+      below = below_limit _ _ _ at more.count (within_more inv.items c.in-Ok.ensures.whole.0 c.args.options.limit inv.below) c.is_at_limit.ensures.small;
+      runs = subst (AreRunsFor _ c.args.options.runs) (sym c.write_item.ensures.same) inv.runs;
       question = c.next_item.ensures.same ∙ inv.question;
       stage = returned.1;
       unfailed = c.in-Ok.ensures.failed;

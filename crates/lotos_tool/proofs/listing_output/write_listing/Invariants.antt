@@ -4,6 +4,8 @@ use Rattle.lotos_listing.specs.Remaining.{remaining}
 use Rattle.lotos_tool.specs.ListingQuestions.{most_of, names_of}
 use Rattle.lotos_tool.specs.ListingOutcome.{IsBelowLimit}
 use Rattle.lotos_tool.specs.ListingParts.{HasLastText}
+use Rattle.lotos_tool.specs.WrittenItems.{AreRunsFor}
+use Rattle.lotos_output.specs.ItemRuns.{runs_view}
 use Rattle.lotos_output.specs.OutputLines.{Item}
 use Rattle.lotos_tool.proofs.ListingProgress.{Progress}
 use Rattle.lotos_tool.proofs.listing_output.write_listing.Given as goal
@@ -20,6 +22,7 @@ invariant-loop-found g l =
           now.cursor l.lines l.last items;
       last : HasLastText (names_of begun.question) l.labels.items l.last;
       below : IsBelowLimit (length items) l.fn.options.limit;
+      runs : AreRunsFor begun.question l.fn.options.runs (runs_view l.runs);
       question : now.question ≡ begun.question;
       stage : now.stage ≡ running;
       unfailed : g.W.Sink.has_failed l.writer ≡ false;

@@ -1,10 +1,7 @@
 use Rattle.std.proofs.Common.{◌≡◌, ℕ, Bool, List, Option, inl, inr, rules, subst}
-use Rattle.lotos_tool.specs.CheckOutcome.{CheckOutcome}
-use Rattle.lotos_tool.specs.Rejections.{is_input_fault}
 use Rattle.lotos_command.specs.Request.{RequestOf, request_view}
 use Rattle.lotos_tool.specs.ProgramRuns.{AfterRan, AfterReported, CheckRan, CheckReported, CoverRan, CoverReported, EverRan, EverReported, SearchRan}
-use Rattle.lotos_tool.specs.ProgramRuns.{SearchReported, check_status_of}
-use Rattle.lotos_report.specs.declared.outcome.Ended.{Ended}
+use Rattle.lotos_tool.specs.ProgramRuns.{SearchReported}
 use Rattle.lotos_command.specs.declared.command.Request.{Request}
 use Rattle.lotos_command.specs.declared.command.Request.TheVariants as one
 use Rattle.lotos_command.specs.declared.command.AfterRequest.{AfterRequest}
@@ -22,11 +19,11 @@ module _ (words : List (List ℕ)) (left left' got got' : Option (List ℕ)) (br
       let Asks : Request → Type 0 = λ r. RequestOf words (request_view r) in
       record { request = request; asked = subst Asks is asks; reported = reported }
 
-  inspected : (asked : Request) (ended : Ended) → CheckOutcome left left' got got' ended → broken ≡ is_input_fault ended → status ≡ check_status_of ended
-      → asked ≡ one.Check → RequestOf words (request_view asked) → CheckRan words left left' got got' broken status
-  inspected asked ended answers input status_is is asks =
+  inspected : (asked : Request) → CheckReported left left' got got' broken status → asked ≡ one.Check → RequestOf words (request_view asked)
+      → CheckRan words left left' got got' broken status
+  inspected asked reported is asks =
       let Asks : Request → Type 0 = λ r. RequestOf words (request_view r) in
-      record { asked = inl (subst Asks is asks); reported = record { ended = ended; answered = answers; input = input; status_is = status_is } }
+      record { asked = inl (subst Asks is asks); reported = reported }
 
   diagnosed : (asked : Request) (request : DiagnoseRequest) → CheckReported left left' got got' broken status → asked ≡ one.Diagnose request
       → RequestOf words (request_view asked) → CheckRan words left left' got got' broken status
@@ -67,13 +64,12 @@ returns-in-Ok-Ever-clause-ran g c =
     inr (inr (inl (questioned _ _ _ _ _ _ _ c.in-Ok-Ever.field-0 c.in-Ok-Ever.asked c.run_ever.ensures.reported (search rules) c.in-Ok-Ever.ensures.is)))
 
 pub returns-in-Ok-Check-clause-ran : goal.returns-in-Ok-Check-clause-ran
-returns-in-Ok-Check-clause-ran g c =
-    inr (inl (inspected _ _ _ _ _ _ _ _ c.check_text.result c.check_text.ensures.answers c.check_text.ensures.input c.report_check.ensures.status
-    (search rules) c.in-Ok-Check.ensures.is))
+returns-in-Ok-Check-clause-ran g c = inr (inl (inspected _ _ _ _ _ _ _ _ c.run_check.ensures.reported (search rules) c.in-Ok-Check.ensures.is))
 
 pub returns-in-Ok-Diagnose-clause-ran : goal.returns-in-Ok-Diagnose-clause-ran
 returns-in-Ok-Diagnose-clause-ran g c =
-    inr (inl (diagnosed _ _ _ _ _ _ _ c.in-Ok-Diagnose.field-0 c.in-Ok-Diagnose.asked c.diagnose.ensures.reported (search rules) c.in-Ok-Diagnose.ensures.is))
+    inr (inl (diagnosed _ _ _ _ _ _ _ c.in-Ok-Diagnose.field-0 c.in-Ok-Diagnose.asked c.run_diagnosis.ensures.reported (search rules)
+    c.in-Ok-Diagnose.ensures.is))
 
 pub returns-in-Ok-Search-clause-ran : goal.returns-in-Ok-Search-clause-ran
 returns-in-Ok-Search-clause-ran g c =
