@@ -1,7 +1,11 @@
 //! Specifications, checked ones and tables, retried after an allocation failure.
+ghost use Rattle.std.specs.Prelude.{IfOk};
+ghost use Rattle.lotos_text.specs.AstOf.{definition_view};
+ghost use Rattle.lotos_check.specs.Acceptance.{IsAccepted};
+ghost use Rattle.lotos_check.specs.CheckedView.{system_of};
 
 use crate::retry_heap::{Heap, Stop};
-use lotos_check::{AcceptFault, Checked, accept};
+use lotos_check::{AcceptFault, CheckFault, Checked, accept, check};
 use lotos_normal::NormalTable;
 use lotos_terms::Table;
 use lotos_text::{Specification, TextFault, parse};
@@ -12,6 +16,20 @@ pub fn parsed(heap: &mut Heap, text: &str) -> Result<Specification, TextFault> {
         Err(TextFault::E99(_)) => {
             heap.count_failure();
             parse(heap.alloc, text.as_bytes())
+        }
+        answer => answer,
+    }
+}
+
+/// The checked specification, of one that is parsed.
+pub fn checked(heap: &mut Heap, specification: &Specification) -> Result<Checked, CheckFault>
+    ensures { IfOk result (λ system.
+        IsAccepted (definition_view specification.now.whole) (system_of system)) }
+{
+    match check(heap.alloc, specification) {
+        Err(CheckFault::E99(_)) => {
+            heap.count_failure();
+            check(heap.alloc, specification)
         }
         answer => answer,
     }

@@ -1,15 +1,18 @@
-//! Makes each public call that allocates, over tables of arguments, and writes what it returns.
+//! Makes public calls that allocate, over tables of arguments, and writes what they return. `docs/ARCHITECTURE.md` says
+//! which calls are left out.
 //!
 //! A call that runs out of memory is retried with the same arguments, and the second result is written. So the output
 //! is the same whichever one allocation fails, as long as the call reports the failure and leaves its borrowed
 //! arguments unchanged. The number of retried calls is written to standard error.
 #![tactic(auto)]
 
+mod after_calls;
 mod ast_lines;
 mod check_calls;
 mod compiled_calls;
 mod cover_calls;
 mod end_calls;
+mod explain_calls;
 mod front_end;
 mod item_search;
 mod lexing_calls;
@@ -25,6 +28,7 @@ mod search_calls;
 mod set_calls;
 mod system_lines;
 mod table_calls;
+mod warn_calls;
 
 use retry_heap::{Heap, Stop};
 use std::process::ExitCode;
@@ -47,6 +51,8 @@ fn main(rt: HostRuntime) -> ExitCode {
 fn all(rt: &impl Print, heap: &mut Heap) -> Result<(), Stop> {
     lexing_calls::rows(rt, heap)?;
     check_calls::rows(rt, heap)?;
+    explain_calls::rows(rt, heap)?;
+    warn_calls::rows(rt, heap)?;
     pattern_calls::rows(rt, heap)?;
     compiled_calls::rows(rt, heap)?;
     mark_calls::rows(rt, heap)?;
@@ -54,6 +60,7 @@ fn all(rt: &impl Print, heap: &mut Heap) -> Result<(), Stop> {
     match_calls::rows(rt, heap)?;
     end_calls::rows(rt, heap)?;
     set_calls::rows(rt, heap)?;
+    after_calls::rows(rt, heap)?;
     cover_calls::rows(rt, heap)?;
     request_calls::rows(rt, heap)?;
     read_calls::rows(rt, heap)

@@ -1,8 +1,10 @@
 //! The heap with its count of failed calls, and why the program stops.
 
-use lotos_check::AcceptFault;
+use lotos_after::WordFault;
+use lotos_check::{AcceptFault, CheckFault};
 use lotos_listing::MarkFault;
 use lotos_pattern::PatternFault;
+use lotos_text::TextFault;
 use std::alloc::{AllocError, AllocFailed, Global};
 use std::{fmt, io};
 
@@ -71,6 +73,30 @@ impl From<AcceptFault> for Stop {
             AcceptFault::Text(_) | AcceptFault::Check(_) => Stop::Row,
             AcceptFault::Memory => Stop::Memory,
         }
+    }
+}
+
+impl From<TextFault> for Stop {
+    fn from(fault: TextFault) -> Stop {
+        match fault {
+            TextFault::E99(_) => Stop::Memory,
+            _ => Stop::Row,
+        }
+    }
+}
+
+impl From<CheckFault> for Stop {
+    fn from(fault: CheckFault) -> Stop {
+        match fault {
+            CheckFault::E99(_) => Stop::Memory,
+            _ => Stop::Row,
+        }
+    }
+}
+
+impl From<WordFault> for Stop {
+    fn from(_fault: WordFault) -> Stop {
+        Stop::Row
     }
 }
 

@@ -63,17 +63,17 @@ const OFFERED_GATES: &[Row] = &[
     (
         "a gate in a list only is used, and neither side offers it",
         "specification S [a] : noexit behaviour stop |[a]| stop endspec",
-        "46 gate A of `|[..]|` is never offered on the left\n46 gate A of `|[..]|` is never offered on the right\n",
+        "14 the behaviour of S can do nothing: no action, no internal step, no termination\n46 gate A of `|[..]|` is never offered on the left\n46 gate A of `|[..]|` is never offered on the right\n",
     ),
     (
         "a gate that one side offers",
         "specification S [a] : noexit behaviour a; stop |[a]| stop endspec",
-        "49 gate A of `|[..]|` is never offered on the right\n",
+        "14 the behaviour of S can do nothing: no action, no internal step, no termination\n49 gate A of `|[..]|` is never offered on the right\n",
     ),
     (
         "a gate that the other side offers",
         "specification S [a] : noexit behaviour stop |[a]| a; stop endspec",
-        "46 gate A of `|[..]|` is never offered on the left\n",
+        "14 the behaviour of S can do nothing: no action, no internal step, no termination\n46 gate A of `|[..]|` is never offered on the left\n",
     ),
     (
         "a gate that both sides offer",
@@ -93,7 +93,7 @@ const OFFERED_GATES: &[Row] = &[
     (
         "a gate in the list of an inner composition is not offered by it",
         "specification S [a] : noexit behaviour (stop |[a]| stop) |[a]| a; stop endspec",
-        "47 gate A of `|[..]|` is never offered on the left\n47 gate A of `|[..]|` is never offered on the right\n59 gate A of `|[..]|` is never offered on the left\n",
+        "14 the behaviour of S can do nothing: no action, no internal step, no termination\n47 gate A of `|[..]|` is never offered on the left\n47 gate A of `|[..]|` is never offered on the right\n59 gate A of `|[..]|` is never offered on the left\n",
     ),
     (
         "a gate that an operand of an operand offers",
@@ -132,27 +132,27 @@ const COMPOSITIONS: &[Row] = &[
     (
         "a gate twice in a list",
         "specification S [a] : noexit behaviour a; stop |[a, a]| stop endspec",
-        "49 gate A of `|[..]|` is never offered on the right\n",
+        "14 the behaviour of S can do nothing: no action, no internal step, no termination\n49 gate A of `|[..]|` is never offered on the right\n",
     ),
     (
         "a gate three times in a list, with another between",
         "specification S [a, b] : noexit behaviour stop |[a, b, A, a]| b; stop endspec",
-        "49 gate A of `|[..]|` is never offered on the left\n49 gate A of `|[..]|` is never offered on the right\n52 gate B of `|[..]|` is never offered on the left\n",
+        "14 the behaviour of S can do nothing: no action, no internal step, no termination\n49 gate A of `|[..]|` is never offered on the left\n49 gate A of `|[..]|` is never offered on the right\n52 gate B of `|[..]|` is never offered on the left\n",
     ),
     (
         "a gate in three lists",
         "specification S [a] : noexit behaviour (stop |[a]| a; stop) |[a]| (stop |[a]| a; stop) endspec",
-        "47 gate A of `|[..]|` is never offered on the left\n74 gate A of `|[..]|` is never offered on the left\n",
+        "14 the behaviour of S can do nothing: no action, no internal step, no termination\n47 gate A of `|[..]|` is never offered on the left\n74 gate A of `|[..]|` is never offered on the left\n",
     ),
     (
         "two gates, each side with another",
         "specification S [a, b] : noexit behaviour a; stop |[b, a]| b; stop endspec",
-        "52 gate B of `|[..]|` is never offered on the left\n55 gate A of `|[..]|` is never offered on the right\n",
+        "14 the behaviour of S can do nothing: no action, no internal step, no termination\n52 gate B of `|[..]|` is never offered on the left\n55 gate A of `|[..]|` is never offered on the right\n",
     ),
     (
         "names in other letter case",
         "specification s [Ab] : noexit behaviour aB; stop |[AB]| stop endspec",
-        "51 gate AB of `|[..]|` is never offered on the right\n",
+        "14 the behaviour of S can do nothing: no action, no internal step, no termination\n51 gate AB of `|[..]|` is never offered on the right\n",
     ),
 ];
 
@@ -166,17 +166,17 @@ const PROCESSES: &[Row] = &[
     (
         "a process that is called",
         "specification S : noexit behaviour P where process P : noexit := stop endproc endspec",
-        "",
+        "14 the behaviour of S can do nothing: no action, no internal step, no termination\n",
     ),
     (
         "of two processes of one name the inner one is called",
         "specification S : noexit behaviour Q where process P : noexit := stop endproc process Q : noexit := P where process P : noexit := stop endproc endproc endspec",
-        "51 process P is never called\n",
+        "14 the behaviour of S can do nothing: no action, no internal step, no termination\n51 process P is never called\n",
     ),
     (
         "of two processes of one name the outer one is called",
         "specification S : noexit behaviour P ||| Q where process P : noexit := stop endproc process Q : noexit := stop where process P : noexit := stop endproc endproc endspec",
-        "125 process P is never called\n",
+        "14 the behaviour of S can do nothing: no action, no internal step, no termination\n125 process P is never called\n",
     ),
     (
         "a process with the name of the specification",
@@ -201,7 +201,7 @@ const PROCESSES: &[Row] = &[
     (
         "several warnings in the order of the text",
         "specification S [a, b] : noexit behaviour P[a] |[a]| stop where process P [x] : noexit := x; (stop |[x]| x; stop) endproc process Q [y] : noexit := stop endproc endspec",
-        "20 gate B of S is not used\n49 gate A of `|[..]|` is never offered on the right\n101 gate X of `|[..]|` is never offered on the left\n130 process Q is never called\n133 gate Y of Q is not used\n",
+        "14 the behaviour of S can do nothing: no action, no internal step, no termination\n20 gate B of S is not used\n49 gate A of `|[..]|` is never offered on the right\n101 gate X of `|[..]|` is never offered on the left\n130 process Q is never called\n133 gate Y of Q is not used\n",
     ),
 ];
 
@@ -240,7 +240,7 @@ const REACHED_PROCESSES: &[Row] = &[
     (
         "a process that calls one that is reached",
         "specification S : noexit behaviour P where process P : noexit := stop endproc process Q : noexit := i; (P [] Q) endproc endspec",
-        "86 process Q is never reached from the behaviour of the specification\n",
+        "14 the behaviour of S can do nothing: no action, no internal step, no termination\n86 process Q is never reached from the behaviour of the specification\n",
     ),
     (
         "an inner process that only its own process calls, which is not called",
@@ -260,7 +260,7 @@ const REACHED_PROCESSES: &[Row] = &[
     (
         "of two processes of one name the outer one calls itself",
         "specification S : noexit behaviour Q where process P : noexit := i; P endproc process Q : noexit := P where process P : noexit := stop endproc endproc endspec",
-        "51 process P is never reached from the behaviour of the specification\n",
+        "14 the behaviour of S can do nothing: no action, no internal step, no termination\n51 process P is never reached from the behaviour of the specification\n",
     ),
     (
         "of two processes of one name the inner one calls itself",
@@ -299,7 +299,7 @@ const LONG_NAMES: &[Row] = &[
     (
         "a gate with a long name in a list",
         "specification p012345678901234567890123456789012345678901234567890123456789123 [p0123456789012345678901234567890123456789012345678901234567891235] : noexit behaviour p0123456789012345678901234567890123456789012345678901234567891235; stop |[p0123456789012345678901234567890123456789012345678901234567891235]| stop endspec",
-        "240 gate P012345678901234567890123456789012345678901234567890123456789123... of `|[..]|` is never offered on the right\n",
+        "14 the behaviour of P012345678901234567890123456789012345678901234567890123456789123 can do nothing: no action, no internal step, no termination\n240 gate P012345678901234567890123456789012345678901234567890123456789123... of `|[..]|` is never offered on the right\n",
     ),
     (
         "a specification with a name of 64 bytes",
@@ -438,6 +438,159 @@ const TERMINATION_OF_PARTS: &[Row] = &[
         "a long name",
         "specification S : exit behaviour exit [] p0123456789012345678901234567890123456789012345678901234567891234 where process p0123456789012345678901234567890123456789012345678901234567891234 : exit := i; p0123456789012345678901234567890123456789012345678901234567891234 endproc endspec",
         "121 P012345678901234567890123456789012345678901234567890123456789123... is declared exit, but can never terminate\n",
+    ),
+];
+
+/// Behaviours that can do nothing, and others that can do something.
+const DEAD_STARTS: &[Row] = &[
+    (
+        "two gates in full synchronization",
+        "specification S [a, b] : noexit behaviour a; stop || b; stop endspec",
+        "14 the behaviour of S can do nothing: no action, no internal step, no termination\n",
+    ),
+    (
+        "one gate in full synchronization",
+        "specification S [a] : noexit behaviour a; stop || a; stop endspec",
+        "",
+    ),
+    (
+        "an internal step in full synchronization",
+        "specification S [a] : noexit behaviour a; stop || i; stop endspec",
+        "",
+    ),
+    (
+        "a list of two gates, of which each side offers another",
+        "specification S [a, b] : noexit behaviour a; stop |[a, b]| b; stop endspec",
+        "14 the behaviour of S can do nothing: no action, no internal step, no termination\n52 gate A of `|[..]|` is never offered on the right\n55 gate B of `|[..]|` is never offered on the left\n",
+    ),
+    (
+        "gates that are offered, but not at once",
+        "specification S [a, b] : noexit behaviour a; b; stop |[a, b]| b; a; stop endspec",
+        "14 the behaviour of S can do nothing: no action, no internal step, no termination\n",
+    ),
+    (
+        "a gate that is not in the list",
+        "specification S [a, b] : noexit behaviour a; stop |[b]| b; stop endspec",
+        "52 gate B of `|[..]|` is never offered on the left\n",
+    ),
+    (
+        "a gate that is hidden on one side",
+        "specification S [a] : noexit behaviour (hide a in a; stop) || a; stop endspec",
+        "",
+    ),
+    (
+        "a gate that is hidden around both sides",
+        "specification S [b] : noexit behaviour hide a in (a; stop || b; stop) endspec",
+        "14 the behaviour of S can do nothing: no action, no internal step, no termination\n",
+    ),
+    (
+        "the choice of two",
+        "specification S [a, b] : noexit behaviour (a; stop || b; stop) [] (b; stop || a; stop) endspec",
+        "14 the behaviour of S can do nothing: no action, no internal step, no termination\n",
+    ),
+    (
+        "the choice of one and an action",
+        "specification S [a, b] : noexit behaviour (a; stop || b; stop) [] b; stop endspec",
+        "",
+    ),
+    (
+        "the choice of `stop` and `stop`",
+        "specification S : noexit behaviour stop [] stop endspec",
+        "14 the behaviour of S can do nothing: no action, no internal step, no termination\n",
+    ),
+    (
+        "`stop` itself",
+        "specification S : noexit behaviour stop endspec",
+        "",
+    ),
+];
+
+/// The same with termination, and through calls.
+const DEAD_STARTS_OF_PARTS: &[Row] = &[
+    (
+        "`exit` beside `stop`",
+        "specification S : noexit behaviour exit ||| stop endspec",
+        "14 the behaviour of S can do nothing: no action, no internal step, no termination\n",
+    ),
+    (
+        "`exit` in full synchronization with `stop`",
+        "specification S : noexit behaviour exit || stop endspec",
+        "14 the behaviour of S can do nothing: no action, no internal step, no termination\n",
+    ),
+    (
+        "two times `exit`",
+        "specification S : exit behaviour exit ||| exit endspec",
+        "",
+    ),
+    (
+        "`exit` inside a hiding",
+        "specification S : exit behaviour hide a in exit endspec",
+        "",
+    ),
+    (
+        "`>>` after what can do nothing",
+        "specification S [a, b] : noexit behaviour (exit || a; exit) >> b; stop endspec",
+        "14 the behaviour of S can do nothing: no action, no internal step, no termination\n",
+    ),
+    (
+        "`>>` after `exit`",
+        "specification S : noexit behaviour exit >> stop endspec",
+        "",
+    ),
+    (
+        "`[>` between two that can do nothing",
+        "specification S [a, b] : noexit behaviour (a; stop || b; stop) [> (stop ||| stop) endspec",
+        "14 the behaviour of S can do nothing: no action, no internal step, no termination\n",
+    ),
+    (
+        "`[>` before an action",
+        "specification S [a, b] : noexit behaviour (a; stop || b; stop) [> a; stop endspec",
+        "",
+    ),
+    (
+        "`[>` after `exit`",
+        "specification S [a, b] : exit behaviour exit [> (a; exit || b; exit) endspec",
+        "",
+    ),
+    (
+        "gates that are exchanged in a call",
+        "specification S [a, b] : noexit behaviour P[a, b] || P[b, a] where process P [x, y] : noexit := x; y; stop endproc endspec",
+        "14 the behaviour of S can do nothing: no action, no internal step, no termination\n",
+    ),
+    (
+        "gates in one order in two calls",
+        "specification S [a, b] : noexit behaviour P[a, b] || P[a, b] where process P [x, y] : noexit := x; y; stop endproc endspec",
+        "",
+    ),
+    (
+        "two formal gates that are one actual gate",
+        "specification S [a, b] : noexit behaviour P[a, a] || P[b, b] where process P [x, y] : noexit := x; stop [] y; stop endproc endspec",
+        "14 the behaviour of S can do nothing: no action, no internal step, no termination\n",
+    ),
+    (
+        "gates with the names of formal ones",
+        "specification S [x, y] : noexit behaviour P[y, x] || x; stop where process P [x, y] : noexit := x; y; stop endproc endspec",
+        "14 the behaviour of S can do nothing: no action, no internal step, no termination\n",
+    ),
+    (
+        "calls after an action",
+        "specification S [a, b] : noexit behaviour P[a] || P[b] where process P [x] : noexit := x; P[x] endproc endspec",
+        "14 the behaviour of S can do nothing: no action, no internal step, no termination\n",
+    ),
+    (
+        "calls of calls, of processes before and after",
+        "specification S [a, b] : noexit behaviour P[a] || R[b] where process P [x] : noexit := Q[x] endproc process Q [x] : noexit := x; R[x] endproc process R [x] : noexit := P[x] endproc endspec",
+        "14 the behaviour of S can do nothing: no action, no internal step, no termination\n",
+    ),
+    (
+        "the same with one gate",
+        "specification S [a] : noexit behaviour P[a] || R[a] where process P [x] : noexit := Q[x] endproc process Q [x] : noexit := x; R[x] endproc process R [x] : noexit := P[x] endproc endspec",
+        "",
+    ),
+    (
+        "one that is declared `exit`",
+        "specification S [a, b] : exit behaviour P[a] || P[b] where process P [x] : exit := x; P[x] endproc endspec",
+        "14 S is declared exit, but can never terminate\n14 the behaviour of S can do nothing: no action, no internal step, no termination\n67 P is declared exit, but can never terminate\n",
     ),
 ];
 
@@ -601,7 +754,7 @@ fn long_body(alloc: Global) -> Result<String, AllocError> {
 }
 
 /// A specification with 3,000 gates in a list: the left side has 30,000 actions and offers each, the right side offers
-/// none.
+/// none. So it can do nothing.
 fn long_text(alloc: Global) -> Result<String, AllocError> {
     let gates = numbered(alloc, "a", ",", GATES)?;
     let body = long_body(alloc)?;
@@ -667,16 +820,26 @@ fn counts_of(alloc: Global, accepted: &AcceptedText) -> Result<(usize, usize), A
 }
 
 #[test]
+fn warns_about_behaviours_that_can_do_nothing(rt: HostRuntime) -> Result<(), Fail> {
+    Ok(assert_rows(&rt, rt.alloc(), DEAD_STARTS)?)
+}
+
+#[test]
+fn warns_about_parts_that_can_do_nothing(rt: HostRuntime) -> Result<(), Fail> {
+    Ok(assert_rows(&rt, rt.alloc(), DEAD_STARTS_OF_PARTS)?)
+}
+
+#[test]
 fn warns_about_each_gate_of_a_long_text(rt: HostRuntime) -> Result<(), Fail> {
     let text = long_text(rt.alloc())?;
     let (all, right) = warning_counts(rt.alloc(), text.as_str())?;
-    assert_eq!(rt; all, GATES);
+    assert_eq!(rt; all, GATES + 1);
     assert_eq!(rt; right, GATES);
     Ok(())
 }
 
 /// A specification with a name of 100,000 bytes and 20,000 gates, none of which is used, and a list with one gate 20,000
-/// times.
+/// times, around which both sides can do nothing.
 fn long_name_text(alloc: Global) -> Result<String, AllocError> {
     let name = repeated(alloc, "s", 100000)?;
     let gates = numbered(alloc, "a", ",", 20000)?;
@@ -707,7 +870,7 @@ fn repeated(alloc: Global, piece: &str, count: usize) -> Result<String, AllocErr
 fn warns_about_many_gates_of_a_long_name(rt: HostRuntime) -> Result<(), Fail> {
     let text = long_name_text(rt.alloc())?;
     let (all, right) = warning_counts(rt.alloc(), text.as_str())?;
-    assert_eq!(rt; all, 20001);
+    assert_eq!(rt; all, 20002);
     assert_eq!(rt; right, 1);
     Ok(())
 }
@@ -753,5 +916,52 @@ fn warns_about_lists_around_a_call_with_many_gates(rt: HostRuntime) -> Result<()
     let (all, right) = warning_counts(rt.alloc(), text.as_str())?;
     assert_eq!(rt; all, LISTS);
     assert_eq!(rt; right, 0);
+    Ok(())
+}
+
+/// How many processes the chain has.
+const PROCESSES_OF_CHAIN: usize = 2000;
+
+/// A specification with processes that each call the next one, or the one before. The last one begins with an action by
+/// one gate, and the behaviour waits for the other.
+fn chain_text(alloc: Global, forward: bool) -> Result<String, AllocError> {
+    let mut text = String::new(alloc);
+    text.push_str("specification S[a, b] : noexit behaviour P0[a] || b; stop where ")?;
+    for number in 0..PROCESSES_OF_CHAIN {
+        if forward {
+            add_link(alloc, &mut text, number)?;
+        } else {
+            add_link(
+                alloc,
+                &mut text,
+                (PROCESSES_OF_CHAIN - 1).saturating_sub(number),
+            )?;
+        }
+    }
+    text.push_str("process P")?;
+    text.push_str(PROCESSES_OF_CHAIN.to_string(alloc)?.as_str())?;
+    text.push_str("[x] : noexit := x; stop endproc endspec")?;
+    Ok(text)
+}
+
+/// A process that calls the next one.
+fn add_link(alloc: Global, text: &mut String, number: usize) -> Result<(), AllocError> {
+    text.push_str("process P")?;
+    text.push_str(number.to_string(alloc)?.as_str())?;
+    text.push_str("[x] : noexit := P")?;
+    text.push_str(number.saturating_add(1).to_string(alloc)?.as_str())?;
+    text.push_str("[x] ||| stop endproc ")
+}
+
+#[test]
+fn warns_about_a_long_chain_of_processes(rt: HostRuntime) -> Result<(), Fail> {
+    for forward in [true, false] {
+        let text = chain_text(rt.alloc(), forward)?;
+        let lines = warning_lines(rt.alloc(), text.as_str())?;
+        assert_eq!(rt;
+            lines.as_str(),
+            "14 the behaviour of S can do nothing: no action, no internal step, no termination\n"
+        );
+    }
     Ok(())
 }

@@ -61,6 +61,8 @@ mod pattern_matching_tests;
 #[cfg(test)]
 mod progress_tests;
 #[cfg(test)]
+mod regrouped_match_tests;
+#[cfg(test)]
 mod resumed_listing_tests;
 #[cfg(test)]
 mod row_label;

@@ -8,11 +8,17 @@ use std::io::IsTerminal;
 use std::process::ExitCode;
 
 fn main(rt: HostRuntime) -> ExitCode {
-    let mut reader = FromRead::new(rt.stdin());
+    let stdin = rt.stdin();
+    let keyboard = stdin.is_terminal();
+    let mut reader = FromRead::new(stdin);
     let mut out = FromWrite::new(rt.stdout());
     let stream = rt.stderr();
     let terminal = stream.is_terminal();
-    let mut messages = Messages { stream, terminal };
+    let mut messages = Messages {
+        stream,
+        terminal,
+        keyboard,
+    };
     ExitCode::from(run_args(
         rt.alloc(),
         env::args(&rt),

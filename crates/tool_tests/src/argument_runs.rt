@@ -7,22 +7,34 @@ use std::alloc::{AllocError, Global};
 use std::env;
 use std::env::Args;
 use std::io::{Error, ErrorKind};
+use std::process::Abort;
+
+/// Why arguments cannot be read, and the message.
+const UNREAD: &[(ErrorKind, &[u8])] = &[
+    (
+        ErrorKind::InvalidData,
+        b"lotosseq: an argument is not Unicode\n",
+    ),
+    (ErrorKind::OutOfMemory, b"lotosseq: E99 out of memory\n"),
+];
+
+/// Runs arguments that cannot be read for this cause, and expects the message, and that nothing is read or written.
+fn expect_unread(rt: &impl Abort, alloc: Global, cause: ErrorKind, message: &[u8]) {
+    let mut reader = FromRead::new(SliceReader::new(b"specification", 1));
+    let mut out = FromWrite::new(ArrayWriter::new(4096));
+    let mut messages = no_messages();
+    let args = Err(Error::from(cause));
+    let status = run_args(alloc, args, &mut reader, &mut out, &mut messages);
+    assert_eq!(rt; messages.stream.got(), message);
+    assert_eq!(rt; status, 5);
+    assert_eq!(rt; reader.into_inner().reads, 0);
+    assert!(rt; out.into_inner().got().is_empty());
+}
 
 #[test]
 fn arguments_that_cannot_be_read(rt: HostRuntime) {
-    for kind in [ErrorKind::InvalidData, ErrorKind::OutOfMemory] {
-        let mut reader = FromRead::new(SliceReader::new(b"specification", 1));
-        let mut out = FromWrite::new(ArrayWriter::new(4096));
-        let mut messages = no_messages();
-        let args = Err(Error::from(kind));
-        let status = run_args(rt.alloc(), args, &mut reader, &mut out, &mut messages);
-        assert_eq!(rt;
-            messages.stream.got(),
-            b"lotosseq: E99 out of memory\n".as_slice()
-        );
-        assert_eq!(rt; status, 5);
-        assert_eq!(rt; reader.into_inner().reads, 0);
-        assert!(rt; out.into_inner().got().is_empty());
+    for (cause, message) in UNREAD {
+        expect_unread(&rt, rt.alloc(), *cause, *message);
     }
 }
 
@@ -31,6 +43,7 @@ fn no_messages() -> Messages<ArrayWriter> {
     Messages {
         stream: ArrayWriter::new(4096),
         terminal: false,
+        keyboard: false,
     }
 }
 

@@ -261,13 +261,13 @@ const WARNED: &[(&str, &[u8], &[u8], &[u8])] = &[
         "gates that are not used, in two definitions",
         b"specification S [a,b] : noexit\nbehaviour P[a]\nwhere process P [x] : noexit := stop endproc endspec",
         b"P 1 noexit\n",
-        b"lotosseq: 1:20: warning: gate B of S is not used\nlotosseq: 3:18: warning: gate X of P is not used\n",
+        b"lotosseq: 1:15: warning: the behaviour of S can do nothing: no action, no internal step, no termination\nlotosseq: 1:20: warning: gate B of S is not used\nlotosseq: 3:18: warning: gate X of P is not used\n",
     ),
     (
         "a gate that neither side offers",
         b"specification S [a] : noexit behaviour stop\n |[a]| stop endspec",
         b"",
-        b"lotosseq: 2:4: warning: gate A of `|[..]|` is never offered on the left\nlotosseq: 2:4: warning: gate A of `|[..]|` is never offered on the right\n",
+        b"lotosseq: 1:15: warning: the behaviour of S can do nothing: no action, no internal step, no termination\nlotosseq: 2:4: warning: gate A of `|[..]|` is never offered on the left\nlotosseq: 2:4: warning: gate A of `|[..]|` is never offered on the right\n",
     ),
     (
         "nothing to warn of",

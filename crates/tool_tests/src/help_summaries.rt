@@ -48,6 +48,7 @@ Options:
       --terms <N>     The most terms that a prefix may reach, 1 to 1000000 [default: 100000]
       --after <LINE>  Lists only what comes after this line of a listing
       --explain       Writes the least run of each sequence too
+      --hidden        Writes the least run with what makes each internal step
       --hide <GATES>  Hides these gates
       --only <GATES>  Asks about these gates; all others are hidden
       --strong        Makes the internal action `i` a label like others
@@ -77,6 +78,7 @@ Arguments:
 Options:
       --states <N>    The most states that may be reached, 1 to 100000000 [default: 1000000]
       --explain       Writes the least run of the sequence too
+      --hidden        Writes the least run with what makes each internal step
       --hide <GATES>  Hides these gates
       --only <GATES>  Asks about these gates; all others are hidden
       --strong        Makes the internal action `i` a label like others

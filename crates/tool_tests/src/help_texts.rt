@@ -169,6 +169,15 @@ Options:
           lists
             A : i i A
 
+      --hidden
+          Writes the least run with what makes each internal step
+         \x20
+          As `--explain`, which it implies, but an internal step is written by what makes it:
+          `i` is an `i` of the text, `i(SEND)` an action of the gate SEND that a `hide` makes
+          internal, and `i(exit)` the termination of the left side of `>>`. For example,
+          `hide s in a; s; (exit >> i; b; stop)` with `--length 2 --hidden A B` lists
+            A B : A i(S) i(exit) i B
+
       --hide <GATES>
           Hides these gates
          \x20
@@ -326,6 +335,17 @@ Options:
           If the pattern ends with `<livelock>` or `<forever> SET`, the line goes on with steps that
           never end: ` <forever> `, the labels of some steps, and in brackets those of a loop, which
           can be repeated for ever. `A : A <forever> i [B C]` means A, i, B, C, B, C and so on.
+
+      --hidden
+          Writes the least run with what makes each internal step
+         \x20
+          As `--explain`, which it implies, but an internal step is written by what makes it:
+          `i` is an `i` of the text, `i(SEND)` an action of the gate SEND that a `hide` makes
+          internal, and `i(exit)` the termination of the left side of `>>`. For example,
+          `hide s in a; s; (exit >> i; b; stop)` with `--hidden A B` writes
+            A B : A i(S) i(exit) i B
+         \x20
+          Steps that never end are written so too: `A B : A B <forever> [i(H)]`.
 
       --hide <GATES>
           Hides these gates
@@ -621,6 +641,7 @@ Options:
           If the specification is accepted, standard error has a line with the position of each
             process that no call names, or that is not reached from the specification's behaviour,
             process or specification that is declared `exit` and can never terminate,
+            specification whose behaviour is not `stop`, and can do nothing at all,
             gate of the specification or of a process that its behaviour does not use,
             gate in `|[..]|` that the left side or the right side never offers.
           Output and status stay the same. For example, it warns of the gate `b` of

@@ -92,6 +92,49 @@ fn a_file_among_the_words(rt: HostRuntime) {
     }
 }
 
+/// Words that are refused, one of which has a slash or ends as the name of a file does or almost so, and the message.
+const FILES: &[(&[&str], &[u8])] = &[
+    (
+        &["lotosseq", "cover", "rings/one"],
+        b"error: unexpected argument 'rings/one' found\n\nUsage: lotosseq cover [OPTIONS]\n\nFor more information, try '--help'.\nlotosseq: a specification is read from standard input: lotosseq cover <FILE\n",
+    ),
+    (
+        &["lotosseq", "cover", "ring.lot"],
+        b"error: unexpected argument 'ring.lot' found\n\nUsage: lotosseq cover [OPTIONS]\n\nFor more information, try '--help'.\nlotosseq: a specification is read from standard input: lotosseq cover <FILE\n",
+    ),
+    (
+        &["lotosseq", "cover", "ring.lotus"],
+        b"error: unexpected argument 'ring.lotus' found\n\nUsage: lotosseq cover [OPTIONS]\n\nFor more information, try '--help'.\n",
+    ),
+    (
+        &["lotosseq", "search", "--depth", "3", "A", "ring.lot"],
+        b"lotosseq: E41 word 2 is neither a label nor an element\nlotosseq: a specification is read from standard input: lotosseq search .. <FILE\n",
+    ),
+    (
+        &["lotosseq", "ever", "./ring"],
+        b"lotosseq: E41 word 1 is neither a label nor an element\nlotosseq: a specification is read from standard input: lotosseq ever .. <FILE\n",
+    ),
+    (
+        &["lotosseq", "ever", "<until>", "/"],
+        b"lotosseq: E42 word 1 needs a label or <deadlock> after it\nlotosseq: a specification is read from standard input: lotosseq ever .. <FILE\n",
+    ),
+    (
+        &["lotosseq", "after", "A", "ring.lts"],
+        b"lotosseq: E41 word 2 is no label\nlotosseq: a specification is read from standard input: lotosseq after .. <FILE\n",
+    ),
+    (
+        &["lotosseq", "after", "ring.lt"],
+        b"lotosseq: E41 word 1 is no label\n",
+    ),
+];
+
+#[test]
+fn the_name_of_a_file(rt: HostRuntime) {
+    for (words, message) in FILES {
+        expect_message(&rt, rt.alloc(), *words, b"", *message, 2);
+    }
+}
+
 #[test]
 fn a_word_that_is_almost_an_element(rt: HostRuntime) {
     for (words, message) in ALMOST {

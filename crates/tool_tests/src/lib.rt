@@ -12,6 +12,8 @@ mod byte_output_tests;
 #[cfg(test)]
 mod check_runs;
 #[cfg(test)]
+mod command_calls;
+#[cfg(test)]
 mod cover_runs;
 #[cfg(test)]
 mod diagnosis_runs;
@@ -27,6 +29,8 @@ mod help;
 mod help_summaries;
 #[cfg(test)]
 mod help_texts;
+#[cfg(test)]
+mod hidden_runs;
 #[cfg(test)]
 mod hints;
 #[cfg(test)]
@@ -54,9 +58,15 @@ mod progress_runs;
 #[cfg(test)]
 mod quoted_words;
 #[cfg(test)]
+mod report_intervals;
+#[cfg(test)]
+mod rows;
+#[cfg(test)]
 mod runs;
 #[cfg(test)]
 mod search_runs;
+#[cfg(test)]
+mod terminals;
 #[cfg(test)]
 mod text_input_tests;
 #[cfg(test)]

@@ -89,6 +89,8 @@ pub struct ArrayWriter {
     pub most: usize,
     pub when_full: WhenFull,
     pub flush_fails: bool,
+    /// Whether it fails because nobody reads any more, as a pipe does that is closed.
+    pub closed: bool,
     /// The number of flushes so far.
     pub flushes: usize,
     ghost within: { len ≤ 16384 },
@@ -104,7 +106,17 @@ impl ArrayWriter {
             most: ROOM,
             when_full: WhenFull::Fails,
             flush_fails: false,
+            closed: false,
             flushes: 0,
+        }
+    }
+
+    /// The error of a call that fails.
+    fn fault(&self) -> Error {
+        if self.closed {
+            Error::from(ErrorKind::BrokenPipe)
+        } else {
+            Error::from(ErrorKind::Other)
         }
     }
 
@@ -124,7 +136,7 @@ impl Write for ArrayWriter {
         let room = self.most.min(ROOM).saturating_sub(len);
         if room == 0 && !buf.is_empty() {
             return match self.when_full {
-                WhenFull::Fails => Err(Error::from(ErrorKind::Other)),
+                WhenFull::Fails => Err(self.fault()),
                 WhenFull::TakesNothing => Ok(0),
             };
         }
@@ -137,7 +149,7 @@ impl Write for ArrayWriter {
     fn flush(&mut self) -> io::Result<()> {
         self.flushes = self.flushes.saturating_add(1);
         if self.flush_fails {
-            return Err(Error::from(ErrorKind::Other));
+            return Err(self.fault());
         }
         Ok(())
     }
@@ -201,6 +213,7 @@ pub fn run_on<R: Read, W: Write>(
     let messages = Messages {
         stream: err,
         terminal: false,
+        keyboard: false,
     };
     run_with(alloc, words, reader, out, messages)
 }

@@ -1,6 +1,8 @@
-//! Commands whose output fails within a listing, or cannot be flushed at its end.
+//! Commands whose output fails within a listing, or cannot be flushed at its end, and those whose output nobody reads any
+//! more: they say nothing of that.
 
-use super::runs::{RUN, Run, Taken, WHOLE, expect_broken, expect_unflushed};
+use super::memory_devices::WhenFull;
+use super::runs::{RUN, Run, Taken, WHOLE, expect_broken, expect_full, expect_unflushed};
 use std::alloc::Global;
 use std::process::Abort;
 
@@ -194,9 +196,121 @@ fn expect_flush(rt: &impl Abort, alloc: Global, row: &Row) {
     assert_eq!(rt; ran.status, row.status, "{}", row.name);
 }
 
+/// A specification with a process, and a gate that is not used.
+const PROCESS: &[u8] =
+    b"specification S [a] : noexit behaviour stop where process P : noexit := stop endproc endspec";
+
+/// Checks of a process, and texts that are asked for.
+const OTHERS: &[Row] = &[
+    Row {
+        name: "a check of a process",
+        text: PROCESS,
+        words: &["lotosseq", "check"],
+        output: b"P 0 noexit\n",
+        status: 0,
+        broken: UNWRITTEN,
+    },
+    Row {
+        name: "a check that explains",
+        text: PROCESS,
+        words: &["lotosseq", "check", "--explain"],
+        output: b"P 0 noexit\n",
+        status: 0,
+        broken: UNWRITTEN,
+    },
+    Row {
+        name: "a check that warns",
+        text: PROCESS,
+        words: &["lotosseq", "check", "--warn"],
+        output: b"P 0 noexit\n",
+        status: 0,
+        broken: UNWRITTEN,
+    },
+    Row {
+        name: "the version",
+        text: b"",
+        words: &["lotosseq", "--version"],
+        output: b"lotosseq 0.1.0 (proved, logic dac8208d650f15bf)\n",
+        status: 0,
+        broken: UNWRITTEN,
+    },
+];
+
+const UNWRITTEN: &[u8] = b"lotosseq: output cannot be written\n";
+
+/// An output that nobody reads any more when it fails.
+const CLOSED: Taken = Taken {
+    closed: true,
+    ..WHOLE
+};
+
+/// Runs the row with an output whose flush finds that nobody reads any more, and with one whose first write does, and
+/// expects no message.
+fn expect_silence(rt: &impl Abort, alloc: Global, row: &Row) {
+    let run = Run {
+        name: row.name,
+        words: row.words,
+        text: row.text,
+        output: CLOSED,
+        ..RUN
+    };
+    expect_unflushed(rt, alloc, &run, row.output, b"");
+    if !row.output.is_empty() {
+        expect_full(rt, alloc, &run, 0, WhenFull::Fails, row.output, b"");
+    }
+}
+
 #[test]
 fn one_flush_ends_the_writing_or_fails(rt: HostRuntime) {
     for row in FLUSHED {
         expect_flush(&rt, rt.alloc(), row);
+        expect_silence(&rt, rt.alloc(), row);
     }
+}
+
+#[test]
+fn one_flush_ends_a_check_or_a_text_or_fails(rt: HostRuntime) {
+    for row in OTHERS {
+        expect_flush(&rt, rt.alloc(), row);
+        expect_silence(&rt, rt.alloc(), row);
+    }
+}
+
+/// A listing whose output nobody reads when it fails.
+const UNREAD: Run<'static, 'static> = Run {
+    name: "a listing",
+    words: WORDS,
+    text: TEXT,
+    output: CLOSED,
+    ..RUN
+};
+
+#[test]
+fn nobody_reads_on_within_a_line(rt: HostRuntime) {
+    for most in 0..LISTING.len() {
+        expect_full(
+            &rt,
+            rt.alloc(),
+            &UNREAD,
+            most,
+            WhenFull::Fails,
+            LISTING,
+            b"",
+        );
+    }
+}
+
+/// A writer that takes nothing does not say that nobody reads.
+#[test]
+fn an_output_that_takes_nothing_may_be_read(rt: HostRuntime) {
+    let message = b"lotosseq: stopped after B: output cannot be written\n";
+    expect_full(
+        &rt,
+        rt.alloc(),
+        &UNREAD,
+        2,
+        WhenFull::TakesNothing,
+        LISTING,
+        message,
+    );
 }

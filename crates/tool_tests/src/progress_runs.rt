@@ -92,7 +92,7 @@ fn a_listing_reports_prefixes_and_lines(rt: HostRuntime) {
         false,
         (
             b"lotosseq: length 44, 1024 prefixes, 45 lines\nlotosseq: length 63, 2048 prefixes, 64 lines\n",
-            b"\rlotosseq: length 44, 1024 prefixes, 45 lines\r\x1b[K\rlotosseq: length 63, 2048 prefixes, 64 lines\r\x1b[K",
+            b"\rlotosseq: length 44, 1024 prefixes, 45 lines\x1b[K\r\x1b[K\rlotosseq: length 63, 2048 prefixes, 64 lines\x1b[K\r\x1b[K",
             0,
         ),
     );
@@ -117,15 +117,16 @@ fn a_terminal_is_cleared_before_a_message(rt: HostRuntime) -> Result<(), AllocEr
         true,
         (
             b"lotosseq: length 44, 1024 prefixes, 0 lines\nlotosseq: stopped before the first line: output cannot be written\n",
-            b"\rlotosseq: length 44, 1024 prefixes, 0 lines\r\x1b[Klotosseq: stopped before the first line: output cannot be written\n",
+            b"\rlotosseq: length 44, 1024 prefixes, 0 lines\x1b[K\r\x1b[Klotosseq: stopped before the first line: output cannot be written\n",
             6,
         ),
     );
     Ok(())
 }
 
-/// Two sequences of 50 labels each, side by side: the states are the pairs of numbers up to 50. With at most `n` steps
-/// there are 990 of them for n = 43, 1,035 for 44, 2,040 for 67 and 2,073 for 68, and 2,601 in all.
+/// Two sequences of 50 labels each, side by side: the states are the pairs of numbers up to 50. With `n` steps there are
+/// n + 1 of them for n up to 50, and then 101 - n. With at most `n` steps there are 990 for n = 43, 1,035 for 44, 2,040
+/// for 67 and 2,073 for 68, and 2,601 in all.
 fn two_sequences(alloc: Global) -> Result<Vec<u8>, AllocError> {
     let mut text = repeated(
         alloc,
@@ -152,8 +153,8 @@ fn a_search_without_a_match_reports_states(rt: HostRuntime) -> Result<(), AllocE
         text.as_slice(),
         false,
         (
-            b"lotosseq: 44 steps, 1024 states\nlotosseq: 68 steps, 2048 states\nlotosseq: it happens at no depth; 2601 states; word 1 cannot be matched\n",
-            b"\rlotosseq: 44 steps, 1024 states\rlotosseq: 68 steps, 2048 states\r\x1b[Klotosseq: it happens at no depth; 2601 states; word 1 cannot be matched\n",
+            b"lotosseq: 44 steps, 1024 states; 44 with 43 steps, 34 with 44 so far\nlotosseq: 68 steps, 2048 states; 34 with 67 steps, 8 with 68 so far\nlotosseq: it happens at no depth; 2601 states; word 1 cannot be matched\n",
+            b"\rlotosseq: 44 steps, 1024 states; 44 with 43 steps, 34 with 44 so far\x1b[K\rlotosseq: 68 steps, 2048 states; 34 with 67 steps, 8 with 68 so far\x1b[K\r\x1b[Klotosseq: it happens at no depth; 2601 states; word 1 cannot be matched\n",
             1,
         ),
     );
@@ -173,8 +174,8 @@ fn a_terminal_is_cleared_before_a_match(rt: HostRuntime) -> Result<(), AllocErro
         text.as_slice(),
         false,
         (
-            b"lotosseq: 44 steps, 1024 states\nlotosseq: 68 steps, 2048 states\n",
-            b"\rlotosseq: 44 steps, 1024 states\rlotosseq: 68 steps, 2048 states\r\x1b[K",
+            b"lotosseq: 44 steps, 1024 states; 44 with 43 steps, 34 with 44 so far\nlotosseq: 68 steps, 2048 states; 34 with 67 steps, 8 with 68 so far\n",
+            b"\rlotosseq: 44 steps, 1024 states; 44 with 43 steps, 34 with 44 so far\x1b[K\rlotosseq: 68 steps, 2048 states; 34 with 67 steps, 8 with 68 so far\x1b[K\r\x1b[K",
             0,
         ),
     );
@@ -207,7 +208,7 @@ fn a_sequence_that_is_followed_reports_labels(rt: HostRuntime) -> Result<(), All
         &[],
         (
             b"lotosseq: 1024 labels\nlotosseq: 2048 labels\n",
-            b"\rlotosseq: 1024 labels\rlotosseq: 2048 labels\r\x1b[K",
+            b"\rlotosseq: 1024 labels\x1b[K\rlotosseq: 2048 labels\x1b[K\r\x1b[K",
             0,
         ),
     )?;
@@ -225,7 +226,7 @@ fn a_terminal_is_cleared_before_a_label_that_cannot_come(
         &["exit", "A"],
         (
             b"lotosseq: 1024 labels\nlotosseq: label 1025, exit, cannot come here; what can: A\n",
-            b"\rlotosseq: 1024 labels\r\x1b[Klotosseq: label 1025, exit, cannot come here; what can: A\n",
+            b"\rlotosseq: 1024 labels\x1b[K\r\x1b[Klotosseq: label 1025, exit, cannot come here; what can: A\n",
             1,
         ),
     )
@@ -265,7 +266,7 @@ fn a_cover_reports_sets_and_lines(rt: HostRuntime) -> Result<(), AllocError> {
         false,
         (
             b"lotosseq: length 1023, 1024 sets, 1 lines\n",
-            b"\rlotosseq: length 1023, 1024 sets, 1 lines\r\x1b[K",
+            b"\rlotosseq: length 1023, 1024 sets, 1 lines\x1b[K\r\x1b[K",
             0,
         ),
     );
@@ -286,7 +287,7 @@ fn a_terminal_is_cleared_before_a_stop(rt: HostRuntime) -> Result<(), AllocError
         false,
         (
             b"lotosseq: length 1023, 1024 sets, 1 lines\nlotosseq: stopped after B: more than 1050 sets; --states N allows more\n",
-            b"\rlotosseq: length 1023, 1024 sets, 1 lines\r\x1b[Klotosseq: stopped after B: more than 1050 sets; --states N allows more\n",
+            b"\rlotosseq: length 1023, 1024 sets, 1 lines\x1b[K\r\x1b[Klotosseq: stopped after B: more than 1050 sets; --states N allows more\n",
             4,
         ),
     );
@@ -472,12 +473,13 @@ fn assert_unreadable(rt: &impl Abort, alloc: Global, terminal: bool) {
     let mut messages = Messages {
         stream: ArrayWriter::new(4096),
         terminal,
+        keyboard: false,
     };
     let args = Err(Error::from(ErrorKind::InvalidData));
     let status = run_args(alloc, args, &mut reader, &mut out, &mut messages);
     assert_eq!(rt;
         messages.stream.got(),
-        b"lotosseq: E99 out of memory\n".as_slice()
+        b"lotosseq: an argument is not Unicode\n".as_slice()
     );
     assert_eq!(rt; status, 5);
     assert!(rt; out.into_inner().got().is_empty());

@@ -14,6 +14,8 @@ pub struct Taken {
     pub most: usize,
     pub when_full: WhenFull,
     pub flush_fails: bool,
+    /// Whether it fails because nobody reads any more.
+    pub closed: bool,
 }
 
 /// A writer that takes 16384 bytes, up to 4096 in a write, and does not fail before.
@@ -22,6 +24,7 @@ pub const WHOLE: Taken = Taken {
     most: 16384,
     when_full: WhenFull::Fails,
     flush_fails: false,
+    closed: false,
 };
 
 /// A writer that takes single bytes.
@@ -111,9 +114,15 @@ impl Run<'_, '_> {
 
     /// Runs the command with an error stream that is a terminal or is none.
     pub fn finish_with_terminal(&self, alloc: Global, terminal: bool) -> Ran {
+        self.finish_with_terminals(alloc, terminal, false)
+    }
+
+    /// Runs the command with an error stream and an input that are terminals or are none.
+    pub fn finish_with_terminals(&self, alloc: Global, terminal: bool, keyboard: bool) -> Ran {
         let messages = Messages {
             stream: writer(self.message),
             terminal,
+            keyboard,
         };
         let reader = self.reader();
         let output = writer(self.output);
@@ -142,6 +151,7 @@ fn writer(taken: Taken) -> ArrayWriter {
     writer.most = taken.most;
     writer.when_full = taken.when_full;
     writer.flush_fails = taken.flush_fails;
+    writer.closed = taken.closed;
     writer
 }
 
@@ -299,8 +309,9 @@ pub fn expect_broken(
     );
 }
 
-/// Runs the command with an output that is full after `most` bytes, where it does this.
-fn expect_full(
+/// Runs the command with an output that is full after `most` bytes, where it does this, and expects that it stops there
+/// with this message.
+pub fn expect_full(
     rt: &impl Abort,
     alloc: Global,
     run: &Run<'_, '_>,

@@ -51,6 +51,7 @@ fn expect_warnings(rt: &impl Abort, alloc: Global, text: &[u8], message: &[u8]) 
     let messages = Messages {
         stream: ExpectedOutput::new(message),
         terminal: false,
+        keyboard: false,
     };
     let (status, _reader, out, err) = run_with(alloc, WARN, reader, out, messages);
     assert_eq!(rt; out.got(), b"".as_slice());

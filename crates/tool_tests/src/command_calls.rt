@@ -1,0 +1,370 @@
+//! The functions of the commands, each called by itself: what they return and write, which does not depend on whether
+//! progress is asked for or observed, and what an observer is told.
+ghost use Rattle.std.specs.Prelude.{IfOk};
+ghost use Rattle.lotos_command.specs.Request.{HasBounds, HasCoverBounds, HasSearchBounds};
+
+use super::memory_devices::{ArrayWriter, SliceReader};
+use super::worked_texts::VANISHING;
+use lotos_check::AcceptedText;
+use lotos_device::{FromRead, FromWrite};
+use lotos_tool::{
+    AfterRequest, CommandFault, CoverRequest, EverRequest, NoProgress, OutputProgress, Progress,
+    Request, SearchRequest, Searched, after, check_text, cover, ever, list, request,
+};
+use std::alloc::{AllocError, Global};
+use std::fmt::Debug;
+use std::process::Abort;
+
+/// Each of its steps is `A`, and it never ends.
+const ONE_GATE: &[u8] =
+    b"specification S [a] : noexit behaviour P[a] where process P [x] : noexit := x; P[x] endproc endspec";
+
+/// What an observer is told.
+#[derive(Clone, Copy, Debug, PartialEq)]
+struct Told {
+    /// How often it is told that a text is read next.
+    texts: usize,
+    /// How often it is told that a text is accepted.
+    accepted: usize,
+    visits: usize,
+    lines: usize,
+    /// How much was looked at, if it is told that no match was found.
+    searched: Option<Searched>,
+}
+
+/// Nothing yet.
+const NOTHING: Told = Told {
+    texts: 0,
+    accepted: 0,
+    visits: 0,
+    lines: 0,
+    searched: None,
+};
+
+/// That a text is read, and that it is accepted.
+const ACCEPTED: Told = Told {
+    texts: 1,
+    accepted: 1,
+    ..NOTHING
+};
+
+impl Progress for Told {
+    fn visit(&mut self, _length: usize) {
+        self.visits = self.visits.saturating_add(1);
+    }
+
+    fn found_none(&mut self, searched: Searched) {
+        self.searched = Some(searched);
+    }
+}
+
+impl OutputProgress for Told {
+    fn before_text(&mut self) {
+        self.texts = self.texts.saturating_add(1);
+    }
+
+    fn accepted(&mut self, _text: &[u8], _accepted_text: &AcceptedText) {
+        self.accepted = self.accepted.saturating_add(1);
+    }
+
+    fn before_line(&mut self) {
+        self.lines = self.lines.saturating_add(1);
+    }
+}
+
+/// What comes of a call: what the function returns as `Debug` writes it, what it writes, and how often it flushes that.
+#[derive(Clone, Copy, Debug, PartialEq)]
+struct Called<'a> {
+    result: &'a str,
+    output: &'a [u8],
+    flushes: usize,
+}
+
+/// A call of a command: its words without and with the option for progress, a text, what comes of it, and what an
+/// observer is told.
+struct Row {
+    words: &'static [&'static str],
+    reporting: &'static [&'static str],
+    text: &'static [u8],
+    called: Called<'static>,
+    told: Told,
+}
+
+/// Searches. Of each length there is one sequence, and up to a length of 2 there are three prefixes with a label.
+const SEARCHES: &[Row] = &[
+    Row {
+        words: &["lotosseq", "search", "--depth=2", "<while> A"],
+        reporting: &["lotosseq", "search", "--depth=2", "--progress", "<while> A"],
+        text: ONE_GATE,
+        called: Called {
+            result: "Complete { lines: 3 }",
+            output: b"<empty>\nA\nA A\n",
+            flushes: 1,
+        },
+        told: Told {
+            visits: 3,
+            lines: 3,
+            ..ACCEPTED
+        },
+    },
+    Row {
+        words: &["lotosseq", "search", "--depth=2", "--limit=2", "<while> A"],
+        reporting: &[
+            "lotosseq",
+            "search",
+            "--depth=2",
+            "--limit=2",
+            "--progress",
+            "<while> A",
+        ],
+        text: ONE_GATE,
+        called: Called {
+            result: "Stopped { last: Some(\"A\"), why: Limit }",
+            output: b"<empty>\nA\n",
+            flushes: 1,
+        },
+        told: Told {
+            visits: 1,
+            lines: 2,
+            ..ACCEPTED
+        },
+    },
+];
+
+/// Matches of any length. The term is always the same, and the states are places in the pattern.
+const MATCHES: &[Row] = &[
+    Row {
+        words: &["lotosseq", "ever", "A A"],
+        reporting: &["lotosseq", "ever", "--progress", "A A"],
+        text: ONE_GATE,
+        called: Called {
+            result: "Matched",
+            output: b"A A\n",
+            flushes: 1,
+        },
+        told: Told {
+            visits: 3,
+            lines: 1,
+            ..ACCEPTED
+        },
+    },
+    Row {
+        words: &["lotosseq", "ever", "A exit"],
+        reporting: &["lotosseq", "ever", "--progress", "A exit"],
+        text: ONE_GATE,
+        called: Called {
+            result: "NoMatch",
+            output: b"",
+            flushes: 1,
+        },
+        told: Told {
+            visits: 2,
+            searched: Some(Searched {
+                states: 2,
+                elements: 1,
+                is_stuck: false,
+            }),
+            ..ACCEPTED
+        },
+    },
+];
+
+/// What can come after a sequence, and a cover: after `A` it may be silent and then take `A`, and it may take `B`, after
+/// which nothing is observed. The sets after `A` and after `A B` are new.
+const NEXT: &[Row] = &[
+    Row {
+        words: &["lotosseq", "after", "A A"],
+        reporting: &["lotosseq", "after", "--progress", "A A"],
+        text: VANISHING,
+        called: Called {
+            result: "Followed",
+            output: b"A\nB\n",
+            flushes: 1,
+        },
+        told: Told {
+            visits: 2,
+            lines: 1,
+            ..ACCEPTED
+        },
+    },
+    Row {
+        words: &["lotosseq", "after", "A exit"],
+        reporting: &["lotosseq", "after", "--progress", "A exit"],
+        text: VANISHING,
+        called: Called {
+            result: "CannotCome { number: 2, instead: Some(\"A B\") }",
+            output: b"",
+            flushes: 0,
+        },
+        told: Told {
+            visits: 1,
+            ..ACCEPTED
+        },
+    },
+    Row {
+        words: &["lotosseq", "cover"],
+        reporting: &["lotosseq", "cover", "--progress"],
+        text: VANISHING,
+        called: Called {
+            result: "Complete { lines: 2 }",
+            output: b"A A\nA B\n",
+            flushes: 1,
+        },
+        told: Told {
+            visits: 2,
+            lines: 2,
+            ..ACCEPTED
+        },
+    },
+];
+
+/// Expects that a call has come to this.
+fn expect_called<T: Debug>(
+    rt: &impl Abort,
+    alloc: Global,
+    ended: &T,
+    out: FromWrite<ArrayWriter>,
+    called: Called<'_>,
+) -> Result<(), AllocError> {
+    let result = format!(in alloc; "{ended:?}")?;
+    let output = out.into_inner();
+    let found = Called {
+        result: result.as_str(),
+        output: output.got(),
+        flushes: output.flushes,
+    };
+    assert_eq!(rt; found, called);
+    Ok(())
+}
+
+fn expect_list<P: OutputProgress>(
+    rt: &impl Abort,
+    alloc: Global,
+    row: &Row,
+    asked: &SearchRequest,
+    progress: &mut P,
+) -> Result<(), AllocError>
+    requires { HasSearchBounds asked.now }
+{
+    let mut reader = FromRead::new(SliceReader::new(row.text, 4096));
+    let mut out = FromWrite::new(ArrayWriter::new(4096));
+    let ended = list(alloc, asked, &mut reader, &mut out, progress);
+    expect_called(rt, alloc, &ended, out, row.called)
+}
+
+fn expect_ever<P: OutputProgress>(
+    rt: &impl Abort,
+    alloc: Global,
+    row: &Row,
+    asked: &EverRequest,
+    progress: &mut P,
+) -> Result<(), AllocError> {
+    let mut reader = FromRead::new(SliceReader::new(row.text, 4096));
+    let mut out = FromWrite::new(ArrayWriter::new(4096));
+    let ended = ever(alloc, asked, &mut reader, &mut out, progress);
+    expect_called(rt, alloc, &ended, out, row.called)
+}
+
+fn expect_after<P: OutputProgress>(
+    rt: &impl Abort,
+    alloc: Global,
+    row: &Row,
+    asked: &AfterRequest,
+    progress: &mut P,
+) -> Result<(), AllocError> {
+    let mut reader = FromRead::new(SliceReader::new(row.text, 4096));
+    let mut out = FromWrite::new(ArrayWriter::new(4096));
+    let ended = after(alloc, asked, &mut reader, &mut out, progress);
+    expect_called(rt, alloc, &ended, out, row.called)
+}
+
+fn expect_cover<P: OutputProgress>(
+    rt: &impl Abort,
+    alloc: Global,
+    row: &Row,
+    asked: &CoverRequest,
+    progress: &mut P,
+) -> Result<(), AllocError>
+    requires { HasCoverBounds asked.now }
+{
+    let mut reader = FromRead::new(SliceReader::new(row.text, 4096));
+    let mut out = FromWrite::new(ArrayWriter::new(4096));
+    let ended = cover(alloc, asked, &mut reader, &mut out, progress);
+    expect_called(rt, alloc, &ended, out, row.called)
+}
+
+/// Calls the function of the command that is asked for, which has an observer, and expects what comes of it.
+fn expect_call<P: OutputProgress>(
+    rt: &impl Abort,
+    alloc: Global,
+    row: &Row,
+    asked: &Result<Request, CommandFault>,
+    progress: &mut P,
+) -> Result<(), AllocError>
+    requires { IfOk asked.now HasBounds }
+{
+    match asked {
+        Ok(Request::Search(asked)) => expect_list(rt, alloc, row, asked, progress),
+        Ok(Request::Ever(asked)) => expect_ever(rt, alloc, row, asked, progress),
+        Ok(Request::After(asked)) => expect_after(rt, alloc, row, asked, progress),
+        Ok(Request::Cover(asked)) => expect_cover(rt, alloc, row, asked, progress),
+        _ => {
+            assert!(rt; false, "no command with an observer: {:?}", row.words);
+            Ok(())
+        }
+    }
+}
+
+/// Calls the function without an observer and with one, and expects what that is told.
+fn expect_calls(
+    rt: &impl Abort,
+    alloc: Global,
+    row: &Row,
+    asked: &Result<Request, CommandFault>,
+) -> Result<(), AllocError>
+    requires { IfOk asked.now HasBounds }
+{
+    expect_call(rt, alloc, row, asked, &mut NoProgress)?;
+    let mut told = NOTHING;
+    expect_call(rt, alloc, row, asked, &mut told)?;
+    assert_eq!(rt; told, row.told, "{:?}", row.words);
+    Ok(())
+}
+
+/// Expects what comes of the words of each row, without and with the option.
+fn expect_rows(rt: &impl Abort, alloc: Global, rows: &[Row]) -> Result<(), AllocError> {
+    for row in rows {
+        expect_calls(rt, alloc, row, &request(alloc, row.words))?;
+        expect_calls(rt, alloc, row, &request(alloc, row.reporting))?;
+    }
+    Ok(())
+}
+
+#[test]
+fn searches(rt: HostRuntime) -> Result<(), AllocError> {
+    expect_rows(&rt, rt.alloc(), SEARCHES)
+}
+
+#[test]
+fn matches_of_any_length(rt: HostRuntime) -> Result<(), AllocError> {
+    expect_rows(&rt, rt.alloc(), MATCHES)
+}
+
+#[test]
+fn what_comes_next_and_covers(rt: HostRuntime) -> Result<(), AllocError> {
+    expect_rows(&rt, rt.alloc(), NEXT)
+}
+
+/// A check has no observer.
+#[test]
+fn a_check(rt: HostRuntime) -> Result<(), AllocError> {
+    let mut reader = FromRead::new(SliceReader::new(VANISHING, 4096));
+    let mut out = FromWrite::new(ArrayWriter::new(4096));
+    let ended = check_text(rt.alloc(), &mut reader, &mut out);
+    let called = Called {
+        result: "Complete { lines: 2 }",
+        output: b"P 3 noexit\nQ 1 noexit\n",
+        flushes: 1,
+    };
+    expect_called(&rt, rt.alloc(), &ended, out, called)
+}

@@ -1,0 +1,295 @@
+//! Runs with what makes their internal steps: the output, the message, and the status.
+
+use super::rows::{Row, expect_rows};
+use super::worked_texts::{MEETING, SERVER, VANISHING};
+
+/// An internal action of the text, and a hidden gate.
+const MIXED: &[u8] =
+    b"specification H [a, b] : noexit behaviour hide s in i; a; s; b; stop endspec";
+
+/// A hiding above a call, whose process has the gate by another name.
+const CALLED: &[u8] = b"specification S [a] : noexit behaviour hide b in P [b]
+where process P [x] : noexit := x; P [x] endproc endspec";
+
+/// A hiding in a process that is called with a gate of the same name.
+const INSIDE: &[u8] = b"specification S [h] : noexit behaviour P [h]
+where process P [x] : noexit := hide h in (x; h; P [x]) endproc endspec";
+
+/// A process that hides its formal gate.
+const FORMAL: &[u8] = b"specification S [a] : noexit behaviour P [a]
+where process P [x] : noexit := hide x in x; stop endproc endspec";
+
+/// Two hidden gates: a label comes after one, and nothing after the other.
+const PARTED: &[u8] =
+    b"specification S [a] : noexit behaviour hide s, t in (s; a; stop [] t; stop) endspec";
+
+/// Two hidden gates: a label comes after one, and hidden steps without end after the other.
+const ROUND: &[u8] =
+    b"specification S [a] : noexit behaviour hide t, u, v in (t; a; stop [] u; Q [v])
+where process Q [x] : noexit := x; Q [x] endproc endspec";
+
+/// Matches: what makes an internal step, and by which name it goes.
+const MATCHES: &[Row] = &[
+    Row {
+        name: "each kind of internal step",
+        text: MEETING,
+        words: &["lotosseq", "ever", "--hidden", "<until>", "EXIT"],
+        output: b"A B C exit : A i(S) B i(exit) C exit\n",
+        message: b"",
+        status: 0,
+    },
+    Row {
+        name: "the internal action of the text",
+        text: SERVER,
+        words: &["lotosseq", "ever", "--hidden", "REQ", "<refuses>", "RSP"],
+        output: b"REQ : REQ i\n",
+        message: b"",
+        status: 0,
+    },
+    Row {
+        name: "with --explain too",
+        text: MEETING,
+        words: &["lotosseq", "ever", "--explain", "--hidden", "A", "B"],
+        output: b"A B : A i(S) B\n",
+        message: b"",
+        status: 0,
+    },
+    Row {
+        name: "internal steps as labels",
+        text: MEETING,
+        words: &[
+            "lotosseq", "ever", "--strong", "--hidden", "A", "i", "B", "i",
+        ],
+        output: b"A i B i : A i(S) B i(exit)\n",
+        message: b"",
+        status: 0,
+    },
+    Row {
+        name: "a gate that the option hides",
+        text: MIXED,
+        words: &["lotosseq", "ever", "--hide", "A", "--hidden", "B"],
+        output: b"B : i i(A) i(S) B\n",
+        message: b"",
+        status: 0,
+    },
+    Row {
+        name: "a gate by its name at the hiding",
+        text: CALLED,
+        words: &["lotosseq", "ever", "--strong", "--hidden", "i", "i"],
+        output: b"i i : i(B) i(B)\n",
+        message: b"",
+        status: 0,
+    },
+    Row {
+        name: "a gate that a process hides, called with another of that name",
+        text: INSIDE,
+        words: &["lotosseq", "ever", "--hidden", "H", "H"],
+        output: b"H H : H i(H) H\n",
+        message: b"",
+        status: 0,
+    },
+    Row {
+        name: "a formal gate that its process hides",
+        text: FORMAL,
+        words: &["lotosseq", "ever", "--strong", "--hidden", "i"],
+        output: b"i : i(X)\n",
+        message: b"",
+        status: 0,
+    },
+    Row {
+        name: "no step",
+        text: MIXED,
+        words: &["lotosseq", "ever", "--hidden"],
+        output: b"<empty> : <empty>\n",
+        message: b"",
+        status: 0,
+    },
+];
+
+/// Ends about what can come after, and which of two hidden gates is at the step before such an end.
+const ENDS: &[Row] = &[
+    Row {
+        name: "a loop",
+        text: VANISHING,
+        words: &["lotosseq", "ever", "--hidden", "<until>", "<livelock>"],
+        output: b"A B : A B <forever> [i(H)]\n",
+        message: b"",
+        status: 0,
+    },
+    Row {
+        name: "a loop with a label",
+        text: VANISHING,
+        words: &["lotosseq", "ever", "--hidden", "<until> <forever> A"],
+        output: b"<empty> : <empty> <forever> [A i(H)]\n",
+        message: b"",
+        status: 0,
+    },
+    Row {
+        name: "a state from which a label never comes",
+        text: VANISHING,
+        words: &["lotosseq", "ever", "--hidden", "<until> <never> A"],
+        output: b"A B : A B\n",
+        message: b"",
+        status: 0,
+    },
+    Row {
+        name: "of two steps the one after which the label comes",
+        text: PARTED,
+        words: &["lotosseq", "ever", "--hidden", "A"],
+        output: b"A : i(S) A\n",
+        message: b"",
+        status: 0,
+    },
+    Row {
+        name: "of two steps the one after which nothing comes",
+        text: PARTED,
+        words: &[
+            "lotosseq",
+            "ever",
+            "--strong",
+            "--hidden",
+            "i",
+            "<deadlock>",
+        ],
+        output: b"i : i(T)\n",
+        message: b"",
+        status: 0,
+    },
+    Row {
+        name: "of two steps the one after which it goes on for ever",
+        text: ROUND,
+        words: &[
+            "lotosseq",
+            "ever",
+            "--strong",
+            "--hidden",
+            "i",
+            "<livelock>",
+        ],
+        output: b"i : i(U) <forever> [i(V)]\n",
+        message: b"",
+        status: 0,
+    },
+    Row {
+        name: "of two steps the one after which a label never comes",
+        text: ROUND,
+        words: &[
+            "lotosseq", "ever", "--strong", "--hidden", "i", "<never>", "A",
+        ],
+        output: b"i : i(U)\n",
+        message: b"",
+        status: 0,
+    },
+];
+
+/// Listings.
+const LISTINGS: &[Row] = &[
+    Row {
+        name: "by steps",
+        text: MIXED,
+        words: &["lotosseq", "search", "--depth", "4", "--hidden", "A", "B"],
+        output: b"A B : i A i(S) B\n",
+        message: b"",
+        status: 0,
+    },
+    Row {
+        name: "by labels",
+        text: MIXED,
+        words: &["lotosseq", "search", "--length", "2", "--hidden", "A", "B"],
+        output: b"A B : i A i(S) B\n",
+        message: b"",
+        status: 0,
+    },
+    Row {
+        name: "all sequences",
+        text: MIXED,
+        words: &[
+            "lotosseq", "search", "--depth", "9", "--hidden", "<while>", "<any>",
+        ],
+        output: b"<empty> : <empty>\nA : i A\nA B : i A i(S) B\n",
+        message: b"",
+        status: 0,
+    },
+    Row {
+        name: "after a line of such a listing",
+        text: MIXED,
+        words: &[
+            "lotosseq", "search", "--depth", "9", "--hidden", "--after", "A : i A", "<while>",
+            "<any>",
+        ],
+        output: b"A B : i A i(S) B\n",
+        message: b"",
+        status: 0,
+    },
+    Row {
+        name: "by labels, after a mark, as many as the limit",
+        text: MIXED,
+        words: &[
+            "lotosseq", "search", "--length", "9", "--hidden", "--after", "<empty>", "--limit",
+            "1", "<while>", "<any>",
+        ],
+        output: b"A : i A\n",
+        message: b"lotosseq: stopped after A: limit reached\n",
+        status: 3,
+    },
+    Row {
+        name: "a step whose end is as demanded",
+        text: PARTED,
+        words: &[
+            "lotosseq",
+            "search",
+            "--depth",
+            "1",
+            "--strong",
+            "--hidden",
+            "i",
+            "<deadlock>",
+        ],
+        output: b"i : i(T)\n",
+        message: b"",
+        status: 0,
+    },
+    Row {
+        name: "a step whose end is as demanded, by labels",
+        text: PARTED,
+        words: &[
+            "lotosseq",
+            "search",
+            "--length",
+            "1",
+            "--strong",
+            "--hidden",
+            "i",
+            "<refuses>",
+            "A",
+        ],
+        output: b"i : i(T)\n",
+        message: b"",
+        status: 0,
+    },
+    Row {
+        name: "termination inside",
+        text: MEETING,
+        words: &[
+            "lotosseq", "search", "--length", "3", "--hidden", "A", "B", "C",
+        ],
+        output: b"A B C : A i(S) B i(exit) C\n",
+        message: b"",
+        status: 0,
+    },
+];
+
+#[test]
+fn matches(rt: HostRuntime) {
+    expect_rows(&rt, rt.alloc(), MATCHES);
+}
+
+#[test]
+fn ends(rt: HostRuntime) {
+    expect_rows(&rt, rt.alloc(), ENDS);
+}
+
+#[test]
+fn listings(rt: HostRuntime) {
+    expect_rows(&rt, rt.alloc(), LISTINGS);
+}
