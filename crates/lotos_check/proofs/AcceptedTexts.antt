@@ -14,7 +14,8 @@ use Rattle.lotos_check.specs.declared.fault.CheckFault.{CheckFault}
 use Rattle.lotos_check.specs.declared.fault.CheckFault.TheVariants.{E20, E21, E22, E23, E24, E25, E26, E27, E99}
 
 -- a fault other than E99 says that nothing is spelled
-nothing_spelled : (text : List ℕ) (fault : TextFault) → SpellsNoSpecification text fault → is_memory_fault fault ≡ false → (whole : DefinitionView) → Spelled text whole → ⊥
+nothing_spelled : (text : List ℕ) (fault : TextFault) → SpellsNoSpecification text fault → is_memory_fault fault ≡ false → (whole : DefinitionView) →
+    Spelled text whole → ⊥
 nothing_spelled text (text_fault.E99 e) h m whole s = absurd cc
 nothing_spelled text (text_fault.E01 at) h m whole s = h whole s
 nothing_spelled text (text_fault.E02 at) h m whole s = h whole s
@@ -25,7 +26,8 @@ nothing_spelled text (text_fault.E06 at) h m whole s = h whole s
 nothing_spelled text (text_fault.E07 at) h m whole s = h whole s
 
 -- so it says why the text is rejected
-pub rejected_text : (text : List ℕ) (fault : TextFault) → IsFaultOfText text fault → SpellsNoSpecification text fault → is_memory_fault fault ≡ false → IsRejectedText text fault
+pub rejected_text : (text : List ℕ) (fault : TextFault) → IsFaultOfText text fault → SpellsNoSpecification text fault → is_memory_fault fault ≡ false →
+    IsRejectedText text fault
 rejected_text text fault cause nothing no_memory = record {
   cause = cause;
   no_memory = no_memory;
@@ -34,7 +36,8 @@ rejected_text text fault cause nothing no_memory = record {
 }
 
 -- a fault with an offset says that the specification is not accepted
-not_accepted : (whole : DefinitionView) (fault : CheckFault) → IsNotAccepted whole fault → IsSome (offset_of fault) → (system : System) → IsAccepted whole system → ⊥
+not_accepted : (whole : DefinitionView) (fault : CheckFault) → IsNotAccepted whole fault → IsSome (offset_of fault) → (system : System) →
+    IsAccepted whole system → ⊥
 not_accepted whole (E99 e) h s system a = absurd (let t = s in cc)
 not_accepted whole (E20 gate) h s system a = h system a
 not_accepted whole (E21 gate) h s system a = h system a

@@ -129,7 +129,8 @@ more_numbered : (all : List ScopedDefinition) (w : Where) (scope : Scope) → Is
 more_numbered all w scope h numbered x (inl e) = subst (IsNumbered all) e h
 more_numbered all w scope h numbered x (inr i) = numbered x i
 
-listed_numbered : (all : List ScopedDefinition) (scope : Scope) (k : ℕ) (ds : DefinitionListView) → StandsFrom all k (definitions_in_scope scope k ds) → AllNumbered all scope →
+listed_numbered : (all : List ScopedDefinition) (scope : Scope) (k : ℕ) (ds : DefinitionListView) → StandsFrom all k (definitions_in_scope scope k ds) →
+    AllNumbered all scope →
     (v : ScopedDefinition) → In v (definitions_in_scope scope k ds) → AllNumbered all v.scope
 listed_numbered all scope k no_defs stands numbered v i = absurd i
 listed_numbered all scope k (more_defs (def name formals declared body inner) ds) stands numbered v i =
@@ -168,7 +169,8 @@ meant_at all (w ∷ ws) numbered n q d (outward none x) = meant_at all ws (λ v 
 meant_at all [] numbered n q d x = elim x [ ]
 
 -- the process of the number that a name means is the definition that it means
-called_process : (whole : DefinitionView) (s : System) → IsFlat whole s → (v : ScopedDefinition) → In v (all_definitions whole) → (n : Name) (k : ℕ) (d : DefinitionView) →
+called_process : (whole : DefinitionView) (s : System) → IsFlat whole s → (v : ScopedDefinition) → In v (all_definitions whole) →
+    (n : Name) (k : ℕ) (d : DefinitionView) →
     Binds v.scope n k d → IsProcessOf s k d
 called_process whole s flat v i n k d m =
     let at = meant_at (processes_of whole) v.scope (visible_numbered whole v i) n k d m in

@@ -34,7 +34,8 @@ cut_at (p ∷ list) (b ∷ before) after n e =
     record { placed = r.placed; front = p ∷ r.front; back = r.back; located = stands; shown = shown; named = r.named }
 
 -- formal gates of a definition in the specification
-none_twice : (whole : DefinitionView) → IsDistinct whole → (v : ScopedDefinition) → In v (all_definitions whole) → AreDistinctNames (texts (formals_of v.definition))
+none_twice : (whole : DefinitionView) → IsDistinct whole → (v : ScopedDefinition) → In v (all_definitions whole) →
+    AreDistinctNames (texts (formals_of v.definition))
 none_twice whole distinct v i before after n e again =
     let c = cut_at (formals_of v.definition) before after n e in
     let named : In c.placed.name before = subst (λ m. In m before) (sym c.named) again in

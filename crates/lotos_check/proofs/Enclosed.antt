@@ -28,7 +28,8 @@ relisted s t k j ds e (u, i) =
     (subst (In e) (sym (listed_row s k ds) ∙ listed_row t j ds) (without_scope u e (definitions_in_scope s k ds) i))
 
 -- what is listed of an inner definition is listed of the list
-listed_among : (s t : Scope) (k j : ℕ) (ds : DefinitionListView) (x e : DefinitionView) → Among x ds → Lists (definition_in_scope t j x) e → Lists (definitions_in_scope s k ds) e
+listed_among : (s t : Scope) (k j : ℕ) (ds : DefinitionListView) (x e : DefinitionView) → Among x ds → Lists (definition_in_scope t j x) e →
+    Lists (definitions_in_scope s k ds) e
 listed_among s t k j no_defs x e a l = absurd a
 listed_among s t k j (more_defs (def n fs c b inner) ds) x e (inl h) (u, inl i) = (
   record { defs = inner; first = k + 1 } ∷ s,
@@ -47,7 +48,8 @@ listed_among s t k j (more_defs (def n fs c b inner) ds) x e (inr a) l =
     (r.0, inr (in_back _ (definitions_in_scope s' (k + 1) inner) (definitions_in_scope s (k + 1 + count inner) ds) r.1))
 
 -- what is listed of a list is one of its definitions or listed of one
-among_listed : (s : Scope) (k : ℕ) (ds : DefinitionListView) (e : DefinitionView) → Lists (definitions_in_scope s k ds) e → (x : DefinitionView) × Among x ds × Lists (all_definitions x) e
+among_listed : (s : Scope) (k : ℕ) (ds : DefinitionListView) (e : DefinitionView) → Lists (definitions_in_scope s k ds) e →
+    (x : DefinitionView) × Among x ds × Lists (all_definitions x) e
 among_listed s k no_defs e (u, i) = absurd i
 among_listed s k (more_defs (def n fs c b inner) ds) e (u, inl h) = (
   def n fs c b inner,

@@ -83,7 +83,8 @@ one_system whole s r distinct h k =
     same_system s.formals r.formals s.start r.start s.processes r.processes f b (same_processes whole s r distinct h k)
 
 -- an unguarded call goes to a process whose number a name means
-called_meant : (scope : Scope) (t : BehaviourView) (c : Flat) (q : ℕ) → Resolves scope t c → CallsUnguarded c q → (n : Name) × (d : DefinitionView) × Binds scope n q d
+called_meant : (scope : Scope) (t : BehaviourView) (c : Flat) (q : ℕ) → Resolves scope t c → CallsUnguarded c q →
+    (n : Name) × (d : DefinitionView) × Binds scope n q d
 called_meant scope t c q (of_call {p = p} {d = d} m) itself = (p.name, d, m)
 called_meant scope t c q (of_choice x y) (left_choice h) = called_meant scope _ _ q x h
 called_meant scope t c q (of_choice x y) (right_choice h) = called_meant scope _ _ q y h

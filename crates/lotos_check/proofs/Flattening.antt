@@ -36,7 +36,8 @@ module _ (definitions : List DefinitionView) (found : List ResolvedBody) where
   flattens_none start e = record { sized = omega arith; begin = λ _. (refl, refl); more = λ h. absurd (omega arith) }
 
 -- the first becomes the behaviour
-pub flattens_first : (definitions : List DefinitionView) (found : List ResolvedBody) (one : ResolvedBody) (rest : List ResolvedBody) (start : Code) (processes : List Process) →
+pub flattens_first : (definitions : List DefinitionView) (found : List ResolvedBody) (one : ResolvedBody) (rest : List ResolvedBody) (start : Code)
+    (processes : List Process) →
     Flattens definitions found 0 (one ∷ rest) start processes → Flattens definitions found 1 rest one.code.value processes
 flattens_first [] found one rest start processes h = absurd (let e = h.sized in omega arith)
 flattens_first (d ∷ ds) found one rest start processes h =
@@ -73,7 +74,8 @@ flattens_all definitions found (suc index) start processes p h =
     (h.more (omega arith) [] (subst (λ t. AreProcessesOfBodies t [] []) (sym none) no_processes))
 
 -- a step of the code at the first
-pub flattens_first_step : (definitions : List DefinitionView) (found : List ResolvedBody) (index : ℕ) (one : ResolvedBody) (all rest : List ResolvedBody) (start after : Code)
+pub flattens_first_step : (definitions : List DefinitionView) (found : List ResolvedBody) (index : ℕ) (one : ResolvedBody) (all rest : List ResolvedBody)
+    (start after : Code)
     (processes others : List Process) → index ≡ 0 → all ≡ one ∷ rest → after ≡ one.code.value → others ≡ processes →
     Flattens definitions found index all start processes → Flattens definitions found (index + 1) rest after others
 flattens_first_step definitions found index one all rest start after processes others i a s p h =
@@ -83,8 +85,10 @@ flattens_first_step definitions found index one all rest start after processes o
     (rw (s, p) (flattens_first definitions found one rest start processes k))
 
 -- a step of the code at each other one
-pub flattens_more_step : (definitions : List DefinitionView) (found : List ResolvedBody) (index : ℕ) (one : ResolvedBody) (all rest : List ResolvedBody) (start after : Code)
-    (processes others : List Process) (d : DefinitionView) (process : Process) → (index ≡ 0 → ⊥) → all ≡ one ∷ rest → after ≡ start → others ≡ processes ++ process ∷ [] →
+pub flattens_more_step : (definitions : List DefinitionView) (found : List ResolvedBody) (index : ℕ) (one : ResolvedBody) (all rest : List ResolvedBody)
+    (start after : Code)
+    (processes others : List Process) (d : DefinitionView) (process : Process) → (index ≡ 0 → ⊥) → all ≡ one ∷ rest → after ≡ start →
+    others ≡ processes ++ process ∷ [] →
     drop index definitions ≡ d ∷ drop (index + 1) definitions → IsProcessOfBody d one (process_of process) →
     Flattens definitions found index all start processes → Flattens definitions found (index + 1) rest after others
 flattens_more_step definitions found index one all rest start after processes others d process i a s p e m h =

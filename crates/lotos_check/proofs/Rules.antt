@@ -51,7 +51,8 @@ paired_twice view (x ∷ xs) [] p q = elim p [ ]
 paired_twice view (x ∷ xs) (y ∷ ys) (one_pair a p) (one_pair b q) = one_pair (a, b) (paired_twice view xs ys p q)
 
 -- the results of the pass, by the definitions with their scopes
-pub walked : (whole : DefinitionView) (found : List ResolvedBody) → AddsBodies (all_definitions whole) [] found → Pairwise IsResolvedBody (all_definitions whole) found
+pub walked : (whole : DefinitionView) (found : List ResolvedBody) → AddsBodies (all_definitions whole) [] found →
+    Pairwise IsResolvedBody (all_definitions whole) found
 walked whole found adds = subst (λ t. Pairwise IsResolvedBody (all_definitions whole) t) (sym adds.joined) adds.found
 
 module _ (whole : DefinitionView) (found : List ResolvedBody) (distinct : IsDistinct whole) (bodies : Pairwise IsResolvedBody (all_definitions whole) found)
@@ -130,7 +131,8 @@ flat_processes (v ∷ vs) [] processes b a = elim b [ ]
 flat_processes [] [] (p ∷ processes) b a = elim a [ ]
 flat_processes (v ∷ vs) (r ∷ found) [] b a = elim a [ ]
 
-flat_all : (v : ScopedDefinition) (vs : List ScopedDefinition) (ds : List DefinitionView) (found : List ResolvedBody) (start : Code) (processes : List Process) →
+flat_all : (v : ScopedDefinition) (vs : List ScopedDefinition) (ds : List DefinitionView) (found : List ResolvedBody) (start : Code)
+    (processes : List Process) →
     ds ≡ map (λ v. v.definition) vs → Pairwise IsResolvedBody (v ∷ vs) found → IsFlattened (v.definition ∷ ds) found start processes →
     Resolves v.scope (body_of v.definition) (flat_of start) × Pairwise IsProcess vs (map process_of processes)
 flat_all v vs ds (r ∷ found) start processes e (one_pair b bodies) (flattens s all) = (
@@ -141,9 +143,11 @@ flat_all v vs ds [] start processes e b m = elim b [ ]
 
 -- the code of all definitions is the flat system
 pub flat_system : (whole : DefinitionView) (found : List ResolvedBody) (formals : List Name) (start : Code) (processes : List Process) →
-    Pairwise IsResolvedBody (all_definitions whole) found → IsFlattened (whole ∷ definitions_in_list (inner_of whole)) found start processes → formals ≡ texts (formals_of whole) →
+    Pairwise IsResolvedBody (all_definitions whole) found → IsFlattened (whole ∷ definitions_in_list (inner_of whole)) found start processes →
+    formals ≡ texts (formals_of whole) →
     IsFlat whole (record { formals = formals; start = flat_of start; processes = map process_of processes })
 flat_system whole found formals start processes bodies flattened named =
-    let both = flat_all (record { scope = within whole 0 []; definition = whole }) (processes_of whole) (definitions_in_list (inner_of whole)) found start processes
+    let both = flat_all (record { scope = within whole 0 []; definition = whole }) (processes_of whole) (definitions_in_list (inner_of whole)) found start
+    processes
     (listed_row (within whole 0 []) 0 (inner_of whole)) bodies flattened in
     record { formals = named; start = both.0; processes = both.1 }

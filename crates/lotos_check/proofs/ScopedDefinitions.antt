@@ -35,7 +35,8 @@ listed_row scope k (more_defs (def name formals declared body inner) ds) =
     let i = listed_row own (k + 1) inner in
     let r = listed_row scope (k + 1 + count inner) ds in
     let j = map-append (λ v. v.definition) (definitions_in_scope own (k + 1) inner) (definitions_in_scope scope (k + 1 + count inner) ds) in
-    let both : definitions_in_list inner ++ definitions_in_list ds ≡ map (λ v. v.definition) (definitions_in_scope own (k + 1) inner ++ definitions_in_scope scope (k + 1 + count inner) ds) =
+    let both : definitions_in_list inner ++ definitions_in_list ds ≡ map (λ v. v.definition)
+    (definitions_in_scope own (k + 1) inner ++ definitions_in_scope scope (k + 1 + count inner) ds) =
     rw (i, r) (sym j) in
     ap (λ t. def name formals declared body inner ∷ t) both
 
@@ -80,7 +81,8 @@ more_wheres : (whole : DefinitionView) (w : Where) (scope : Scope) → IsWhereOf
 more_wheres whole w scope h all x (inl e) = subst (IsWhereOf whole) e h
 more_wheres whole w scope h all x (inr i) = all x i
 
-listed_wheres : (whole : DefinitionView) (scope : Scope) (k : ℕ) (ds : DefinitionListView) → ((v : ScopedDefinition) → In v (definitions_in_scope scope k ds) → In v (all_definitions whole)) →
+listed_wheres : (whole : DefinitionView) (scope : Scope) (k : ℕ) (ds : DefinitionListView) →
+    ((v : ScopedDefinition) → In v (definitions_in_scope scope k ds) → In v (all_definitions whole)) →
     k + count ds ≤ count (inner_of whole) → AllWheres whole scope → (v : ScopedDefinition) → In v (definitions_in_scope scope k ds) → AllWheres whole v.scope
 listed_wheres whole scope k no_defs sub fits all v i = absurd i
 listed_wheres whole scope k (more_defs (def name formals declared body inner) ds) sub fits all v i =
@@ -125,14 +127,16 @@ declares_below (more_defs (def name formals declared body inner) ds) k n q d (la
     let r = declares_below ds (k + 1 + count inner) n q d x in omega arith
 declares_below no_defs k n q d x = elim x [ ]
 
-means_below : (whole : DefinitionView) (scope : Scope) → AllWheres whole scope → (n : Name) (q : ℕ) (d : DefinitionView) → Binds scope n q d → q < count (inner_of whole)
+means_below : (whole : DefinitionView) (scope : Scope) → AllWheres whole scope → (n : Name) (q : ℕ) (d : DefinitionView) → Binds scope n q d →
+    q < count (inner_of whole)
 means_below whole (w ∷ ws) all n q d (nearest x) =
     let r = declares_below w.defs w.first n q d x in let f = (all w (inl refl)).fits in omega arith
 means_below whole (w ∷ ws) all n q d (outward none x) = means_below whole ws (λ v i. all v (inr i)) n q d x
 means_below whole [] all n q d x = elim x [ ]
 
 -- the number that a name means anywhere in the specification is that of one of its processes
-pub meant_below : (whole : DefinitionView) (v : ScopedDefinition) → In v (all_definitions whole) → (n : Name) (q : ℕ) (d : DefinitionView) → Binds v.scope n q d → q < length (processes_of whole)
+pub meant_below : (whole : DefinitionView) (v : ScopedDefinition) → In v (all_definitions whole) → (n : Name) (q : ℕ) (d : DefinitionView) →
+    Binds v.scope n q d → q < length (processes_of whole)
 meant_below whole v i n q d m =
     let r = means_below whole v.scope (visible_wheres whole v i) n q d m in
     let c = listed_count (within whole 0 []) 0 (inner_of whole) in

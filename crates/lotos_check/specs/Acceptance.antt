@@ -69,10 +69,14 @@ pub record IsProcessOfBody (definition : DefinitionView) (found : ResolvedBody) 
 -- the processes are the definitions with the code of their resolved bodies, one by one
 pub data AreProcessesOfBodies : List DefinitionView → List ResolvedBody → List Process → Type 0 where
   no_processes : AreProcessesOfBodies [] [] []
-  one_process : {d : DefinitionView} {ds : List DefinitionView} {r : ResolvedBody} {rs : List ResolvedBody} {process : Process} {processes : List Process} →
-      IsProcessOfBody d r (process_of process) → AreProcessesOfBodies ds rs processes → AreProcessesOfBodies (d ∷ ds) (r ∷ rs) (process ∷ processes)
+  one_process : {d : DefinitionView} {ds : List DefinitionView} {r : ResolvedBody} {rs : List ResolvedBody}
+      {process : Process} {processes : List Process} →
+      IsProcessOfBody d r (process_of process) → AreProcessesOfBodies ds rs processes →
+      AreProcessesOfBodies (d ∷ ds) (r ∷ rs) (process ∷ processes)
 
 -- the behaviour is the code of the first definition's body, and the processes are the other definitions
 pub data IsFlattened : List DefinitionView → List ResolvedBody → Code → List Process → Type 0 where
-  flattens : {d : DefinitionView} {ds : List DefinitionView} {r : ResolvedBody} {rs : List ResolvedBody} {start : Code} {processes : List Process} →
-      flat_of start ≡ flat_of r.code.value → AreProcessesOfBodies ds rs processes → IsFlattened (d ∷ ds) (r ∷ rs) start processes
+  flattens : {d : DefinitionView} {ds : List DefinitionView} {r : ResolvedBody} {rs : List ResolvedBody} {start : Code}
+      {processes : List Process} →
+      flat_of start ≡ flat_of r.code.value → AreProcessesOfBodies ds rs processes →
+      IsFlattened (d ∷ ds) (r ∷ rs) start processes

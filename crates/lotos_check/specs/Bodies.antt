@@ -11,12 +11,16 @@ use Rattle.lotos_check.specs.Flat.{Flat, prefix, choice, par, hide, enable, disa
 -- the behaviour contains a call of the process with these gates
 pub data ContainsCall : Flat → ℕ → List Name → Type 0 where
   itself : {k : ℕ} {gs : List Name} → ContainsCall (call k gs) k gs
-  under_prefix : {a : Option Name} {b : Flat} {k : ℕ} {gs : List Name} → ContainsCall b k gs → ContainsCall (prefix a b) k gs
+  under_prefix : {a : Option Name} {b : Flat} {k : ℕ} {gs : List Name} → ContainsCall b k gs →
+      ContainsCall (prefix a b) k gs
   left_choice : {l r : Flat} {k : ℕ} {gs : List Name} → ContainsCall l k gs → ContainsCall (choice l r) k gs
   right_choice : {l r : Flat} {k : ℕ} {gs : List Name} → ContainsCall r k gs → ContainsCall (choice l r) k gs
-  left_par : {l r : Flat} {s : Option (List Name)} {k : ℕ} {gs : List Name} → ContainsCall l k gs → ContainsCall (par l s r) k gs
-  right_par : {l r : Flat} {s : Option (List Name)} {k : ℕ} {gs : List Name} → ContainsCall r k gs → ContainsCall (par l s r) k gs
-  under_hide : {hidden : List Name} {b : Flat} {k : ℕ} {gs : List Name} → ContainsCall b k gs → ContainsCall (hide hidden b) k gs
+  left_par : {l r : Flat} {s : Option (List Name)} {k : ℕ} {gs : List Name} → ContainsCall l k gs →
+      ContainsCall (par l s r) k gs
+  right_par : {l r : Flat} {s : Option (List Name)} {k : ℕ} {gs : List Name} → ContainsCall r k gs →
+      ContainsCall (par l s r) k gs
+  under_hide : {hidden : List Name} {b : Flat} {k : ℕ} {gs : List Name} → ContainsCall b k gs →
+      ContainsCall (hide hidden b) k gs
   left_enable : {l r : Flat} {k : ℕ} {gs : List Name} → ContainsCall l k gs → ContainsCall (enable l r) k gs
   right_enable : {l r : Flat} {k : ℕ} {gs : List Name} → ContainsCall r k gs → ContainsCall (enable l r) k gs
   left_disable : {l r : Flat} {k : ℕ} {gs : List Name} → ContainsCall l k gs → ContainsCall (disable l r) k gs
@@ -25,7 +29,8 @@ pub data ContainsCall : Flat → ℕ → List Name → Type 0 where
 -- the behaviour of the specification, or the body of a process
 pub data IsBodyOf (system : System) : Flat → Type 0 where
   of_whole : IsBodyOf system system.start
-  of_process : (p : ℕ) (process : FlatProcess) → slice_get system.processes p ≡ Some process → IsBodyOf system process.body
+  of_process : (p : ℕ) (process : FlatProcess) → slice_get system.processes p ≡ Some process →
+      IsBodyOf system process.body
 
 -- no name of the list occurs twice
 abbrev pub AreDistinctNames : List Name → Type 0
@@ -39,7 +44,8 @@ pub record IsNamed (scoped : ScopedDefinition) (k : ℕ) (gates : List Name) : T
   -- the name that is called, with its offset
   pub called : Placed
   pub actuals : List Placed
-  pub inside : IsSubexpression (texts (formals_of scoped.definition)) (body_of scoped.definition) there (t.call called actuals)
+  pub inside : IsSubexpression (texts (formals_of scoped.definition)) (body_of scoped.definition) there
+      (t.call called actuals)
   -- the definition that the name is bound to
   pub definition : DefinitionView
   pub means : Binds scoped.scope called.name k definition

@@ -6,7 +6,11 @@ use Rattle.lotos_check.specs.declared.checked.Checked.{Checked}
 
 -- the flat system of a checked specification
 abbrev pub system_of : Checked → System
-system_of c = record { formals = c.gates.items; start = flat_of c.start.value; processes = map process_of c.processes.items }
+system_of c = record {
+  formals = c.gates.items;
+  start = flat_of c.start.value;
+  processes = map process_of c.processes.items;
+}
 
 -- the ranks of the processes, by their numbers
 abbrev pub ranks_of : Checked → List ℕ

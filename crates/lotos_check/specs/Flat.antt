@@ -44,17 +44,21 @@ action_of (Gate g) = Some g.name
 pub data Resolves (scope : Scope) : BehaviourView → Flat → Type 0 where
   of_stop : Resolves scope t.stop stop
   of_exit : Resolves scope t.exit exit
-  of_prefix : {a : Action} {b : BehaviourView} {c : Flat} → Resolves scope b c → Resolves scope (t.prefix a b) (prefix (action_of a) c)
-  of_choice : {l r : BehaviourView} {c e : Flat} → Resolves scope l c → Resolves scope r e → Resolves scope (t.choice l r) (choice c e)
+  of_prefix : {a : Action} {b : BehaviourView} {c : Flat} → Resolves scope b c →
+      Resolves scope (t.prefix a b) (prefix (action_of a) c)
+  of_choice : {l r : BehaviourView} {c e : Flat} → Resolves scope l c → Resolves scope r e →
+      Resolves scope (t.choice l r) (choice c e)
   of_par : {l r : BehaviourView} {gs : List Placed} {names : List Name} {c e : Flat} →
-      Resolves scope l c → IsSetOf names gs → Resolves scope r e → Resolves scope (t.par l (t.gates gs) r) (par c (Some names) e)
+      Resolves scope l c → IsSetOf names gs → Resolves scope r e →
+      Resolves scope (t.par l (t.gates gs) r) (par c (Some names) e)
   of_par_all : {l r : BehaviourView} {c e : Flat} → Resolves scope l c → Resolves scope r e →
       Resolves scope (t.par l t.all r) (par c None e)
   of_hide : {gs : List Placed} {names : List Name} {b : BehaviourView} {c : Flat} →
       IsSetOf names gs → Resolves scope b c → Resolves scope (t.hide gs b) (hide names c)
   of_enable : {l r : BehaviourView} {at : ℕ} {c e : Flat} →
       Resolves scope l c → Resolves scope r e → Resolves scope (t.enable l at r) (enable c e)
-  of_disable : {l r : BehaviourView} {c e : Flat} → Resolves scope l c → Resolves scope r e → Resolves scope (t.disable l r) (disable c e)
+  of_disable : {l r : BehaviourView} {c e : Flat} → Resolves scope l c → Resolves scope r e →
+      Resolves scope (t.disable l r) (disable c e)
   of_call : {p : Placed} {gs : List Placed} {k : ℕ} {d : DefinitionView} → Binds scope p.name k d →
       Resolves scope (t.call p gs) (call k (texts gs))
 

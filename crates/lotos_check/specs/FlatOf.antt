@@ -18,4 +18,9 @@ flat_of (Call process gates) = call process gates.items
 
 -- the view of a process
 abbrev pub process_of : Process → FlatProcess
-process_of p = record { name = p.name; formals = p.formals.items; functionality = p.functionality; body = flat_of p.body }
+process_of p = record {
+  name = p.name;
+  formals = p.formals.items;
+  functionality = p.functionality;
+  body = flat_of p.body;
+}

@@ -24,8 +24,12 @@ pub data Func (scope : Scope) : BehaviourView → Functionality → Type 0 where
   of_exit : Func scope exit Exit
   of_prefix : {a : Action} {b : BehaviourView} {f : Functionality} → Func scope b f → Func scope (prefix a b) f
   of_hide : {gs : List Placed} {b : BehaviourView} {f : Functionality} → Func scope b f → Func scope (hide gs b) f
-  of_choice : {l r : BehaviourView} {f g : Functionality} → Func scope l f → Func scope r g → Func scope (choice l r) (either f g)
-  of_disable : {l r : BehaviourView} {f g : Functionality} → Func scope l f → Func scope r g → Func scope (disable l r) (either f g)
-  of_par : {l r : BehaviourView} {s : SyncView} {f g : Functionality} → Func scope l f → Func scope r g → Func scope (par l s r) (both f g)
+  of_choice : {l r : BehaviourView} {f g : Functionality} → Func scope l f → Func scope r g →
+      Func scope (choice l r) (either f g)
+  of_disable : {l r : BehaviourView} {f g : Functionality} → Func scope l f → Func scope r g →
+      Func scope (disable l r) (either f g)
+  of_par : {l r : BehaviourView} {s : SyncView} {f g : Functionality} → Func scope l f → Func scope r g →
+      Func scope (par l s r) (both f g)
   of_enable : {l r : BehaviourView} {at : ℕ} {g : Functionality} → Func scope r g → Func scope (enable l at r) g
-  of_call : {p : Placed} {gs : List Placed} {k : ℕ} {d : DefinitionView} → Binds scope p.name k d → Func scope (call p gs) (declared_of d)
+  of_call : {p : Placed} {gs : List Placed} {k : ℕ} {d : DefinitionView} → Binds scope p.name k d →
+      Func scope (call p gs) (declared_of d)

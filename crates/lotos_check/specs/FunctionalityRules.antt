@@ -24,7 +24,8 @@ IsFunctionalityFault definition found (E27 name set) = ⊥
 IsFunctionalityFault definition found (E99 e) = Unit {0}
 
 -- one of the bodies breaks a rule of functionality, or memory ran out
-pub record IsFunctionalityFaultIn (definitions : List DefinitionView) (found : List ResolvedBody) (fault : CheckFault) : Type 0 where
+pub record IsFunctionalityFaultIn (definitions : List DefinitionView) (found : List ResolvedBody)
+    (fault : CheckFault) : Type 0 where
   pub index : ℕ
   pub definition : DefinitionView
   pub body : ResolvedBody

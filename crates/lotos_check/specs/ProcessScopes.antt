@@ -13,10 +13,12 @@ abbrev pub HasNames : {K : Type 0} → (K → Name) → List K → List Name →
 HasNames now keys names = (n : Name) → In n (map now keys) ↔ In n names
 
 -- the map has each name that the `where` declares with its binding, and no other
-pub record BindsAll {K S : Type 0} (now : K → Name) (ds : DefinitionListView) (first : ℕ) (t : HashMap K Binding S) : Type 0 where
+pub record BindsAll {K S : Type 0} (now : K → Name) (ds : DefinitionListView) (first : ℕ)
+    (t : HashMap K Binding S) : Type 0 where
   pub found : (n : Name) (m : Binding) → get_by (λ k. bytes_eq n (now k)) t ≡ Some m →
       Declares ds first n m.process (definition_view m.definition.now)
-  pub none : (n : Name) → get_by (λ k. bytes_eq n (now k)) t ≡ None → (j : ℕ) (d : DefinitionView) → Declares ds first n j d → ⊥
+  pub none : (n : Name) → get_by (λ k. bytes_eq n (now k)) t ≡ None → (j : ℕ) (d : DefinitionView) →
+      Declares ds first n j d → ⊥
 
 -- the maps are those of the scope's `where`s, the nearest last
 abbrev pub IsScopeStack : {K S : Type 0} → (K → Name) → List (HashMap K Binding S) → Scope → Type 0

@@ -47,7 +47,8 @@ pub record AreConsistentRanks (edges : List (List ℕ)) (ranks : List (Option �
 
 -- the process has a rank, or calls one without a rank
 abbrev pub IsStuckAt : List (List ℕ) → List (Option ℕ) → ℕ → Type 0
-IsStuckAt edges ranks p = slice_get ranks p ≡ Some None → (q : ℕ) × ListsCall edges p q × (slice_get ranks q ≡ Some None)
+IsStuckAt edges ranks p = slice_get ranks p ≡ Some None →
+    (q : ℕ) × ListsCall edges p q × (slice_get ranks q ≡ Some None)
 
 -- the ranks are consistent, and none can be added
 pub record AreMaximalRanks (edges : List (List ℕ)) (ranks : List (Option ℕ)) : Type 0 where

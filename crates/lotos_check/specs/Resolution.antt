@@ -18,18 +18,21 @@ use Rattle.lotos_check.specs.declared.fault.CheckFault.TheVariants.{E20, E21, E2
 -- each gate that a part uses is in scope there
 abbrev pub GatesDeclared : List Name → BehaviourView → Type 0
 GatesDeclared in_scope body =
-    (there : List Name) (part : BehaviourView) (g : Placed) → IsSubexpression in_scope body there part → UsesGate part g → In g.name there
+    (there : List Name) (part : BehaviourView) (g : Placed) → IsSubexpression in_scope body there part →
+    UsesGate part g → In g.name there
 
 -- each call names a visible process, with as many gates as its definition has
 abbrev pub CallsFit : Scope → List Name → BehaviourView → Type 0
 CallsFit scope in_scope body =
-    (there : List Name) (name : Placed) (actuals : List Placed) → IsSubexpression in_scope body there (call name actuals) →
+    (there : List Name) (name : Placed) (actuals : List Placed) →
+    IsSubexpression in_scope body there (call name actuals) →
     (k : ℕ) × (d : DefinitionView) × Binds scope name.name k d × (length (formals_of d) ≡ length actuals)
 
 -- each left operand of `>>` has exit
 abbrev pub LeftsExit : Scope → List Name → BehaviourView → Type 0
 LeftsExit scope in_scope body =
-    (there : List Name) (left right : BehaviourView) (at : ℕ) → IsSubexpression in_scope body there (enable left at right) → Func scope left f.Exit
+    (there : List Name) (left right : BehaviourView) (at : ℕ) →
+    IsSubexpression in_scope body there (enable left at right) → Func scope left f.Exit
 
 -- at the offset there is a `>>` whose left operand has noexit
 pub record NeverExits (scope : Scope) (in_scope : List Name) (body : BehaviourView) (at : ℕ) : Type 0 where
@@ -40,7 +43,8 @@ pub record NeverExits (scope : Scope) (in_scope : List Name) (body : BehaviourVi
   pub never_exits : Func scope left f.NoExit
 
 -- what holds of a body that is resolved without a fault
-pub record IsResolved (scope : Scope) (in_scope : List Name) (body : BehaviourView) (found : ResolvedBody) : Type 0 where
+pub record IsResolved (scope : Scope) (in_scope : List Name) (body : BehaviourView)
+    (found : ResolvedBody) : Type 0 where
   pub code : Resolves scope body (flat_of found.code.value)
   pub has : Func scope body found.functionality
   pub gates : GatesDeclared in_scope body
@@ -56,14 +60,16 @@ pub record UsesUndeclaredGate (in_scope : List Name) (body : BehaviourView) (gat
   pub unknown : In gate.name there → ⊥
 
 -- a call of no visible process
-pub record CallsUndeclaredProcess (scope : Scope) (in_scope : List Name) (body : BehaviourView) (name : Placed) : Type 0 where
+pub record CallsUndeclaredProcess (scope : Scope) (in_scope : List Name) (body : BehaviourView)
+    (name : Placed) : Type 0 where
   pub there : List Name
   pub actuals : List Placed
   pub located : IsSubexpression in_scope body there (call name actuals)
   pub unseen : (k : ℕ) (d : DefinitionView) → Binds scope name.name k d → ⊥
 
 -- a call with another number of gates than its definition has
-pub record CallsWithWrongCount (scope : Scope) (in_scope : List Name) (body : BehaviourView) (name : Placed) (formal actual : ℕ) : Type 0 where
+pub record CallsWithWrongCount (scope : Scope) (in_scope : List Name) (body : BehaviourView) (name : Placed)
+    (formal actual : ℕ) : Type 0 where
   pub there : List Name
   pub actuals : List Placed
   pub process : ℕ

@@ -32,7 +32,8 @@ pub data Declares : DefinitionListView → ℕ → Name → ℕ → DefinitionVi
 
 -- the name is bound to the process with this number and definition
 pub data Binds : Scope → Name → ℕ → DefinitionView → Type 0 where
-  nearest : {w : Where} {ws : Scope} {n : Name} {k : ℕ} {d : DefinitionView} → Declares w.defs w.first n k d → Binds (w ∷ ws) n k d
+  nearest : {w : Where} {ws : Scope} {n : Name} {k : ℕ} {d : DefinitionView} → Declares w.defs w.first n k d →
+      Binds (w ∷ ws) n k d
   outward : {w : Where} {ws : Scope} {n : Name} {k : ℕ} {d : DefinitionView} →
       ((j : ℕ) (e : DefinitionView) → Declares w.defs w.first n j e → ⊥) → Binds ws n k d → Binds (w ∷ ws) n k d
 
@@ -50,13 +51,18 @@ pub record ScopedDefinition : Type 0 where
 abbrev pub definitions_in_scope : Scope → ℕ → DefinitionListView → List ScopedDefinition
 definitions_in_scope scope first no_defs = []
 definitions_in_scope scope first (more_defs (def name formals declared body inner) ds) =
-    record { scope = record { defs = inner; first = first + 1 } ∷ scope; definition = def name formals declared body inner }
-    ∷ definitions_in_scope (record { defs = inner; first = first + 1 } ∷ scope) (first + 1) inner ++ definitions_in_scope scope (first + 1 + count inner) ds
+    record {
+      scope = record { defs = inner; first = first + 1 } ∷ scope;
+      definition = def name formals declared body inner;
+    }
+    ∷ definitions_in_scope (record { defs = inner; first = first + 1 } ∷ scope) (first + 1) inner
+    ++ definitions_in_scope scope (first + 1 + count inner) ds
 
 -- a definition and then its inner ones, which are numbered from `first` on
 abbrev pub definition_in_scope : Scope → ℕ → DefinitionView → List ScopedDefinition
 definition_in_scope scope first d =
-    record { scope = within d first scope; definition = d } ∷ definitions_in_scope (within d first scope) first (inner_of d)
+    record { scope = within d first scope; definition = d }
+    ∷ definitions_in_scope (within d first scope) first (inner_of d)
 
 -- the processes of a specification, by number
 abbrev pub processes_of : DefinitionView → List ScopedDefinition
@@ -68,7 +74,8 @@ all_definitions whole = definition_in_scope [] 0 whole
 
 -- the definition is one of the specification, and has this scope
 abbrev pub IsDefinition : DefinitionView → Scope → DefinitionView → Type 0
-IsDefinition whole scope d = In {X = ScopedDefinition} (record { scope = scope; definition = d }) (all_definitions whole)
+IsDefinition whole scope d = In {X = ScopedDefinition} (record { scope = scope; definition = d })
+    (all_definitions whole)
 
 -- no `where` of the scope declares a name twice
 abbrev pub IsDistinctScope : Scope → Type 0
@@ -77,7 +84,8 @@ IsDistinctScope scope = (w : Where) → In w scope → AreDistinct (declared_nam
 -- a definition and all definitions inside it, each followed at once by its inner ones; and the same of a list
 abbrev mutual
   pub definitions_in : DefinitionView → List DefinitionView
-  definitions_in (def name formals declared body inner) = def name formals declared body inner ∷ definitions_in_list inner
+  definitions_in (def name formals declared body inner) = def name formals declared body inner
+      ∷ definitions_in_list inner
 
   pub definitions_in_list : DefinitionListView → List DefinitionView
   definitions_in_list no_defs = []

@@ -10,17 +10,26 @@ use Rattle.lotos_check.specs.NameLists.{Name, In, texts}
 -- around it
 pub data IsSubexpression : List Name → BehaviourView → List Name → BehaviourView → Type 0 where
   whole : {in_scope : List Name} {t : BehaviourView} → IsSubexpression in_scope t in_scope t
-  in_prefix : {in_scope there : List Name} {a : Action} {b t : BehaviourView} → IsSubexpression in_scope b there t → IsSubexpression in_scope (prefix a b) there t
-  in_choice_left : {in_scope there : List Name} {l r t : BehaviourView} → IsSubexpression in_scope l there t → IsSubexpression in_scope (choice l r) there t
-  in_choice_right : {in_scope there : List Name} {l r t : BehaviourView} → IsSubexpression in_scope r there t → IsSubexpression in_scope (choice l r) there t
-  in_par_left : {in_scope there : List Name} {l r t : BehaviourView} {s : SyncView} → IsSubexpression in_scope l there t → IsSubexpression in_scope (par l s r) there t
-  in_par_right : {in_scope there : List Name} {l r t : BehaviourView} {s : SyncView} → IsSubexpression in_scope r there t → IsSubexpression in_scope (par l s r) there t
+  in_prefix : {in_scope there : List Name} {a : Action} {b t : BehaviourView} → IsSubexpression in_scope b there t →
+      IsSubexpression in_scope (prefix a b) there t
+  in_choice_left : {in_scope there : List Name} {l r t : BehaviourView} → IsSubexpression in_scope l there t →
+      IsSubexpression in_scope (choice l r) there t
+  in_choice_right : {in_scope there : List Name} {l r t : BehaviourView} → IsSubexpression in_scope r there t →
+      IsSubexpression in_scope (choice l r) there t
+  in_par_left : {in_scope there : List Name} {l r t : BehaviourView} {s : SyncView} →
+      IsSubexpression in_scope l there t → IsSubexpression in_scope (par l s r) there t
+  in_par_right : {in_scope there : List Name} {l r t : BehaviourView} {s : SyncView} →
+      IsSubexpression in_scope r there t → IsSubexpression in_scope (par l s r) there t
   in_hide : {in_scope there : List Name} {gs : List Placed} {b t : BehaviourView} →
       IsSubexpression (texts gs ++ in_scope) b there t → IsSubexpression in_scope (hide gs b) there t
-  in_enable_left : {in_scope there : List Name} {l r t : BehaviourView} {at : ℕ} → IsSubexpression in_scope l there t → IsSubexpression in_scope (enable l at r) there t
-  in_enable_right : {in_scope there : List Name} {l r t : BehaviourView} {at : ℕ} → IsSubexpression in_scope r there t → IsSubexpression in_scope (enable l at r) there t
-  in_disable_left : {in_scope there : List Name} {l r t : BehaviourView} → IsSubexpression in_scope l there t → IsSubexpression in_scope (disable l r) there t
-  in_disable_right : {in_scope there : List Name} {l r t : BehaviourView} → IsSubexpression in_scope r there t → IsSubexpression in_scope (disable l r) there t
+  in_enable_left : {in_scope there : List Name} {l r t : BehaviourView} {at : ℕ} → IsSubexpression in_scope l there t →
+      IsSubexpression in_scope (enable l at r) there t
+  in_enable_right : {in_scope there : List Name} {l r t : BehaviourView} {at : ℕ} → IsSubexpression in_scope r there t →
+      IsSubexpression in_scope (enable l at r) there t
+  in_disable_left : {in_scope there : List Name} {l r t : BehaviourView} → IsSubexpression in_scope l there t →
+      IsSubexpression in_scope (disable l r) there t
+  in_disable_right : {in_scope there : List Name} {l r t : BehaviourView} → IsSubexpression in_scope r there t →
+      IsSubexpression in_scope (disable l r) there t
 
 -- the behaviour itself, and not only a part of it, uses the gate
 pub data UsesGate : BehaviourView → Placed → Type 0 where

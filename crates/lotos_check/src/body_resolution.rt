@@ -44,7 +44,8 @@ fn resolve_bodies<'a>(
     into: &mut Vec<ResolvedBody>,
 ) -> Result<usize, CheckFault>
     requires { first + count (inner_of (definition_view definition.now)) < 2 ^ 63 }
-    ensures next { IfOk result (λ number. number ≡ first + count (inner_of (definition_view definition.now))) }
+    ensures next { IfOk result (λ number.
+        number ≡ first + count (inner_of (definition_view definition.now))) }
     ensures stack { OnOk result (scopes.new.items ≡ scopes.old.items) }
     ensures adds { OnOk result ((scope : Scope) → IsScopeStack (λ k. k.now) scopes.old.items scope →
         AddsBodies (definition_in_scope scope first (definition_view definition.now))

@@ -404,8 +404,8 @@ fn push_words(alloc: Global, text: &str, all: &mut Vec<String>) -> Result<(), Al
 
 /// Adds the parts of a text between blanks.
 fn push_parts(alloc: Global, text: &str, all: &mut Vec<String>) -> Result<(), AllocError>
-    ensures { IfOk result
-        (λ _. map string_bytes all.new.items ≡ map string_bytes all.old.items ++ parts_between_blanks text.now) }
+    ensures { IfOk result (λ _. map string_bytes all.new.items ≡
+        map string_bytes all.old.items ++ parts_between_blanks text.now) }
 {
     for part in text.split_ascii_whitespace() {
         all.push(String::from_str(alloc, part)?)?;

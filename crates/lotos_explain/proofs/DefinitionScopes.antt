@@ -80,7 +80,8 @@ process_inside scope first k d one at n f h =
 pub declared_item : (items : List Definition) (i : ℕ) (item : Definition) → i < length items → item ≡ get_or items i item →
     In (out-Definition item).name.name (texts (declared_names (definitions_view items)))
 declared_item [] i item below is = absurd (omega (arith, below))
-declared_item (d ∷ ds) zero item below is = inl (subst (λ x. (name_of (definition_view d)).name ≡ x.name) (sym (name_shown item)) (ap (λ x. (name_of (definition_view x)).name) (sym is)))
+declared_item (d ∷ ds) zero item below is = inl (subst (λ x. (name_of (definition_view d)).name ≡ x.name) (sym (name_shown item))
+    (ap (λ x. (name_of (definition_view x)).name) (sym is)))
 declared_item (d ∷ ds) (suc i) item below is = inr (declared_item ds i item (omega (arith, below)) is)
 
 -- the same of the name with its offset

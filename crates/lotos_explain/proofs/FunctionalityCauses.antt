@@ -86,7 +86,11 @@ same_all all first n = record { number = first; left = λ j d h. h; only = λ j 
 module _ (all : DefinitionListView) (first : ℕ) (n : Name) (one : DefinitionView) (rest : DefinitionListView)
     (same : SameDeclared all first n (more_defs one rest)) where
   pub same_here : (name_of one).name ≡ n → IsDeclared all first n one
-  same_here e = record { process = same.number; declares = same.left same.number one (subst (λ m. Declares (more_defs one rest) same.number m same.number one) e here) }
+  same_here e = record {
+    process = same.number;
+    declares = same.left same.number one
+        (subst (λ m. Declares (more_defs one rest) same.number m same.number one) e here);
+  }
 
   not_first : (k j : ℕ) (m : Name) (d : DefinitionView) → ((name_of one).name ≡ m → ⊥) → Declares (more_defs one rest) k m j d →
       Declares rest (k + 1 + count (inner_of one)) m j d
@@ -100,7 +104,8 @@ module _ (all : DefinitionListView) (first : ℕ) (n : Name) (one : DefinitionVi
     only = λ j d h. not_first same.number j n d other (same.only j d h);
   }
 
-pub same_none : (all : DefinitionListView) (first : ℕ) (n : Name) → SameDeclared all first n no_defs → (k : ℕ) (d : DefinitionView) → Declares all first n k d → ⊥
+pub same_none : (all : DefinitionListView) (first : ℕ) (n : Name) → SameDeclared all first n no_defs → (k : ℕ) (d : DefinitionView) → Declares all first n k d →
+    ⊥
 same_none all first n same k d h = elim (same.only k d h) [ ]
 
 -- what a test of the name of a definition says

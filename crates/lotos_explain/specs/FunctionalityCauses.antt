@@ -20,15 +20,24 @@ IsLeaf (leaf.Call p) b = (gates : List Placed) × (b ≡ call p.now gates)
 -- the last behaviour is a part of the first, and each part on the way has the functionality, both included
 pub data IsReached (scope : Scope) (f : Functionality) : BehaviourView → BehaviourView → Type 0 where
   itself : {b : BehaviourView} → Func scope b f → IsReached scope f b b
-  under_prefix : {a : Action} {b t : BehaviourView} → Func scope (prefix a b) f → IsReached scope f b t → IsReached scope f (prefix a b) t
-  under_hide : {gs : List Placed} {b t : BehaviourView} → Func scope (hide gs b) f → IsReached scope f b t → IsReached scope f (hide gs b) t
-  left_choice : {l r t : BehaviourView} → Func scope (choice l r) f → IsReached scope f l t → IsReached scope f (choice l r) t
-  right_choice : {l r t : BehaviourView} → Func scope (choice l r) f → IsReached scope f r t → IsReached scope f (choice l r) t
-  left_disable : {l r t : BehaviourView} → Func scope (disable l r) f → IsReached scope f l t → IsReached scope f (disable l r) t
-  right_disable : {l r t : BehaviourView} → Func scope (disable l r) f → IsReached scope f r t → IsReached scope f (disable l r) t
-  left_par : {l r t : BehaviourView} {s : SyncView} → Func scope (par l s r) f → IsReached scope f l t → IsReached scope f (par l s r) t
-  right_par : {l r t : BehaviourView} {s : SyncView} → Func scope (par l s r) f → IsReached scope f r t → IsReached scope f (par l s r) t
-  right_enable : {l r t : BehaviourView} {at : ℕ} → Func scope (enable l at r) f → IsReached scope f r t → IsReached scope f (enable l at r) t
+  under_prefix : {a : Action} {b t : BehaviourView} → Func scope (prefix a b) f → IsReached scope f b t →
+      IsReached scope f (prefix a b) t
+  under_hide : {gs : List Placed} {b t : BehaviourView} → Func scope (hide gs b) f → IsReached scope f b t →
+      IsReached scope f (hide gs b) t
+  left_choice : {l r t : BehaviourView} → Func scope (choice l r) f → IsReached scope f l t →
+      IsReached scope f (choice l r) t
+  right_choice : {l r t : BehaviourView} → Func scope (choice l r) f → IsReached scope f r t →
+      IsReached scope f (choice l r) t
+  left_disable : {l r t : BehaviourView} → Func scope (disable l r) f → IsReached scope f l t →
+      IsReached scope f (disable l r) t
+  right_disable : {l r t : BehaviourView} → Func scope (disable l r) f → IsReached scope f r t →
+      IsReached scope f (disable l r) t
+  left_par : {l r t : BehaviourView} {s : SyncView} → Func scope (par l s r) f → IsReached scope f l t →
+      IsReached scope f (par l s r) t
+  right_par : {l r t : BehaviourView} {s : SyncView} → Func scope (par l s r) f → IsReached scope f r t →
+      IsReached scope f (par l s r) t
+  right_enable : {l r t : BehaviourView} {at : ℕ} → Func scope (enable l at r) f → IsReached scope f r t →
+      IsReached scope f (enable l at r) t
 
 -- the behaviour has the functionality of the cause, as has each part on the way to the leaf
 pub record HasCause (scope : Scope) (b : BehaviourView) (cause : Cause) : Type 0 where

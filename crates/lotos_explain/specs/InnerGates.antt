@@ -44,7 +44,8 @@ pub record HasFormalInAny (definitions : List ScopedDefinition) (n process : Nam
   pub formal : In n (texts (formals_of scoped.definition))
   pub named : process ≡ (name_of scoped.definition).name
 
--- a definition of the specification, or the specification itself, has the second name and a formal gate of the first one
+-- a definition of the specification, or the specification itself, has the second name and a formal gate of the first
+-- one
 pub record IsFormalGateOf (whole : DefinitionView) (n process : Name) : Type 0 where
   pub scope : Scope
   pub definition : DefinitionView

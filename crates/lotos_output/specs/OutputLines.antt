@@ -102,7 +102,8 @@ functionality_text NoExit = codes "noexit"
 
 -- the line of a process: its name, how many formal gates it has, and its functionality
 abbrev pub process_line : FlatProcess → List ℕ
-process_line p = p.name ++ codes " " ++ decimal (length p.formals) ++ codes " " ++ functionality_text p.functionality ++ codes "\n"
+process_line p = p.name ++ codes " " ++ decimal (length p.formals) ++ codes " " ++ functionality_text p.functionality
+    ++ codes "\n"
 
 -- the lines of the processes of a system
 abbrev pub check_lines : System → List ℕ

@@ -48,6 +48,7 @@ module _ (p : List Element) (i : ℕ) (e : Element) (here : drop i p ≡ e ∷ d
 
 -- no label need follow where so many elements are done as have to be
 pub ending : (p : List Element) (place : Place) (n : ℕ) (past : Bool) → ((k : ℕ) → IsJoin Segment (drop k p) [] ↔ (n ≤ k)) →
-    MatchBool past ((k : ℕ) × (n ≤ k) × HasState place k) ((k : ℕ) → n ≤ k → HasState place k → ⊥) → MatchBool past (CanContinue p place []) (CanContinue p place [] → ⊥)
+    MatchBool past ((k : ℕ) × (n ≤ k) × HasState place k) ((k : ℕ) → n ≤ k → HasState place k → ⊥) →
+    MatchBool past (CanContinue p place []) (CanContinue p place [] → ⊥)
 ending p place n true done (k, far, has) = record { state = k; has = has; joined = (done k).1 far }
 ending p place n false done none = λ m. none m.state ((done m.state).0 m.joined) m.has

@@ -241,7 +241,8 @@ end_read c ends rows n end from r is read at stands =
 
 -- the number to which a label leads is that of a place
 pub leads_within : (old new : CompiledView) (place label : ℕ) (next : Option ℕ) → place < length old.places → label < length old.labels →
-    ((from : Place) (text : Label) → IsPlaceAt old place from → IsLabelAt old label text → LeadsTo new from text next) → IfSome next (λ n. n < length new.places)
+    ((from : Place) (text : Label) → IsPlaceAt old place from → IsLabelAt old label text → LeadsTo new from text next) →
+    IfSome next (λ n. n < length new.places)
 leads_within old new place label None below named leads = tt
 leads_within old new place label (Some n) below named leads =
     let to = leads _ _ (slice_get-get_or old.places place (record { bits = [] }) below) (slice_get-get_or old.labels label [] named) in

@@ -8,17 +8,21 @@ use Rattle.lotos_pattern.specs.ElementView.{element_of, elements_of}
 use Rattle.lotos_pattern.specs.declared.element.Element.{Element as CodeElement}
 
 -- the elements from a kept one on
-elements_from : (kept : List CodeElement) (i : ℕ) (x : CodeElement) → i < length kept → x ≡ get_or kept i x → drop i (elements_of kept) ≡ element_of x ∷ drop (i + 1) (elements_of kept)
+elements_from : (kept : List CodeElement) (i : ℕ) (x : CodeElement) → i < length kept → x ≡ get_or kept i x →
+    drop i (elements_of kept) ≡ element_of x ∷ drop (i + 1) (elements_of kept)
 elements_from kept i x within is =
     let there : i < length (elements_of kept) = let h = length-map kept element_of in omega arith in
-    drop_more (elements_of kept) i (element_of x) there ∙ ap (λ e. e ∷ drop (i + 1) (elements_of kept)) (get_or-map element_of kept i x (element_of x) within ∙ ap element_of (sym is))
+    drop_more (elements_of kept) i (element_of x) there ∙ ap (λ e. e ∷ drop (i + 1) (elements_of kept))
+    (get_or-map element_of kept i x (element_of x) within ∙ ap element_of (sym is))
 
 -- the same, of a pattern whose elements these are
-pub elements_at : (p : List Element) (kept : List CodeElement) (i : ℕ) (x : CodeElement) → elements_of kept ≡ p → i < length kept → x ≡ get_or kept i x → drop i p ≡ element_of x ∷ drop (i + 1) p
+pub elements_at : (p : List Element) (kept : List CodeElement) (i : ℕ) (x : CodeElement) → elements_of kept ≡ p → i < length kept → x ≡ get_or kept i x →
+    drop i p ≡ element_of x ∷ drop (i + 1) p
 elements_at p kept i x shown within is = subst (λ q. drop i q ≡ element_of x ∷ drop (i + 1) q) shown (elements_from kept i x within is)
 
 -- and the one element
-pub element_at : (p : List Element) (kept : List CodeElement) (i : ℕ) (x : CodeElement) → elements_of kept ≡ p → i < length kept → x ≡ get_or kept i x → slice_get p i ≡ Some (element_of x)
+pub element_at : (p : List Element) (kept : List CodeElement) (i : ℕ) (x : CodeElement) → elements_of kept ≡ p → i < length kept → x ≡ get_or kept i x →
+    slice_get p i ≡ Some (element_of x)
 element_at p kept i x shown within is =
     let there : slice_get kept i ≡ Some x = slice_get_read kept (length kept) i x refl within is in
     subst (λ q. slice_get q i ≡ Some (element_of x)) shown (slice_get-map element_of kept i ∙ ap (option_map element_of) there)
@@ -45,5 +49,6 @@ last_kept kept x answer some is h =
     let as_long : length (elements_of kept) ≡ length kept = length-map kept element_of in
     let none : drop (i + 1) (elements_of kept) ≡ [] = drop_all (i + 1) (elements_of kept) (omega arith) in
     let here : drop i (elements_of kept) ≡ element_of x ∷ [] = elements_from kept i x (omega arith) is ∙ ap (λ rest. element_of x ∷ rest) none in
-    let at : drop (length (elements_of kept) - 1) (elements_of kept) ≡ element_of x ∷ [] = subst (λ n. drop (n - 1) (elements_of kept) ≡ element_of x ∷ []) (sym as_long) here in
+    let at : drop (length (elements_of kept) - 1) (elements_of kept) ≡ element_of x
+    ∷ [] = subst (λ n. drop (n - 1) (elements_of kept) ≡ element_of x ∷ []) (sym as_long) here in
     h ∙ sym (last_decides (elements_of kept) (element_of x) at)

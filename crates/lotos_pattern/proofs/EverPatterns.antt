@@ -17,7 +17,8 @@ kind_first kind.Never later not = refl
 
 module _ (words : List Text) (index : ℕ) (word : Text) (stands : slice_get words index ≡ Some word) where
   -- the words from one on have its kind, if it has one
-  pub kind_here : (k : EndKind) → k ≡ kind_of_word word → (k ≡ kind.Refuses → ⊥) → kind_of_words words ≡ kind_of_words (drop index words) → k ≡ kind_of_words words
+  pub kind_here : (k : EndKind) → k ≡ kind_of_word word → (k ≡ kind.Refuses → ⊥) → kind_of_words words ≡ kind_of_words (drop index words) →
+      k ≡ kind_of_words words
   kind_here k is not before =
       let here : kind_of_words (drop index words) ≡ first_kind k (kind_of_words (drop (index + 1) words)) =
       ap kind_of_words (drop_at words index word stands) ∙ ap (λ j. first_kind j (kind_of_words (drop (index + 1) words))) (sym is) in
@@ -37,5 +38,6 @@ module _ (words : List Text) (index : ℕ) (word : Text) (stands : slice_get wor
       ∙ sym (ap (map word_for_refusal) (take_at words index word stands) ∙ map-append word_for_refusal (take index words) (word ∷ []))
 
 -- no words have no kind
-pub kind_of_none : (words : List Text) (index : ℕ) → length words ≡ index → kind_of_words words ≡ kind_of_words (drop index words) → kind.Refuses ≡ kind_of_words words
+pub kind_of_none : (words : List Text) (index : ℕ) → length words ≡ index → kind_of_words words ≡ kind_of_words (drop index words) →
+    kind.Refuses ≡ kind_of_words words
 kind_of_none words index all before = sym (before ∙ ap kind_of_words (drop_all index words (omega (arith, all))))

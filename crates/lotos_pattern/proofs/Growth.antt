@@ -67,7 +67,8 @@ module _ (strong : Bool) where
       subst (IsSpelledAt (SetSpelling strong set) words index) same
       (spelled_by_two words index at.first at.first_at (SetSpelling strong set) at.second at.second_at at.spelling)
 
-  joined_more : (p : List Element) (e : Element) (words own : List Text) → IsJoin (Spelling strong) p words → Spelling strong e own → IsJoin (Spelling strong) (p ++ e ∷ []) (words ++ own)
+  joined_more : (p : List Element) (e : Element) (words own : List Text) → IsJoin (Spelling strong) p words → Spelling strong e own →
+      IsJoin (Spelling strong) (p ++ e ∷ []) (words ++ own)
   joined_more [] e words own none spelling = (own, [], spelling, refl, ap (λ front. front ++ own) none ∙ sym (append-nil own))
   joined_more (f ∷ p) e words own (front, rest, first, others, cut) spelling =
       (front, rest ++ own, first, joined_more p e rest own others spelling, ap (λ l. l ++ own) cut ∙ append_assoc front rest own)
@@ -78,7 +79,8 @@ module _ (strong : Bool) where
   ends_last_more (f ∷ g ∷ p) e last goes_on = (last.0, ends_last_more (g ∷ p) e last.1 goes_on)
 
   -- below the limit of elements, one element more makes a pattern
-  one_more : (words : List Text) (index end : ℕ) (p : List Element) (e : Element) → PatternOf strong (take index words) (pattern_of strong p) → CanBeFollowed p →
+  one_more : (words : List Text) (index end : ℕ) (p : List Element) (e : Element) → PatternOf strong (take index words) (pattern_of strong p) →
+      CanBeFollowed p →
       ParsesAt strong words index e end → PatternOf strong (take end words) (pattern_of strong (p ++ e ∷ []))
   one_more words index end p e spelled has next = record {
     shows = refl;
@@ -106,7 +108,8 @@ module _ (strong : Bool) where
     stands = record { before = index; counted = refl; there = within_texts words index there; spelled = spelled }
 
     -- where no element may follow them, the fault has its cause
-    pub full_here : (fault : PatternFault) → IsAppendFault (elements_of lent) (index + 1) fault → IsCause strong (texts_of words) fault × SpellsNone strong (texts_of words) fault
+    pub full_here : (fault : PatternFault) → IsAppendFault (elements_of lent) (index + 1) fault →
+        IsCause strong (texts_of words) fault × SpellsNone strong (texts_of words) fault
     full_here fault full =
         let own = subst (λ elements. IsAppendFault (elements_of elements) (index + 1) fault) same full in
         let p = pattern_of strong (elements_of kept) in
@@ -120,7 +123,8 @@ module _ (strong : Bool) where
         let unfilled = own.below_limit in
         record { pattern = pattern_of strong (elements_of kept); is_after = stands; goes_on = own.goes_on; below_limit = omega arith }
 
-    pub grown_here : (end : ℕ) (e : CodeElement) (more : List CodeElement) → CanBeFollowed (elements_of lent) → ParsesAt strong (texts_of words) index (element_of e) end → more ≡ kept ++ e ∷ [] →
+    pub grown_here : (end : ℕ) (e : CodeElement) (more : List CodeElement) → CanBeFollowed (elements_of lent) →
+        ParsesAt strong (texts_of words) index (element_of e) end → more ≡ kept ++ e ∷ [] →
         PatternOf strong (take end (texts_of words)) (pattern_of strong (elements_of more))
     grown_here end e more below_limit next grown =
         let own : CanBeFollowed (elements_of kept) = subst (λ elements. CanBeFollowed (elements_of elements)) same below_limit in

@@ -63,7 +63,8 @@ pub record IsWalked (p : List Element) (from : Place) (l : Label) (k : ℕ) (onw
   pub complete : (n j : ℕ) → HasState from j → Leads p l j n → HasState onward n ⊎ (Leads p l k n ⊎ (k < j))
 
 -- from the first state on
-pub walk_begins : (p : List Element) (from : Place) (l : Label) (onward : Place) (first : Option ℕ) (end : ℕ) → length p ≤ end → ((k : ℕ) → HasState onward k → ⊥) →
+pub walk_begins : (p : List Element) (from : Place) (l : Label) (onward : Place) (first : Option ℕ) (end : ℕ) → length p ≤ end →
+    ((k : ℕ) → HasState onward k → ⊥) →
     MatchOption first ((k : ℕ) → 0 ≤ k → HasState from k → ⊥) (IsFirstState from 0) → IsWalked p from l (unwrap_or first end) onward
 walk_begins p from l onward None end long none nowhere = record {
   reachable = λ h. absurd (omega arith);
@@ -80,7 +81,8 @@ walk_begins p from l onward (Some k) end long none first = record {
 }
 
 -- after the last element no label leads on
-pub walk_ends : (p : List Element) (from : Place) (l : Label) (k : ℕ) (onward : Place) → length p ≤ k → IsWalked p from l k onward → (n : ℕ) → HasState onward n ↔ LeadsFrom p from l n
+pub walk_ends : (p : List Element) (from : Place) (l : Label) (k : ℕ) (onward : Place) → length p ≤ k → IsWalked p from l k onward → (n : ℕ) →
+    HasState onward n ↔ LeadsFrom p from l n
 walk_ends p from l k onward past w n = (
   w.sound n,
   λ m. elim (w.complete n m.0 m.1 m.2) [
@@ -98,8 +100,16 @@ keeps Reject k old new marks n has = (marks n).1 has
 module _ (strong : Bool) (p : List Element) (from : Place) (l : Label) (k : ℕ) (e : Element) (here : slice_get p k ≡ Some e) (occurs : CanOccur strong e) where
   -- what a place gains is where the label leads
   gains : (t : Transition) (old new : Place) → IsTransition e l t → HasTransition t k old new → (n : ℕ) → HasState new n → HasState old n ⊎ Leads p l k n
-  gains Advance old new takes marks n has = elim ((marks n).0 has) [ inl before ↦ inl before | inr same ↦ inr (subst (λ i. Leads p l k i) (sym same) (advances here takes)) ]
-  gains Stay old new takes marks n has = elim ((marks n).0 has) [ inl before ↦ inl before | inr same ↦ inr (subst (λ i. Leads p l k i) (sym same) (stays here takes)) ]
+  gains Advance old new takes marks n has = elim ((marks n).0 has) [
+    | inl before ↦ inl before
+    | inr same ↦ inr
+        (subst (λ i. Leads p l k i) (sym same) (advances here takes))
+  ]
+  gains Stay old new takes marks n has = elim ((marks n).0 has) [
+    | inl before ↦ inl before
+    | inr same ↦ inr
+        (subst (λ i. Leads p l k i) (sym same) (stays here takes))
+  ]
   gains Reject old new takes marks n has = inl ((marks n).0 has)
 
   to_next : (t : Transition) (old new : Place) → HasTransition t k old new → t ≡ Advance → HasState new (k + 1)
@@ -109,15 +119,18 @@ module _ (strong : Bool) (p : List Element) (from : Place) (l : Label) (k : ℕ)
   to_same t old new marks is = let own = subst (λ u. HasTransition u k old new) is marks in (own k).1 (inr refl)
 
   -- where the label leads from the state, the place gains the state or the label leads there from the next one
-  leaves : (t : Transition) (end n : ℕ) (old new : Place) → IsTransition e l t → HasTransition t k old new → IsNextState e from k end n → (m : ℕ) → Led p l e k m →
+  leaves : (t : Transition) (end n : ℕ) (old new : Place) → IsTransition e l t → HasTransition t k old new → IsNextState e from k end n → (m : ℕ) →
+      Led p l e k m →
       HasState new m ⊎ Leads p l n m
-  leaves t end n old new takes marks next m (advanced ends same) = inl (subst (HasState new) (sym same) (to_next t old new marks (only_advance t e l takes ends)))
+  leaves t end n old new takes marks next m (advanced ends same) = inl (subst (HasState new) (sym same)
+      (to_next t old new marks (only_advance t e l takes ends)))
   leaves t end n old new takes marks next m (stayed goes_on same) = inl
       (subst (HasState new) (sym same) (to_same t old new marks (only_stay strong t e l occurs takes goes_on)))
   leaves t end n old new takes marks next m (skipped empty rest) = inr (subst (λ i. Leads p l i m) (sym (next.passes empty)) rest)
 
   -- a reached element takes the label or is skipped
-  pub walked : (t : Transition) (end n : ℕ) (old new : Place) → k < length p → length p ≤ end → IsWalked p from l k old → IsTransition e l t → HasTransition t k old new →
+  pub walked : (t : Transition) (end n : ℕ) (old new : Place) → k < length p → length p ≤ end → IsWalked p from l k old → IsTransition e l t →
+      HasTransition t k old new →
       IsNextState e from k end n → IsWalked p from l n new
   walked t end n old new within long w takes marks next = record {
     reachable = λ h m lead. elim (next.reached (omega arith)) [
@@ -159,7 +172,8 @@ first_state p k (at_start none first) = first
 first_state p k (after_label r l j cut before lead) = absurd (not_empty r l (sym cut))
 
 -- before the first label
-pub states_begin : (p : Pattern) (none place : Place) → ((k : ℕ) → HasState none k → ⊥) → ((k : ℕ) → HasState place k ↔ (HasState none k ⊎ (k ≡ 0))) → HasStatesAfter p [] place
+pub states_begin : (p : Pattern) (none place : Place) → ((k : ℕ) → HasState none k → ⊥) → ((k : ℕ) → HasState place k ↔ (HasState none k ⊎ (k ≡ 0))) →
+    HasStatesAfter p [] place
 states_begin p none place bare has k = (
   λ h. elim ((has k).0 h) [
     | inl before ↦ absurd (bare k before)

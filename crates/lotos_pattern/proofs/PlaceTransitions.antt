@@ -28,7 +28,8 @@ After Advance e p s = IsJoin Segment p s
 After Stay e p s = IsJoin Segment (e ∷ p) s
 After Reject e p s = ⊥
 
-taken : (t : Transition) (e : Element) (p : List Element) (l : Label) (s front remainder : List Label) → IsTransition e l t → Segment e (l ∷ front) → IsJoin Segment p remainder → s ≡ front ++ remainder → After t e p s
+taken : (t : Transition) (e : Element) (p : List Element) (l : Label) (s front remainder : List Label) → IsTransition e l t → Segment e (l ∷ front) →
+    IsJoin Segment p remainder → s ≡ front ++ remainder → After t e p s
 unfolding IsTransition
 taken Advance e p l s front remainder takes segment j cut =
     let none : front ≡ [] = (takes front).0 segment in
@@ -59,7 +60,8 @@ pub no_label : (l : Label) (s : List Label) → l ∷ s ≡ [] → ⊥
 no_label l s e = cc
 
 -- from the first state on
-pub passing_begins : (p : List Element) (from : Place) (l : Label) (onward : Place) (first : Option ℕ) (end : ℕ) → length p ≤ end → ((k : ℕ) → HasState onward k → ⊥) →
+pub passing_begins : (p : List Element) (from : Place) (l : Label) (onward : Place) (first : Option ℕ) (end : ℕ) → length p ≤ end →
+    ((k : ℕ) → HasState onward k → ⊥) →
     MatchOption first ((k : ℕ) → 0 ≤ k → HasState from k → ⊥) (IsFirstState from 0) → IsPassing p from l (unwrap_or first end) onward
 passing_begins p from l onward None end long none nowhere = record {
   reachable = λ h. absurd (omega arith);
@@ -76,9 +78,11 @@ passing_begins p from l onward (Some k) end long none first = record {
 }
 
 -- after the last element no label follows
-pub passing_ends : (p : List Element) (from : Place) (l : Label) (k : ℕ) (onward : Place) → length p ≤ k → IsPassing p from l k onward → IsSuccessorPlace p from l onward
+pub passing_ends : (p : List Element) (from : Place) (l : Label) (k : ℕ) (onward : Place) → length p ≤ k → IsPassing p from l k onward →
+    IsSuccessorPlace p from l onward
 passing_ends p from l k onward past i s =
-    let none : (j : ℕ) → k ≤ j → IsJoin Segment (drop j p) (l ∷ s) → ⊥ = λ j far m. no_label l s (subst (λ q. IsJoin Segment q (l ∷ s)) (drop_all j p (omega arith)) m) in (
+    let none : (j : ℕ) → k ≤ j → IsJoin Segment (drop j p) (l ∷ s) → ⊥ = λ j far m. no_label l s
+    (subst (λ q. IsJoin Segment q (l ∷ s)) (drop_all j p (omega arith)) m) in (
       λ m. elim (i.complete s m.state m.has m.joined) [
         | inl done ↦ done
         | inr (inl rest) ↦ absurd (none k (omega arith) rest)
@@ -93,7 +97,8 @@ record Marked (t : Transition) (p : List Element) (k : ℕ) (e : Element) (old n
   adds : (s : List Label) → After t e (drop (k + 1) p) s → CanContinue p new s
   only : (s : List Label) → CanContinue p new s → CanContinue p old s ⊎ After t e (drop (k + 1) p) s
 
-marked : (t : Transition) (p : List Element) (k : ℕ) (e : Element) (old new : Place) → drop k p ≡ e ∷ drop (k + 1) p → HasTransition t k old new → Marked t p k e old new
+marked : (t : Transition) (p : List Element) (k : ℕ) (e : Element) (old new : Place) → drop k p ≡ e ∷ drop (k + 1) p → HasTransition t k old new →
+    Marked t p k e old new
 marked Advance p k e old new here marks = record {
   keeps = λ s m. record { state = m.state; has = (marks m.state).1 (inl m.has); joined = m.joined };
   adds = λ s j. record { state = k + 1; has = (marks (k + 1)).1 (inr refl); joined = j };
@@ -118,11 +123,13 @@ marked Reject p k e old new here marks = record {
 
 module _ (p : List Element) (from : Place) (l : Label) (k : ℕ) (e : Element) (here : drop k p ≡ e ∷ drop (k + 1) p) where
   -- a reached element takes the label or is passed over
-  pub passed : (t : Transition) (end n : ℕ) (old new : Place) → k < length p → length p ≤ end → IsPassing p from l k old → IsTransition e l t → HasTransition t k old new →
+  pub passed : (t : Transition) (end n : ℕ) (old new : Place) → k < length p → length p ≤ end → IsPassing p from l k old → IsTransition e l t →
+      HasTransition t k old new →
       IsNextState e from k end n → IsPassing p from l n new
   passed t end n old new within long i takes marks next =
       let m = marked t p k e old new here marks in
-      let on : (s : List Label) → IsJoin Segment (e ∷ drop (k + 1) p) s → CanContinue p from s = λ s j. i.reachable within s (subst (λ q. IsJoin Segment q s) (sym here) j) in record {
+      let on : (s : List Label) → IsJoin Segment (e ∷ drop (k + 1) p) s →
+      CanContinue p from s = λ s j. i.reachable within s (subst (λ q. IsJoin Segment q s) (sym here) j) in record {
         reachable = λ h s j. elim (next.reached (omega arith)) [
           | inl (empty, same) ↦ on s ([], s, empty, subst (λ i. IsJoin Segment (drop i p) s) same j, refl)
           | inr has ↦ record { state = n; has = has; joined = j }

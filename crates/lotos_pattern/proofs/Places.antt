@@ -24,7 +24,8 @@ bare n k =
     ])
 
 -- after the words there is no state; if there is none before them either, there is none
-pub none_past : (place : Place) (from n : ℕ) → length place.bits ≤ n → ((j : ℕ) → from ≤ j → j < n * 64 → HasState place j → ⊥) → (k : ℕ) → from ≤ k → HasState place k → ⊥
+pub none_past : (place : Place) (from n : ℕ) → length place.bits ≤ n → ((j : ℕ) → from ≤ j → j < n * 64 → HasState place j → ⊥) → (k : ℕ) → from ≤ k →
+    HasState place k → ⊥
 none_past place from n past before k behind has = elim (cases_lt k (n * 64)) [
   | inl h ↦ before k behind h has
   | inr h ↦ no_bit place k (get_or_past place.bits (k / 64) 0 (omega arith)) has

@@ -11,7 +11,8 @@ use Rattle.lotos_pattern.specs.ElementView.{CanOccur}
 use Rattle.lotos_pattern.specs.PlaceTransitions.{CanContinue, IsSuccessorPlace}
 
 -- a pattern whose labels can occur matches some sequence
-pub some_sequence : (p : Pattern) (elements : List Element) → All (CanOccur p.strong) elements → (s : List Label) × IsJoin Segment elements s × All (IsObservable p.strong) s
+pub some_sequence : (p : Pattern) (elements : List Element) → All (CanOccur p.strong) elements →
+    (s : List Label) × IsJoin Segment elements s × All (IsObservable p.strong) s
 some_sequence p [] h = ([], refl, All-nil (IsObservable p.strong))
 some_sequence p (e ∷ es) h =
     let first = All-head (CanOccur p.strong) e es h in
@@ -32,7 +33,8 @@ leads : (p : Pattern) (place : Place) (s : List Label) → CanFollow p place s �
 leads p place s m = record { state = m.state; has = m.has; joined = m.matched.joined }
 
 -- the place before any label
-pub begins : (p : Pattern) (none place : Place) → ((k : ℕ) → HasState none k → ⊥) → ((k : ℕ) → HasState place k ↔ (HasState none k ⊎ (k ≡ 0))) → IsPlaceOf p [] place
+pub begins : (p : Pattern) (none place : Place) → ((k : ℕ) → HasState none k → ⊥) → ((k : ℕ) → HasState place k ↔ (HasState none k ⊎ (k ≡ 0))) →
+    IsPlaceOf p [] place
 unfolding IsPlaceOf
 begins p none place bare has s = (
   λ m. record { state = 0; has = (has 0).1 (inr refl); matched = record { joined = m.joined; observable = m.observable } },
@@ -53,7 +55,8 @@ module _ (p : Pattern) (r : List Label) (l : Label) (place onward : Place) where
             follows p onward s ((leads_on s).0 (leads p place (l ∷ s) before)) (All-tail (IsObservable p.strong) l s before.matched.observable),
         λ m.
             let before = (leads_on s).1 (leads p onward s m) in
-            subst (Matches p) (sym regrouped) ((stands (l ∷ s)).1 (follows p place (l ∷ s) before (All-cons (IsObservable p.strong) l s seen m.matched.observable))),
+            subst (Matches p) (sym regrouped)
+            ((stands (l ∷ s)).1 (follows p place (l ∷ s) before (All-cons (IsObservable p.strong) l s seen m.matched.observable))),
       )
 
   -- a place with a state is that of a sequence that some sequence completes to a match
@@ -64,7 +67,8 @@ module _ (p : Pattern) (r : List Label) (l : Label) (place onward : Place) where
       (some.0, (stands some.0).1 (record { state = k; has = has; matched = record { joined = some.1; observable = some.2 } }))
 
   -- if the label leads to a place with a state, the longer prefix can still match, and that place is its place
-  pub goes_on : All (CanOccur p.strong) p.elements → IsObservable p.strong l → IsSuccessorPlace p.elements place l onward → (k : ℕ) × HasState onward k → IsPlaceOf p r place →
+  pub goes_on : All (CanOccur p.strong) p.elements → IsObservable p.strong l → IsSuccessorPlace p.elements place l onward → (k : ℕ) × HasState onward k →
+      IsPlaceOf p r place →
       Viable p (r ++ l ∷ []) × IsPlaceOf p (r ++ l ∷ []) onward
   goes_on occur seen leads_on (k, has) stands = let next = stepped seen leads_on stands in (alive occur k has next, next)
 

@@ -214,17 +214,21 @@ module _ (strong : Bool) where
     spelling : Spelling strong element front
     cut : drop index words ≡ front ++ rest
 
-  next_of : (words : List Text) (index : ℕ) (p q more : List Element) → index < length words → q ≡ p ++ more → IsJoin (Spelling strong) more (drop index words) → Next words index p q
+  next_of : (words : List Text) (index : ℕ) (p q more : List Element) → index < length words → q ≡ p ++ more →
+      IsJoin (Spelling strong) more (drop index words) → Next words index p q
   next_of words index p q [] there whole none = let long = length-drop index words in let empty = ap length none in absurd (omega arith)
   next_of words index p q (e ∷ more) there whole (front, remainder, spelling, others, cut) =
       record { element = e; more = more; whole = whole; front = front; rest = remainder; spelling = spelling; cut = cut }
 
   -- whatever pattern the words spell, it begins with the one that those before the index spell, and an element of it begins there
-  next : (words : List Text) (index : ℕ) (p q : Pattern) → IsAfterPattern strong words (index + 1) p → PatternOf strong words q → Next words index p.elements q.elements
+  next : (words : List Text) (index : ℕ) (p q : Pattern) → IsAfterPattern strong words (index + 1) p → PatternOf strong words q →
+      Next words index p.elements q.elements
   next words index p q stands spelled =
       let same : stands.before ≡ index = let h = stands.counted in omega arith in
-      let front : IsJoin (Spelling strong) p.elements (take index words) = subst (λ i. IsJoin (Spelling strong) p.elements (take i words)) same stands.spelled.spelled in
-      let further = goes_on strong p.elements q.elements (take index words) (drop index words) words (sym (take-append-drop index words)) front spelled.spelled in
+      let front : IsJoin (Spelling strong) p.elements (take index words) =
+      subst (λ i. IsJoin (Spelling strong) p.elements (take i words)) same stands.spelled.spelled in
+      let further = goes_on strong p.elements q.elements (take index words) (drop index words) words (sym (take-append-drop index words)) front
+      spelled.spelled in
       next_of words index p.elements q.elements further.more (subst (λ i. i < length words) same stands.there) further.whole further.spelled
 
   module _ (words : List Text) (index : ℕ) (word : Text) (stands : slice_get words index ≡ Some word) where
@@ -373,7 +377,8 @@ module _ (strong : Bool) where
       )
 
   -- no set begins with the word at an index
-  pub no_set_here : (words : List Text) (index : ℕ) (word : Text) → slice_get words index ≡ Some word → BeginsNoSet strong word → HasNoSetAfter strong words index
+  pub no_set_here : (words : List Text) (index : ℕ) (word : Text) → slice_get words index ≡ Some word → BeginsNoSet strong word →
+      HasNoSetAfter strong words index
   no_set_here words index word stands none =
       inl (record { before = index; word = word; counted = refl; located = stands; such = none })
 

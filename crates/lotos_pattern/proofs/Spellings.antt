@@ -186,7 +186,8 @@ module _ (strong : Bool) where
 
   -- no element is spelled by no word
   spelled_some : (e : Element) (front rest : List Text) → Spelling strong e front → front ++ rest ≡ [] → ⊥
-  spelled_some e front rest spelling none = let h = first e front spelling in let nothing = front_nil front rest none in let begins = h.begins in let z : ⊥ = cc in z
+  spelled_some e front rest spelling none = let h = first e front spelling in let nothing = front_nil front rest none in let begins = h.begins in let z : ⊥ =
+      cc in z
 
   -- the pattern that the words spell begins with the one that a front of them spells, and the rest of them spells the rest
   pub record GoesOn (p q : List Element) (rest : List Text) : Type 0 where
@@ -194,7 +195,8 @@ module _ (strong : Bool) where
     pub whole : q ≡ p ++ more
     pub spelled : IsJoin (Spelling strong) more rest
 
-  pub goes_on : (p q : List Element) (own rest words : List Text) → words ≡ own ++ rest → IsJoin (Spelling strong) p own → IsJoin (Spelling strong) q words → GoesOn p q rest
+  pub goes_on : (p q : List Element) (own rest words : List Text) → words ≡ own ++ rest → IsJoin (Spelling strong) p own → IsJoin (Spelling strong) q words →
+      GoesOn p q rest
   goes_on [] q own rest words cut none spelled =
       let same : words ≡ rest = cut ∙ ap (λ front. front ++ rest) none in
       record { more = q; whole = refl; spelled = subst (IsJoin (Spelling strong) q) same spelled }

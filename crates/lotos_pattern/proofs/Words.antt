@@ -68,7 +68,8 @@ names_gate strong word spelled no_exit no_internal =
     record { spelled = spelled; named = gate no_exit no_internal; observable = other_observable strong _ (upper_not_internal word) }
 
 -- the text of the word at an index
-pub word_at : (words : List (Bor Text)) (index : ℕ) (other : Bor Text) → index < length words → slice_get (texts_of words) index ≡ Some (get_or words index other).now
+pub word_at : (words : List (Bor Text)) (index : ℕ) (other : Bor Text) → index < length words →
+    slice_get (texts_of words) index ≡ Some (get_or words index other).now
 word_at [] index other within = absurd (omega arith)
 word_at (w ∷ ws) zero other within = refl
 word_at (w ∷ ws) (suc index) other within = word_at ws index other (omega arith)

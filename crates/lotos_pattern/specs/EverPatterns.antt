@@ -24,8 +24,8 @@ abbrev pub kind_of_words : List Text → EndKind
 kind_of_words [] = kind.Refuses
 kind_of_words (word ∷ words) = first_kind (kind_of_word word) (kind_of_words words)
 
--- the word that stands in its place where the end must refuse a set: `<livelock>` stands as `<deadlock>` does, without a
--- set, and `<forever>` and `<never>` as `<refuses>` does, before one
+-- the word that stands in its place where the end must refuse a set: `<livelock>` stands as `<deadlock>` does, without
+-- a set, and `<forever>` and `<never>` as `<refuses>` does, before one
 abbrev pub word_by_kind : EndKind → Text → Text
 word_by_kind kind.Refuses word = word
 word_by_kind kind.Livelock word = codes "<deadlock>"

@@ -6,7 +6,8 @@ use Rattle.lotos_pattern.specs.PatternLabels.{Label, internal}
 -- the list is the concatenation of one part for each of the items, in turn
 abbrev pub IsJoin : {E X : Type 0} → (E → List X → Type 0) → List E → List X → Type 0
 IsJoin Part [] xs = xs ≡ []
-IsJoin {E} {X} Part (e ∷ es) xs = (front : List X) × (rest : List X) × Part e front × IsJoin Part es rest × (xs ≡ front ++ rest)
+IsJoin {E} {X} Part (e ∷ es) xs = (front : List X) × (rest : List X) × Part e front × IsJoin Part es rest
+    × (xs ≡ front ++ rest)
 
 -- a set of labels
 pub data LabelSet : Type 0 where

@@ -33,7 +33,8 @@ EqualsIgnoringCase word text = map to_ascii_lowercase word ≡ text
 pub data IsNamed (word : Text) : Label → Type 0 where
   exits : EqualsIgnoringCase word termination → IsNamed word termination
   inside : EqualsIgnoringCase word internal → IsNamed word internal
-  gate : (EqualsIgnoringCase word termination → ⊥) → (EqualsIgnoringCase word internal → ⊥) → IsNamed word (map to_ascii_uppercase word)
+  gate : (EqualsIgnoringCase word termination → ⊥) → (EqualsIgnoringCase word internal → ⊥) →
+      IsNamed word (map to_ascii_uppercase word)
 
 -- the word names the label, which can be observed
 pub record Names (strong : Bool) (word : Text) (l : Label) : Type 0 where

@@ -62,7 +62,8 @@ ParsesRefusalAt strong words index set end = IsSpelledAt (RefusalSpelling strong
 
 -- if an element begins at this index, the fault has its cause and the words spell no pattern
 abbrev pub IsFaultAt : (strong : Bool) → List Text → ℕ → PatternFault → Type 0
-IsFaultAt strong words index fault = BeginsElement strong words (index + 1) → IsCause strong words fault × SpellsNone strong words fault
+IsFaultAt strong words index fault = BeginsElement strong words (index + 1) →
+    IsCause strong words fault × SpellsNone strong words fault
 
 -- the word at this index, which is `<not>`, and the next one spell the set
 pub record SpellsSetAt (strong : Bool) (words : List Text) (index : ℕ) (set : LabelSet) : Type 0 where

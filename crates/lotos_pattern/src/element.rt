@@ -141,8 +141,8 @@ pub(crate) fn exact_elements(
     labels: &[&str],
     refused: Option<&LabelSet>,
 ) -> Result<Vec<Element>, AllocError>
-    ensures { IfOk result (λ elements.
-        elements_of elements.items ≡ exact_elements (option_map lent_set_of refused.entry) (texts_of labels.now)) }
+    ensures { IfOk result (λ elements. elements_of elements.items ≡
+        exact_elements (option_map lent_set_of refused.entry) (texts_of labels.now)) }
 {
     let mut elements = label_elements(alloc, labels)?;
     if let Some(set) = refused {

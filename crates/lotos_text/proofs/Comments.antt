@@ -100,7 +100,8 @@ no_bytes [] h = refl
 no_bytes (b ∷ bs) h = absurd (omega (arith, h))
 
 -- the text up to the first closing is a comment
-pub comment_found : (text : List ℕ) (at : ℕ) → StartsWith comment_opening text → NoneBefore text at → starts_with nat_eq (rest_of text at) comment_closing ≡ true →
+pub comment_found : (text : List ℕ) (at : ℕ) → StartsWith comment_opening text → NoneBefore text at →
+    starts_with nat_eq (rest_of text at) comment_closing ≡ true →
     IsComment (take (at + 2) text) × (at + 2 ≤ length text)
 comment_found text at o n h =
     let c = subst (λ l. StartsWith comment_closing l) (rest_is text at) (begins_true comment_closing (rest_of text at) h) in

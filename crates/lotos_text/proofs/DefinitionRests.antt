@@ -51,7 +51,8 @@ module _ (text : List ℕ) (what : DefinitionKind) where
       (make_definition (heading, x) inner) (found_outer limit ts r q heading x f g) h refl
 
   -- header, body, inner definitions and the last keyword are a definition after its first keyword
-  pub found_contents : (limit : NestingLimit) (ts r q p rest : List Token) (n : Token) (heading : HeaderValue) (x : BehaviourView) (inner : DefinitionListView) →
+  pub found_contents : (limit : NestingLimit) (ts r q p rest : List Token) (n : Token) (heading : HeaderValue) (x : BehaviourView)
+      (inner : DefinitionListView) →
       Parses (HeaderPhrase text) ts heading r → Parses (BodyPhrase text what limit) r x q → Parses (WherePhrase text limit) q inner p → p ≡ n ∷ rest →
       IsOfKind n (closing_word what) → Parses (DefinitionRest text what limit) ts (make_definition (heading, x) inner) rest
   found_contents limit ts r q p rest n heading x inner f g h e i = found_before (Open limit) (closing_word what) ts p rest n

@@ -257,7 +257,8 @@ module _ (text : List ℕ) where
 
   -- inner definitions as parts
 
-  as_inner : {m : ℕ} {own : List Token} {ds : DefinitionListView} (limit : NestingLimit) (remainder : List Token) → SpellsWhere text m own ds → IsNestingWithin limit m →
+  as_inner : {m : ℕ} {own : List Token} {ds : DefinitionListView} (limit : NestingLimit) (remainder : List Token) → SpellsWhere text m own ds →
+      IsNestingWithin limit m →
       DoesNotStartWith (Reserved w.WhereWord) remainder → DoesNotStartWith (Reserved w.ProcessWord) remainder → WherePhrase text limit own ds remainder
   as_inner limit remainder nothing h row one = no_inner row
   as_inner limit remainder (definitions {n = n} i d) h row one =

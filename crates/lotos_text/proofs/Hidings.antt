@@ -133,7 +133,8 @@ module _ (text : List ℕ) where
       Fails (BehaviourPhrase text enabling (inside limit)) after rest → Fails (BehaviourPhrase text l limit) (n ∷ ts) rest
   lost_body l limit n word ts between after rest names i f e j lost =
       lost_form l limit n ts rest i
-      (lost_second t.hide Hiding (BehaviourPhrase text enabling (inside limit)) firm_hiding (n ∷ ts) after rest names (hiding n word ts between after names i f e j) lost)
+      (lost_second t.hide Hiding (BehaviourPhrase text enabling (inside limit)) firm_hiding (n ∷ ts) after rest names
+      (hiding n word ts between after names i f e j) lost)
 
   -- if the behaviour expression fails, so does the hide form
   pub carries_hidden : (l : Level) (nesting_left : ℕ) (n word : Token) (ts between after : List Token) (names : List Placed) →

@@ -21,7 +21,8 @@ pub fits : (text : List ℕ) (at : ℕ) (found rest : List ℕ) → at ≤ lengt
 fits text at found rest h e = omega (arith, ap length e, length-drop at text, length-append found rest)
 
 -- one lexing goes on with another
-join : {at mid end : ℕ} {text more rest : List ℕ} {ts us : List Token} → LexesTo at text ts mid more → LexesTo mid more us end rest → LexesTo at text (ts ++ us) end rest
+join : {at mid end : ℕ} {text more rest : List ℕ} {ts us : List Token} → LexesTo at text ts mid more → LexesTo mid more us end rest →
+    LexesTo at text (ts ++ us) end rest
 join nothing d = d
 join (blank i c) d = blank i (join c d)
 join (comment piece i c) d = comment piece i (join c d)
@@ -47,7 +48,8 @@ cut_token text at n kind (a_word found rest e i f) =
     subst (λ t. C t (drop (at + n) text)) (sym e) (subst (λ r. C (found ++ rest) r) (sym (remainder text at found rest e)) (word found i f nothing))
 cut_token text at n kind (a_sign sign rest e i) =
     let C : List ℕ → List ℕ → Type 0 = λ t r. LexesTo at t (token at n kind ∷ []) (at + n) r in
-    subst (λ t. C t (drop (at + n) text)) (sym e) (subst (λ r. C (sign_text sign ++ rest) r) (sym (remainder text at (sign_text sign) rest e)) (sign_token sign i nothing))
+    subst (λ t. C t (drop (at + n) text)) (sym e) (subst (λ r. C (sign_text sign ++ rest) r) (sym (remainder text at (sign_text sign) rest e))
+    (sign_token sign i nothing))
 
 -- a word and a sign have a byte at least
 word_some : (found : List ℕ) → IsWord found → 0 < length found
@@ -111,7 +113,8 @@ reached_comment text at n found r f =
       lexes = subst (λ ts. LexesTo 0 text ts (at + n) (drop (at + n) text)) (append-nil found) (join r.lexes (cut_comment text at n g));
     }
 
-pub reached_token : (text : List ℕ) (at n : ℕ) (kind : TokenKind) (found : List Token) → Reached text at found → IsNextLexeme (rest_of text at) (a_token n kind) →
+pub reached_token : (text : List ℕ) (at n : ℕ) (kind : TokenKind) (found : List Token) → Reached text at found →
+    IsNextLexeme (rest_of text at) (a_token n kind) →
     Reached text (at + n) (found ++ token at n kind ∷ [])
 reached_token text at n kind found r f =
     let g = front_at text at (a_token n kind) f in

@@ -114,7 +114,8 @@ mark_of_spelled s.Semicolon = refl
 mark_of_spelled _ = refl
 
 -- two signs of one length at the start of one text are equal
-same_mark : (a b : Sign) (text rest more : List ℕ) → text ≡ sign_text a ++ rest → text ≡ sign_text b ++ more → length (sign_text a) ≡ length (sign_text b) → a ≡ b
+same_mark : (a b : Sign) (text rest more : List ℕ) → text ≡ sign_text a ++ rest → text ≡ sign_text b ++ more → length (sign_text a) ≡ length (sign_text b) →
+    a ≡ b
 same_mark a b text rest more e f h =
     let front = sym (take-append_seam (sign_text a) rest) ∙ ap (take (length (sign_text a))) (sym e ∙ f) in
     let back = ap (λ n. take n (sign_text b ++ more)) h ∙ take-append_seam (sign_text b) more in

@@ -40,7 +40,8 @@ piece_word : (text : List ℕ) → is_ascii_alphabetic (slice_index text 0) ≡ 
 piece_word text h =
     cond-false (is_blank (slice_index text 0)) _ _ (letter_no_blank (slice_index text 0) h) ∙ cond-true (is_ascii_alphabetic (slice_index text 0)) _ _ h
 
-piece_mark : (text : List ℕ) → is_blank (slice_index text 0) ≡ false → is_ascii_alphabetic (slice_index text 0) ≡ false → piece_of text ≡ mark_piece (longest_sign text)
+piece_mark : (text : List ℕ) → is_blank (slice_index text 0) ≡ false → is_ascii_alphabetic (slice_index text 0) ≡ false →
+    piece_of text ≡ mark_piece (longest_sign text)
 piece_mark text h k = cond-false (is_blank (slice_index text 0)) _ _ h ∙ cond-false (is_ascii_alphabetic (slice_index text 0)) _ _ k
 
 -- a word begins with a letter

@@ -73,7 +73,8 @@ crowded_after front ts us after token nesting_left more e h c = record {
 
 -- How a part of a part that is lost makes the whole lost: with any nesting; with the nesting_left that there is; and with the tokens
 -- before it that open a construct.
-pub record Carries {A B : Type 0} (P : NestingLimit → Phrase A) (inner : ℕ) (ts : List Token) (Q : NestingLimit → Phrase B) (nesting_left : ℕ) (us : List Token) : Type 0 where
+pub record Carries {A B : Type 0} (P : NestingLimit → Phrase A) (inner : ℕ) (ts : List Token) (Q : NestingLimit → Phrase B) (nesting_left : ℕ)
+    (us : List Token) : Type 0 where
   pub free : (rest : List Token) → Fails (P None) ts rest → Fails (Q None) us rest
   pub limited : (rest : List Token) → Fails (P (Some inner)) ts rest → Fails (Q (Some nesting_left)) us rest
   pub before : List Token

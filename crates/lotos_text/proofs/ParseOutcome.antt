@@ -32,7 +32,8 @@ stuck_spells_nothing text (E07 at) h = absurd h
 stuck_spells_nothing text (E99 e) h = tt
 
 module _ (text : List ℕ) (ts : List Token) (short : length text ≤ max_text_length) (cut : Lexes text ts) where
-  found_specifies : (whole : DefinitionView) → Parses (SpecificationPhrase text (Some max_nesting)) ts whole [] → (n : ℕ) × SpellsSpecification text n ts whole × (n ≤ max_nesting)
+  found_specifies : (whole : DefinitionView) → Parses (SpecificationPhrase text (Some max_nesting)) ts whole [] →
+      (n : ℕ) × SpellsSpecification text n ts whole × (n ≤ max_nesting)
   found_specifies whole f = from_whole text (Some max_nesting) ts whole
       (subst (λ m. SpecificationPhrase text (Some max_nesting) m whole []) (sym (f.joined ∙ append-nil f.front)) f.whole)
 

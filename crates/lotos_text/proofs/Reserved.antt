@@ -45,7 +45,8 @@ first_out row rows found h left =
     let other = cond-false (equals_ignoring_case row.0.now found) (Reserved row.1) (kind_by rows found) (is_not row.0.now found parts.0 h) in
     record { decides = sym other ∙ left.decides; lower = parts.1 }
 
-first_left : (rows : List Row) (i : ℕ) (row : Row) (found : List ℕ) → i < length rows → Left (drop i rows) found → Left (get_or rows i row ∷ drop (suc i) rows) found
+first_left : (rows : List Row) (i : ℕ) (row : Row) (found : List ℕ) → i < length rows → Left (drop i rows) found →
+    Left (get_or rows i row ∷ drop (suc i) rows) found
 first_left rows i row found lt left = subst (λ r. Left r found) (drop-cons rows i row lt) left
 
 -- an entry with another spelling is left out

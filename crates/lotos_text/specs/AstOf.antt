@@ -37,7 +37,8 @@ definition_list_view (d ∷ ds) = more_defs d (definition_list_view ds)
 
 -- the view of a definition
 abbrev pub definition_view : Definition → DefinitionView
-definition_view = fold-Definition DefinitionView (λ d. def d.name d.formals.items d.functionality (behaviour_view d.body) (definition_list_view d.inner.items))
+definition_view = fold-Definition DefinitionView (λ d. def d.name d.formals.items d.functionality
+    (behaviour_view d.body) (definition_list_view d.inner.items))
 
 -- the view of a list of definitions
 abbrev pub definitions_view : List Definition → DefinitionListView

@@ -26,7 +26,8 @@ located_name text n = record { name = map to_ascii_uppercase (slice_range text n
 pub data Names (text : List ℕ) : List Token → List Placed → Type 0 where
   one_name : {n : Token} → IsOfKind n Identifier → Names text (n ∷ []) (located_name text n ∷ [])
   more_names : {n comma : Token} {ts : List Token} {names : List Placed} →
-      IsOfKind n Identifier → IsOfKind comma (Sign s.Comma) → Names text ts names → Names text (n ∷ comma ∷ ts) (located_name text n ∷ names)
+      IsOfKind n Identifier → IsOfKind comma (Sign s.Comma) → Names text ts names →
+      Names text (n ∷ comma ∷ ts) (located_name text n ∷ names)
 
 -- nothing, or names in brackets
 pub data GateList (text : List ℕ) : List Token → List Placed → Type 0 where
@@ -68,12 +69,15 @@ apply chooses x y = t.choice x y
 pub data IsOperator (text : List ℕ) : Level → List Token → Operator → Type 0 where
   enable_sign : {o : Token} → IsOfKind o (Sign s.Enable) → IsOperator text enabling (o ∷ []) (enables o.at)
   disable_sign : {o : Token} → IsOfKind o (Sign s.Disable) → IsOperator text disabling (o ∷ []) disables
-  interleave_sign : {o : Token} → IsOfKind o (Sign s.Interleave) → IsOperator text parallel (o ∷ []) (synchronizes (t.gates []))
+  interleave_sign : {o : Token} → IsOfKind o (Sign s.Interleave) →
+      IsOperator text parallel (o ∷ []) (synchronizes (t.gates []))
   full_sign : {o : Token} → IsOfKind o (Sign s.Full) → IsOperator text parallel (o ∷ []) (synchronizes t.all)
-  sync_on_none : {o right bar : Token} → IsOfKind o (Sign s.LeftSync) → IsOfKind right (Sign s.RightBracket) → IsOfKind bar (Sign s.Bar) →
+  sync_on_none : {o right bar : Token} → IsOfKind o (Sign s.LeftSync) → IsOfKind right (Sign s.RightBracket) →
+      IsOfKind bar (Sign s.Bar) →
       IsOperator text parallel (o ∷ right ∷ bar ∷ []) (synchronizes (t.gates []))
   sync_on : {o right bar : Token} {ts : List Token} {names : List Placed} →
-      IsOfKind o (Sign s.LeftSync) → Names text ts names → IsOfKind right (Sign s.RightBracket) → IsOfKind bar (Sign s.Bar) →
+      IsOfKind o (Sign s.LeftSync) → Names text ts names → IsOfKind right (Sign s.RightBracket) →
+      IsOfKind bar (Sign s.Bar) →
       IsOperator text parallel (o ∷ ts ++ right ∷ bar ∷ []) (synchronizes (t.gates names))
   choice_sign : {o : Token} → IsOfKind o (Sign s.Choice) → IsOperator text choosing (o ∷ []) chooses
 
@@ -89,10 +93,12 @@ pub data Spells (text : List ℕ) : Level → Bool → ℕ → List Token → Be
   stop : {n : Token} → IsOfKind n (Reserved w.StopWord) → Spells text prefixing false 0 (n ∷ []) t.stop
   exit : {n : Token} → IsOfKind n (Reserved w.ExitWord) → Spells text prefixing false 0 (n ∷ []) t.exit
   parentheses : {left right : Token} {o : Bool} {n : ℕ} {ts : List Token} {x : BehaviourView} →
-      IsOfKind left (Sign s.LeftParenthesis) → Spells text enabling o n ts x → IsOfKind right (Sign s.RightParenthesis) →
+      IsOfKind left (Sign s.LeftParenthesis) → Spells text enabling o n ts x →
+      IsOfKind right (Sign s.RightParenthesis) →
       Spells text prefixing false (n + 1) (left ∷ ts ++ right ∷ []) x
   call : {name : Token} {ts : List Token} {names : List Placed} →
-      IsOfKind name Identifier → GateList text ts names → Spells text prefixing false 0 (name ∷ ts) (t.call (located_name text name) names)
+      IsOfKind name Identifier → GateList text ts names →
+      Spells text prefixing false 0 (name ∷ ts) (t.call (located_name text name) names)
   prefix : {act semicolon : Token} {a : Action} {o : Bool} {n : ℕ} {ts : List Token} {x : BehaviourView} →
       IsAction text act a → IsOfKind semicolon (Sign s.Semicolon) → Spells text prefixing o n ts x →
       Spells text prefixing o (n + 1) (act ∷ semicolon ∷ ts) (t.prefix a x)
@@ -101,8 +107,10 @@ pub data Spells (text : List ℕ) : Level → Bool → ℕ → List Token → Be
   operation : {l m : Level} {o : Bool} {nl nr : ℕ} {left op right : List Token} {x y : BehaviourView} {how : Operator} →
       BindsTighter l m → Spells text m false nl left x → IsOperator text l op how → Spells text l o nr right y →
       Spells text l o (max nl (nr + 1)) (left ++ op ++ right) (apply how x y)
-  hide : {l : Level} {word within : Token} {o : Bool} {n : ℕ} {gates ts : List Token} {names : List Placed} {x : BehaviourView} →
-      IsOfKind word (Reserved w.HideWord) → Names text gates names → IsOfKind within (Reserved w.InWord) → Spells text enabling o n ts x →
+  hide : {l : Level} {word within : Token} {o : Bool} {n : ℕ} {gates ts : List Token} {names : List Placed}
+      {x : BehaviourView} →
+      IsOfKind word (Reserved w.HideWord) → Names text gates names → IsOfKind within (Reserved w.InWord) →
+      Spells text enabling o n ts x →
       Spells text l true (n + 1) (word ∷ gates ++ within ∷ ts) (t.hide names x)
 
 -- the declared functionality
@@ -134,11 +142,15 @@ mutual
   -- the tokens define a specification or a process, with their nesting
   pub data SpellsDefinition (text : List ℕ) : DefinitionKind → ℕ → List Token → DefinitionView → Type 0 where
     definition : {what : DefinitionKind} {word name colon returns define end : Token} {gates body rest : List Token}
-        {formals : List Placed} {func : Functionality} {o : Bool} {n m : ℕ} {x : BehaviourView} {inner : DefinitionListView} →
-        IsOfKind word (opening_word what) → IsOfKind name Identifier → GateList text gates formals → IsOfKind colon (Sign s.Colon) →
-        IsFunctionality returns func → IsOfKind define (defining_sign what) → Spells text enabling o n body x → SpellsWhere text m rest inner →
+        {formals : List Placed} {func : Functionality} {o : Bool} {n m : ℕ} {x : BehaviourView}
+        {inner : DefinitionListView} →
+        IsOfKind word (opening_word what) → IsOfKind name Identifier → GateList text gates formals →
+        IsOfKind colon (Sign s.Colon) →
+        IsFunctionality returns func → IsOfKind define (defining_sign what) → Spells text enabling o n body x →
+        SpellsWhere text m rest inner →
         IsOfKind end (closing_word what) →
-        SpellsDefinition text what (max n m) (word ∷ name ∷ gates ++ colon ∷ returns ∷ define ∷ body ++ rest ++ end ∷ [])
+        SpellsDefinition text what (max n m) (word ∷ name ∷ gates ++ colon ∷ returns ∷ define ∷ body ++ rest ++ end
+        ∷ [])
         (t.def (located_name text name) formals func x inner)
 
   -- nothing, or `where` and one or more definitions of processes
@@ -149,7 +161,8 @@ mutual
 
   -- one or more definitions of processes, each nested one deeper than by itself
   pub data SpellsDefinitions (text : List ℕ) : ℕ → List Token → DefinitionListView → Type 0 where
-    last : {n : ℕ} {ts : List Token} {d : DefinitionView} → SpellsDefinition text a_process n ts d → SpellsDefinitions text (n + 1) ts (t.more_defs d t.no_defs)
+    last : {n : ℕ} {ts : List Token} {d : DefinitionView} → SpellsDefinition text a_process n ts d →
+        SpellsDefinitions text (n + 1) ts (t.more_defs d t.no_defs)
     another : {n m : ℕ} {first others : List Token} {d : DefinitionView} {ds : DefinitionListView} →
         SpellsDefinition text a_process n first d → SpellsDefinitions text m others ds →
         SpellsDefinitions text (max (n + 1) m) (first ++ others) (t.more_defs d ds)

@@ -21,7 +21,8 @@ longest_sign text = find (λ sign. starts_with nat_eq text (sign_text sign)) sig
 -- the lexeme is what the text starts with
 pub data IsNextLexeme (text : List ℕ) : Lexeme → Type 0 where
   a_blank : (b : ℕ) (rest : List ℕ) → text ≡ b ∷ rest → IsTrue (is_blank b) → IsNextLexeme text Blank
-  a_comment : (piece rest : List ℕ) → text ≡ piece ++ rest → IsComment piece → IsNextLexeme text (Comment (length piece))
+  a_comment : (piece rest : List ℕ) → text ≡ piece ++ rest → IsComment piece →
+      IsNextLexeme text (Comment (length piece))
   a_word : (found rest : List ℕ) → text ≡ found ++ rest → IsWord found → EndsWord rest →
       IsNextLexeme text (Token (length found) (classify found))
   a_sign : (sign : Sign) (rest : List ℕ) → text ≡ sign_text sign ++ rest → IsSignToken sign rest →

@@ -103,7 +103,8 @@ pub record IsUnclosedComment (text : List ℕ) : Type 0 where
 
 -- before this rest the sign is the longest that matches, and no comment opens there
 pub record IsSignToken (sign : Sign) (rest : List ℕ) : Type 0 where
-  pub longest : (other : Sign) → StartsWith (sign_text other) (sign_text sign ++ rest) → length (sign_text other) ≤ length (sign_text sign)
+  pub longest : (other : Sign) → StartsWith (sign_text other) (sign_text sign ++ rest) →
+      length (sign_text other) ≤ length (sign_text sign)
   pub no_comment : StartsWith comment_opening (sign_text sign ++ rest) → ⊥
 
 -- the token of this kind and length in bytes, at the offset

@@ -38,7 +38,8 @@ StartsAlike (t ∷ ts) more = (others : List Token) × (more ≡ t ∷ others)
 pub record Fails {A : Type 0} (P : Phrase A) (ts rest : List Token) : Type 0 where
   pub front : List Token
   pub joined : ts ≡ front ++ rest
-  pub never : (more tokens after : List Token) (value : A) → StartsAlike rest more → front ++ more ≡ tokens ++ after → P tokens value after → ⊥
+  pub never : (more tokens after : List Token) (value : A) → StartsAlike rest more → front ++ more ≡ tokens ++ after →
+      P tokens value after → ⊥
 
 -- of the tokens up to and including this one, more open a construct than may be open
 pub record HasTooManyOpen (nesting_left : ℕ) (ts : List Token) (token : Token) (after : List Token) : Type 0 where
@@ -47,7 +48,8 @@ pub record HasTooManyOpen (nesting_left : ℕ) (ts : List Token) (token : Token)
   pub many : nesting_left < count_openings (front ++ token ∷ [])
 
 -- the token opens a construct where no more may be open, and no phrase within that nesting starts like this
-pub record IsTooDeepAt {A : Type 0} (P : NestingLimit → Phrase A) (nesting_left : ℕ) (ts : List Token) (token : Token) : Type 0 where
+pub record IsTooDeepAt {A : Type 0} (P : NestingLimit → Phrase A) (nesting_left : ℕ) (ts : List Token)
+    (token : Token) : Type 0 where
   pub after : List Token
   pub fails : Fails (P (Some nesting_left)) ts (token ∷ after)
   pub too_many_open : HasTooManyOpen nesting_left ts token after

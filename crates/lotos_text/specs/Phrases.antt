@@ -61,7 +61,8 @@ pub record OneName (text : List ℕ) (tokens : List Token) (value : Placed) (res
   pub same : value ≡ located_name text token
 
 -- one operator of the level
-pub record OneOperator (text : List ℕ) (level : Level) (tokens : List Token) (value : Operator) (rest : List Token) : Type 0 where
+pub record OneOperator (text : List ℕ) (level : Level) (tokens : List Token) (value : Operator)
+    (rest : List Token) : Type 0 where
   pub operates : IsOperator text level tokens value
 
 -- what follows `|[` in an operator: names or none, then `]` and `|`
@@ -69,7 +70,8 @@ pub data SyncList (text : List ℕ) : List Token → List Placed → List Token 
   no_sync : {right bar : Token} {rest : List Token} → IsOfKind right (Sign s.RightBracket) → IsOfKind bar (Sign s.Bar) →
       SyncList text (right ∷ bar ∷ []) [] rest
   some_sync : {right bar : Token} {ts rest : List Token} {names : List Placed} → Names text ts names →
-      IsOfKind right (Sign s.RightBracket) → IsOfKind bar (Sign s.Bar) → SyncList text (ts ++ right ∷ bar ∷ []) names rest
+      IsOfKind right (Sign s.RightBracket) → IsOfKind bar (Sign s.Bar) →
+      SyncList text (ts ++ right ∷ bar ∷ []) names rest
 
 -- a behaviour expression of the level, with a nesting within the limit, that the tokens after it do not continue
 pub record BehaviourPhrase (text : List ℕ) (level : Level) (limit : NestingLimit)
@@ -105,17 +107,21 @@ abbrev pub BodyPhrase : List ℕ → DefinitionKind → NestingLimit → Phrase 
 BodyPhrase text what limit = Preceded (defining_sign what) (BehaviourPhrase text enabling limit)
 
 -- one or more definitions, not followed by another
-pub record DefinitionList (text : List ℕ) (limit : NestingLimit) (tokens : List Token) (value : DefinitionListView) (rest : List Token) : Type 0 where
+pub record DefinitionList (text : List ℕ) (limit : NestingLimit) (tokens : List Token) (value : DefinitionListView)
+    (rest : List Token) : Type 0 where
   pub nesting : ℕ
   pub several : SpellsDefinitions text nesting tokens value
   pub ends : DoesNotStartWith (Reserved w.ProcessWord) rest
   pub within : IsNestingWithin limit nesting
 
 -- nothing, if no `where` follows; or `where` and a list of definitions
-pub data WherePhrase (text : List ℕ) (limit : NestingLimit) : List Token → DefinitionListView → List Token → Type 0 where
-  no_inner : {rest : List Token} → DoesNotStartWith (Reserved w.WhereWord) rest → WherePhrase text limit [] t.no_defs rest
+pub data WherePhrase (text : List ℕ) (limit : NestingLimit) : List Token → DefinitionListView → List Token →
+    Type 0 where
+  no_inner : {rest : List Token} → DoesNotStartWith (Reserved w.WhereWord) rest →
+      WherePhrase text limit [] t.no_defs rest
   some_inner : {word : Token} {tokens rest : List Token} {value : DefinitionListView} →
-      IsOfKind word (Reserved w.WhereWord) → DefinitionList text limit tokens value rest → WherePhrase text limit (word ∷ tokens) value rest
+      IsOfKind word (Reserved w.WhereWord) → DefinitionList text limit tokens value rest →
+      WherePhrase text limit (word ∷ tokens) value rest
 
 -- the definition of a header with its body, and the inner definitions
 abbrev pub make_definition : HeaderValue × BehaviourView → DefinitionListView → DefinitionView
@@ -124,7 +130,8 @@ make_definition value inner = t.def value.0.0 value.0.1 value.0.2 value.1 inner
 -- a definition after its first keyword, up to and including its last one
 abbrev pub DefinitionRest : List ℕ → DefinitionKind → NestingLimit → Phrase DefinitionView
 DefinitionRest text what limit =
-    Followed (Sequence make_definition (Sequence (λ heading body. (heading, body)) (HeaderPhrase text) (BodyPhrase text what limit)) (WherePhrase text limit))
+    Followed (Sequence make_definition (Sequence (λ heading body. (heading, body)) (HeaderPhrase text)
+    (BodyPhrase text what limit)) (WherePhrase text limit))
     (closing_word what)
 
 -- a complete definition
@@ -133,4 +140,5 @@ CompleteDefinition text what limit = Preceded (opening_word what) (DefinitionRes
 
 -- a complete specification, and then the end of the input
 abbrev pub SpecificationPhrase : List ℕ → NestingLimit → Phrase DefinitionView
-SpecificationPhrase text limit = Sequence (λ whole end. whole) (CompleteDefinition text a_specification limit) EndOfInput
+SpecificationPhrase text limit = Sequence (λ whole end. whole) (CompleteDefinition text a_specification limit)
+    EndOfInput

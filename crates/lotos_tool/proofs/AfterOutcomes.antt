@@ -138,14 +138,16 @@ module _ (request : AfterRequest) (left left' : Option (List ℕ)) where
 
   -- a word that names an unknown gate
   pub gate_rejects : (system : System) (s : List Label) (u : Rejection) → ReadsAsked request.interface left left' system →
-      NamesEach request.strong (words_of request.words) s → IsGateRejection system.formals (words_of request.words) u → IsRejectionBy (IsAfterRefusal request) left left' u
+      NamesEach request.strong (words_of request.words) s → IsGateRejection system.formals (words_of request.words) u →
+      IsRejectionBy (IsAfterRefusal request) left left' u
   gate_rejects system s u read named h = gate_means (IsAfterRefusal request) request.interface (words_of request.words) left left' system u read
       (λ n unknown. record { system = system; read = read; s = s; named = named; unknown_gate = unknown }) h
 
 -- ---- the answer
 
 -- the sets of a table of the system are those of its behaviour
-pub behaviour_is : (system : System) (table : TableView) (p : Pattern) (v : FormSetsView) → IsMatchQuestionOf system (match_question_of table p) → v.table ≡ table →
+pub behaviour_is : (system : System) (table : TableView) (p : Pattern) (v : FormSetsView) → IsMatchQuestionOf system (match_question_of table p) →
+    v.table ≡ table →
     v.start ≡ table.start → IsBehaviourOf system (behaviour_of v)
 behaviour_is system table p v is same begins =
     let now : behaviour_of v ≡ record { names = table.names; processes = table.processes; start = term_at table.terms table.start; strong = v.strong } = λ i.

@@ -33,7 +33,8 @@ one_part [] h = absurd h
 one_part (b ∷ bs) h = slice_split_none (λ c. c == 44) (b ∷ bs) (All-cons (λ c. (c == 44) ≡ false) b bs (letter_no_comma b h.0) (no_comma bs h.1))
 
 -- each gate that the words name is one of a table of the system
-pub have_gates : (strong : Bool) (system : System) (table : TableView) (words : List Text) (s : List Label) → IsTableOf system table → NamesEach strong words s →
+pub have_gates : (strong : Bool) (system : System) (table : TableView) (words : List Text) (s : List Label) → IsTableOf system table →
+    NamesEach strong words s →
     HasNoUnknownGate system.formals words → HaveGates table.names words
 have_gates strong system table words s is named known word there no_exit no_internal no_gate =
     let (k, at) = in_get words word there in

@@ -93,7 +93,8 @@ runs_for one request system p mark search runs begun wanted about =
     with_runs (by_cover q) (origins m) asked pattern bounds wanted about = absurd pattern
 
 -- what begins the writing of runs gives those of the search
-pub runs_begun : {E : Type 0} → IsOneQuestion → (request : SearchRequest) (system : System) (p : Pattern) (mark : Option (List Label)) (result : Result ItemRuns E) →
+pub runs_begun : {E : Type 0} → IsOneQuestion → (request : SearchRequest) (system : System) (p : Pattern) (mark : Option (List Label))
+    (result : Result ItemRuns E) →
     IfOk result (λ r. runs_of (runs_view r) ≡ request.runs) → IfOk result (λ r. IsAboutSystem system p (runs_view r)) →
     IfOk result (λ r. (search : ListingState) → IsSearchFor request system p mark search → AreRunsFor search.question request.runs (runs_view r))
 runs_begun one request system p mark (Ok r) wanted about = λ search begun. runs_for one request system p mark search (runs_view r) begun wanted about

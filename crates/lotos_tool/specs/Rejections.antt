@@ -64,7 +64,8 @@ IsAskedRejection interface text Memory = Unit {0}
 
 -- what a rejection means, if `Means` is what a refusal means: that, or memory ran out, and at most one byte more than a
 -- text may have was taken from the reader
-abbrev pub IsRejectionBy : (Means : Option (List ℕ) → Option (List ℕ) → Refusal → Type 0) → (left left' : Option (List ℕ)) →
+abbrev pub IsRejectionBy : (Means : Option (List ℕ) → Option (List ℕ) → Refusal → Type 0) →
+    (left left' : Option (List ℕ)) →
     Rejection → Type 0
 IsRejectionBy Means left left' (Refused cause) = Means left left' cause
 IsRejectionBy Means left left' Memory = TakesAtMost left left' (max_text_length + 1)

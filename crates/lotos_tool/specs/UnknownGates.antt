@@ -28,7 +28,8 @@ HasNoUnknownGate gates words = (k : ℕ) (word : List ℕ) → slice_get words k
 
 -- none of the first `n` words names a gate other than these
 abbrev pub HasNoUnknownGateBefore : ℕ → List Name → List (List ℕ) → Type 0
-HasNoUnknownGateBefore n gates words = (k : ℕ) (word : List ℕ) → k < n → slice_get words k ≡ Some word → NamesUnknownGate gates word → ⊥
+HasNoUnknownGateBefore n gates words = (k : ℕ) (word : List ℕ) → k < n → slice_get words k ≡ Some word →
+    NamesUnknownGate gates word → ⊥
 
 -- the number, counted from 1, of the first word that names a gate other than these
 pub record IsFirstUnknownGate (gates : List Name) (words : List (List ℕ)) (n : ℕ) : Type 0 where

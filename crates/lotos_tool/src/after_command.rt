@@ -109,7 +109,8 @@ fn write_answer<W: Sink, P: OutputProgress>(
     requires sequence { (s : List Text) × IsSequenceOf request.now (system_of system) s }
     requires writer { W.has_failed writer.old ≡ false }
     ensures outcome { (s : List Text) → IsSequenceOf request.now (system_of system) s →
-        IsAfterOutcomeFor request.now (system_of system) s (W.written writer.old) (W.written writer.new) result }
+        IsAfterOutcomeFor request.now (system_of system) s
+        (W.written writer.old) (W.written writer.new) result }
     ensures failed { W.has_failed writer.new ≡ is_after_output_fault result }
 {
     match find_answer(alloc, request, system, progress) {

@@ -123,7 +123,8 @@ fn write_item<S: ListingSearch, W: Sink>(
     requires printed { (item : Item) ×
         IsItemOf (names_of (S.state search.now).question) found.now.sequence.items found.now.word.items item }
     requires known { HasText (names_of (S.state search.now).question) known.now text.now }
-    requires run { CanWriteRun (names_of (S.state search.now).question) (runs_view runs.old) found.now.word.items }
+    requires run { CanWriteRun (names_of (S.state search.now).question) (runs_view runs.old)
+        found.now.word.items }
     requires unfailed { W.has_failed writer.old ≡ false }
     ensures same { runs_view runs.new ≡ runs_view runs.old }
     ensures whole { OnOk result ((item : Item) ×

@@ -38,7 +38,8 @@ abbrev pub BindsOnce : Scope → Type 0
 BindsOnce scope = (n : Name) (i j : ℕ) (d e : DefinitionView) → Binds scope n i d → Binds scope n j e → (i ≡ j) × (d ≡ e)
 
 -- a call by name is one by number
-number_called : (scope : Scope) → BindsOnce scope → (start : List Name) (b : BehaviourView) (c : Flat) (there : List Name) (callee : Placed) (actuals : List Placed) (k : ℕ) (d : DefinitionView) →
+number_called : (scope : Scope) → BindsOnce scope → (start : List Name) (b : BehaviourView) (c : Flat) (there : List Name) (callee : Placed)
+    (actuals : List Placed) (k : ℕ) (d : DefinitionView) →
     Resolves scope b c → IsSubexpression start b there (t.call callee actuals) → Binds scope callee.name k d → ContainsCallOf c k
 number_called scope one start b c there callee actuals k d (of_call {p = p} {gs = gs} {k = j} {d = e} m) parts.whole h =
     subst (ContainsCallOf _) (one callee.name j k e d m h).0 (texts actuals, itself)

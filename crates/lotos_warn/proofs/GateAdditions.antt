@@ -62,16 +62,19 @@ uses_stop = form_stop UsesFree IsListed used_by_form
 pub uses_exit : (names : List Name) → Adds names names (UsesFree exit)
 uses_exit = form_exit UsesFree IsListed used_by_form
 
-pub uses_prefix : (old mid new : List Name) (a : Action) (b : BehaviourView) → Adds old mid (IsActionNamed a) → Adds mid new (UsesFree b) → Adds old new (UsesFree (prefix a b))
+pub uses_prefix : (old mid new : List Name) (a : Action) (b : BehaviourView) → Adds old mid (IsActionNamed a) → Adds mid new (UsesFree b) →
+    Adds old new (UsesFree (prefix a b))
 uses_prefix = form_prefix UsesFree IsListed used_by_form
 
 pub uses_choice : (old mid new : List Name) (l r : BehaviourView) → Adds old mid (UsesFree l) → Adds mid new (UsesFree r) → Adds old new (UsesFree (choice l r))
 uses_choice = form_choice UsesFree IsListed used_by_form
 
-pub uses_enable : (old mid new : List Name) (l : BehaviourView) (at : ℕ) (r : BehaviourView) → Adds old mid (UsesFree l) → Adds mid new (UsesFree r) → Adds old new (UsesFree (enable l at r))
+pub uses_enable : (old mid new : List Name) (l : BehaviourView) (at : ℕ) (r : BehaviourView) → Adds old mid (UsesFree l) → Adds mid new (UsesFree r) →
+    Adds old new (UsesFree (enable l at r))
 uses_enable = form_enable UsesFree IsListed used_by_form
 
-pub uses_disable : (old mid new : List Name) (l r : BehaviourView) → Adds old mid (UsesFree l) → Adds mid new (UsesFree r) → Adds old new (UsesFree (disable l r))
+pub uses_disable : (old mid new : List Name) (l r : BehaviourView) → Adds old mid (UsesFree l) → Adds mid new (UsesFree r) →
+    Adds old new (UsesFree (disable l r))
 uses_disable = form_disable UsesFree IsListed used_by_form
 
 pub uses_par : (old mid more new : List Name) (l : BehaviourView) (s : SyncView) (r : BehaviourView) →
@@ -91,16 +94,20 @@ offers_stop = form_stop OffersFree IsNone offered_by_form
 pub offers_exit : (names : List Name) → Adds names names (OffersFree exit)
 offers_exit = form_exit OffersFree IsNone offered_by_form
 
-pub offers_prefix : (old mid new : List Name) (a : Action) (b : BehaviourView) → Adds old mid (IsActionNamed a) → Adds mid new (OffersFree b) → Adds old new (OffersFree (prefix a b))
+pub offers_prefix : (old mid new : List Name) (a : Action) (b : BehaviourView) → Adds old mid (IsActionNamed a) → Adds mid new (OffersFree b) →
+    Adds old new (OffersFree (prefix a b))
 offers_prefix = form_prefix OffersFree IsNone offered_by_form
 
-pub offers_choice : (old mid new : List Name) (l r : BehaviourView) → Adds old mid (OffersFree l) → Adds mid new (OffersFree r) → Adds old new (OffersFree (choice l r))
+pub offers_choice : (old mid new : List Name) (l r : BehaviourView) → Adds old mid (OffersFree l) → Adds mid new (OffersFree r) →
+    Adds old new (OffersFree (choice l r))
 offers_choice = form_choice OffersFree IsNone offered_by_form
 
-pub offers_enable : (old mid new : List Name) (l : BehaviourView) (at : ℕ) (r : BehaviourView) → Adds old mid (OffersFree l) → Adds mid new (OffersFree r) → Adds old new (OffersFree (enable l at r))
+pub offers_enable : (old mid new : List Name) (l : BehaviourView) (at : ℕ) (r : BehaviourView) → Adds old mid (OffersFree l) → Adds mid new (OffersFree r) →
+    Adds old new (OffersFree (enable l at r))
 offers_enable = form_enable OffersFree IsNone offered_by_form
 
-pub offers_disable : (old mid new : List Name) (l r : BehaviourView) → Adds old mid (OffersFree l) → Adds mid new (OffersFree r) → Adds old new (OffersFree (disable l r))
+pub offers_disable : (old mid new : List Name) (l r : BehaviourView) → Adds old mid (OffersFree l) → Adds mid new (OffersFree r) →
+    Adds old new (OffersFree (disable l r))
 offers_disable = form_disable OffersFree IsNone offered_by_form
 
 pub offers_hide : (old new empty inside : List Name) (gs : List Placed) (b : BehaviourView) → empty ≡ [] → Adds empty inside (OffersFree b) →

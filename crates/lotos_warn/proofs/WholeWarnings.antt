@@ -46,7 +46,8 @@ module _ (whole : DefinitionView) where
   )
 
   module _ (gate : Placed) (side : Side) where
-    occurrence : (scope : Scope) (d : DefinitionView) → IsDefinition whole scope d → WarnsFrom gate side (texts (formals_of d)) (body_of d) → IsUnofferedGate whole gate side
+    occurrence : (scope : Scope) (d : DefinitionView) → IsDefinition whole scope d → WarnsFrom gate side (texts (formals_of d)) (body_of d) →
+        IsUnofferedGate whole gate side
     occurrence scope d i f = record {
       scope = scope;
       in_scope = f.hidden;
@@ -69,7 +70,8 @@ module _ (whole : DefinitionView) where
         h.occurs.definition,
         unscoped h.scope h.occurs.definition h.occurs.located,
         inr ((warns_by_form gate side (body_of h.occurs.definition)).1
-            (to_form gate side (texts (formals_of h.occurs.definition)) h.in_scope (body_of h.occurs.definition) h.left h.right h.list h.occurs.inside h.listed h.unoffered)),
+            (to_form gate side (texts (formals_of h.occurs.definition)) h.in_scope (body_of h.occurs.definition) h.left h.right h.list h.occurs.inside h.listed
+            h.unoffered)),
       )),
     )
 

@@ -13,7 +13,8 @@ use Rattle.lotos_listing.specs.declared.found.Halt.TheVariants.{OverTerms, Memor
 use Rattle.uses.specs.ResumedListings.{IsFirstItem, IsSecondItem, IsSearchIn, IsHaltOf, IsHaltAfter, IsSecondHalt, before, after_item}
 
 module _ (table : TableView) (pattern : Pattern) (depth terms : ℕ) where
-  begun_in : (mark : Option (List Label)) (search : SearchState) → IsBegun table pattern depth mark terms search → IsSearchIn table pattern depth terms search.question
+  begun_in : (mark : Option (List Label)) (search : SearchState) → IsBegun table pattern depth mark terms search →
+      IsSearchIn table pattern depth terms search.question
   begun_in mark search b = record {
     names = b.names;
     processes = b.processes;
@@ -29,7 +30,8 @@ module _ (table : TableView) (pattern : Pattern) (depth terms : ℕ) where
   first_says mark old new r b same says =
       let at_going : RunningReturns old.question old.cursor r new.cursor new.stage =
       subst (λ s. NextReturnsAt old.question old.cursor s r new.cursor new.stage) b.stage says in
-      let at_mark : RunningReturns old.question mark r new.cursor new.stage = subst (λ m. RunningReturns old.question m r new.cursor new.stage) b.cursor at_going in
+      let at_mark : RunningReturns old.question mark r new.cursor new.stage =
+      subst (λ m. RunningReturns old.question m r new.cursor new.stage) b.cursor at_going in
       subst (λ q. RunningReturns q mark r new.cursor new.stage) (sym same) at_mark
 
   first_in : (mark : Option (List Label)) (old new : SearchState) → IsBegun table pattern depth mark terms old →
@@ -64,7 +66,8 @@ module _ (table : TableView) (pattern : Pattern) (depth terms : ℕ) where
   second_says old new item r s moved goes same says =
       let at_going : RunningReturns old.question old.cursor r new.cursor new.stage =
       subst (λ stage. NextReturnsAt old.question old.cursor stage r new.cursor new.stage) goes says in
-      let at_item : RunningReturns old.question (Some s) r new.cursor new.stage = subst (λ m. RunningReturns old.question m r new.cursor new.stage) moved at_going in
+      let at_item : RunningReturns old.question (Some s) r new.cursor new.stage =
+      subst (λ m. RunningReturns old.question m r new.cursor new.stage) moved at_going in
       subst (λ q. RunningReturns q (Some s) r new.cursor new.stage) (sym same) at_item
 
   pub second_found : (old new : SearchState) (item : Found) (found : Option Found) → IsFirstItem table pattern depth terms None (old, Some item) →
@@ -85,7 +88,8 @@ module _ (table : TableView) (pattern : Pattern) (depth terms : ℕ) where
 
   pub second_stops : (old new : SearchState) (item : Found) (halt : Halt) → IsFirstItem table pattern depth terms None (old, Some item) →
       new.question ≡ old.question → NextReturns old (Err halt) new → IsSecondHalt table pattern depth terms halt
-  second_stops old new item halt first same says = go halt (second_says old new item (Err halt) first.answers.0.s first.answers.0.moved first.answers.1 same says)
+  second_stops old new item halt first same says = go halt (second_says old new item (Err halt) first.answers.0.s first.answers.0.moved first.answers.1 same
+      says)
     where
       go : (halt : Halt) → RunningReturns new.question (Some first.answers.0.s) (Err halt) new.cursor new.stage → IsSecondHalt table pattern depth terms halt
       go (OverTerms labels) a = (

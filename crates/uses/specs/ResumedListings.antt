@@ -17,7 +17,8 @@ use Rattle.uses.specs.declared.resumed_listing.ItemFault.TheVariants as fault
 -- no item at all; or a first one, and what the search returns after it
 abbrev pub IsSecond : Question → Option Found → Option (List Label) → Stage → Type 0
 IsSecond q found cursor stage =
-    (IsEndOfListing q None × (found ≡ None)) ⊎ ((s run : List Label) × IsNextItem q None s run × RunningReturns q (Some s) (Ok found) cursor stage)
+    (IsEndOfListing q None × (found ≡ None)) ⊎ ((s run : List Label) × IsNextItem q None s run
+    × RunningReturns q (Some s) (Ok found) cursor stage)
 
 -- the cursor of a search that has returned at most one item: before the listing, or after its first item
 pub data IsAtStart (q : Question) : Option (List Label) → Type 0 where
@@ -66,7 +67,8 @@ module _ (table : TableView) (pattern : Pattern) (depth terms : ℕ) where
 
   -- the same for the mark that is the sequence of the line
   abbrev pub IsHaltAfter : Text → Halt → Type 0
-  IsHaltAfter line (OverTerms labels) = (mark : List Label) × MarkOf pattern.strong line mark × IsOversizedAfter (Some mark) labels.items
+  IsHaltAfter line (OverTerms labels) = (mark : List Label) × MarkOf pattern.strong line mark
+      × IsOversizedAfter (Some mark) labels.items
   IsHaltAfter line Memory = Unit {0}
   IsHaltAfter line Failed = ⊥
 
@@ -77,7 +79,8 @@ module _ (table : TableView) (pattern : Pattern) (depth terms : ℕ) where
 
   -- why no second item was returned: an oversized prefix, which comes before any second item
   abbrev pub IsSecondHalt : Halt → Type 0
-  IsSecondHalt (OverTerms labels) = (q : Question) × IsSearchIn q × (cursor : Option (List Label)) × IsAtStart q cursor × (prefix : List Label) ×
+  IsSecondHalt (OverTerms labels) = (q : Question) × IsSearchIn q × (cursor : Option (List Label)) × IsAtStart q cursor
+      × (prefix : List Label) ×
       ArePrinted q.names labels.items prefix × IsFirstOversized q cursor prefix
   IsSecondHalt Memory = Unit {0}
   IsSecondHalt Failed = ⊥

@@ -7,7 +7,8 @@ use Rattle.lotos_check.proofs.body_resolution.resolve_specification.Goals as goa
 
 pub returns-in_err-resolve_bodies-clause-name_fault : goal.returns-in_err-resolve_bodies-clause-name_fault
 returns-in_err-resolve_bodies-clause-name_fault c =
-    passed_on (IsNameFaultIn (all_definitions (definition_view c.args.whole.now))) c.from_residual.result c.in_err-resolve_bodies.field-0.0 c.from_residual.ensures.1
+    passed_on (IsNameFaultIn (all_definitions (definition_view c.args.whole.now))) c.from_residual.result c.in_err-resolve_bodies.field-0.0
+    c.from_residual.ensures.1
     (c.in_err-resolve_bodies.ensures.name_fault [] c.new-scopes.ensures.items)
 
 pub returns-clause-adds : goal.returns-clause-adds

@@ -13,7 +13,8 @@ check_distinct-returns-in-Some-clause-fails t c = gate_again c.args.whole.now c.
 
 pub check_distinct-returns-clause-distinct : goal.check_distinct-returns-clause-distinct
 check_distinct-returns-clause-distinct t c =
-    c.check_inner.ensures.distinct (formals_distinct c.args.whole.now c.as_slice.result.now c.as_slice.ensures.value (rw c.in_default.is at c.in_ok-gate.ensures))
+    c.check_inner.ensures.distinct (formals_distinct c.args.whole.now c.as_slice.result.now c.as_slice.ensures.value
+    (rw c.in_default.is at c.in_ok-gate.ensures))
 
 pub check_inner-loop-inner-init : goal.check_inner-loop-inner-init
 check_inner-loop-inner-init t c = passed_none (λ k. k.now) c.args.names.now.keys c.deref-inner-items.result.now c.requires
@@ -24,7 +25,8 @@ check_inner-returns-then-not-branch-clause-fails t c =
     let next = drop_at c.deref-inner-items.result.now c.loop-inner.inner-index _ c.inner-item.result within c.inner-item.is in
     passed_again (λ k. k.now)
     c.loop-inner.names.keys c.insert.new.self.keys c.text.result c.deref-inner-items.result.now _ _ c.inner-item.result c.text.result.now
-    c.loop-inner.invariant next c.text.ensures.bytes _ c.in_ok-insert.ensures.added c.args.whole.now c.deref-inner-items.ensures.value _ c.in_ok-copy.ensures c.if-not-branch.true
+    c.loop-inner.invariant next c.text.ensures.bytes _ c.in_ok-insert.ensures.added c.args.whole.now c.deref-inner-items.ensures.value _ c.in_ok-copy.ensures
+    c.if-not-branch.true
 
 pub check_inner-returns-in_err-check_distinct-clause-fails : goal.check_inner-returns-in_err-check_distinct-clause-fails
 check_inner-returns-in_err-check_distinct-clause-fails t c =
@@ -43,7 +45,8 @@ check_inner-loop-inner-preserved t c =
     let next = drop_at c.deref-inner-items.result.now c.loop-inner.inner-index _ c.inner-item.result within c.inner-item.is in
     passed_more (λ k. k.now)
     c.loop-inner.names.keys c.insert.new.self.keys c.text.result c.deref-inner-items.result.now _ _ c.inner-item.result c.text.result.now
-    c.loop-inner.invariant next c.text.ensures.bytes _ c.in_ok-insert.ensures.added c.if-not-branch.false refl c.in_ok-insert.ensures.keys c.in_ok-check_distinct.ensures.distinct
+    c.loop-inner.invariant next c.text.ensures.bytes _ c.in_ok-insert.ensures.added c.if-not-branch.false refl c.in_ok-insert.ensures.keys
+    c.in_ok-check_distinct.ensures.distinct
 
 pub check_inner-returns-clause-distinct : goal.check_inner-returns-clause-distinct
 check_inner-returns-clause-distinct t c =

@@ -15,4 +15,5 @@ loop-index-preserved c = λ more.
 pub returns-clause-typed : goal.returns-clause-typed
 returns-clause-typed c =
     c.loop-index.invariant
-    (pairs_end {P = HasDeclaredFunctionality} (λ d. definition_view d.now) c.args.definitions.now c.args.found.now c.loop-index.index (omega arith) (omega arith))
+    (pairs_end {P = HasDeclaredFunctionality} (λ d. definition_view d.now) c.args.definitions.now c.args.found.now c.loop-index.index (omega arith)
+    (omega arith))

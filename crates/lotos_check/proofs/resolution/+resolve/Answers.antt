@@ -9,10 +9,12 @@ use Rattle.lotos_check.proofs.OwnFaults.{misnamed_action, misnamed_sync}
 use Rattle.lotos_check.proofs.resolution.+resolve.Goals as goal
 
 pub returns-in_ok-make_leaf-in-Stop-clause-resolved : goal.returns-in_ok-make_leaf-in-Stop-clause-resolved
-returns-in_ok-make_leaf-in-Stop-clause-resolved t c = λ scope known shows knows. rw c.in-Stop.is (found_stop scope known _ c.in_ok-make_leaf-in-Stop.ensures.code c.in_ok-make_leaf-in-Stop.ensures.functionality c.in_ok-make_leaf-in-Stop.ensures.never)
+returns-in_ok-make_leaf-in-Stop-clause-resolved t c = λ scope known shows knows. rw c.in-Stop.is
+    (found_stop scope known _ c.in_ok-make_leaf-in-Stop.ensures.code c.in_ok-make_leaf-in-Stop.ensures.functionality c.in_ok-make_leaf-in-Stop.ensures.never)
 
 pub returns-in_ok-make_leaf-in-Exit-clause-resolved : goal.returns-in_ok-make_leaf-in-Exit-clause-resolved
-returns-in_ok-make_leaf-in-Exit-clause-resolved t c = λ scope known shows knows. rw c.in-Exit.is (found_exit scope known _ c.in_ok-make_leaf-in-Exit.ensures.code c.in_ok-make_leaf-in-Exit.ensures.functionality c.in_ok-make_leaf-in-Exit.ensures.never)
+returns-in_ok-make_leaf-in-Exit-clause-resolved t c = λ scope known shows knows. rw c.in-Exit.is
+    (found_exit scope known _ c.in_ok-make_leaf-in-Exit.ensures.code c.in_ok-make_leaf-in-Exit.ensures.functionality c.in_ok-make_leaf-in-Exit.ensures.never)
 
 pub returns-in_err-name-in-Prefix-clause-resolved : goal.returns-in_err-name-in-Prefix-clause-resolved
 returns-in_err-name-in-Prefix-clause-resolved t c = λ scope known shows knows.

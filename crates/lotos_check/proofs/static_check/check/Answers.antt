@@ -21,7 +21,8 @@ use Rattle.lotos_check.proofs.static_check.check.Goals.{In_ok-add_definitions, I
 use Rattle.lotos_check.proofs.static_check.check.Goals as goal
 
 -- the list has all definitions of the specification
-listed : (c : In_ok-add_definitions) → map (λ d. definition_view d.now) c.add_definitions.new.into.items ≡ definitions_in (definition_view c.args.specification.now.whole)
+listed : (c : In_ok-add_definitions) → map (λ d. definition_view d.now) c.add_definitions.new.into.items ≡ definitions_in
+    (definition_view c.args.specification.now.whole)
 listed c = rw c.new-definitions.ensures.items at c.in_ok-add_definitions.ensures
 
 -- something was found of each definition
@@ -38,14 +39,16 @@ flat c =
     let at = goal.at.rank_processes-requires c in
     let flattened = rw (c.as_slice-4.ensures.value, listed at.In_ok-add_definitions) at c.in_ok-start.ensures in
     let named = c.in_ok-gates.ensures ∙ ap texts (c.as_slice-3.ensures.value ∙ formals_shown c.args.specification.now.whole) in
-    flat_joined (definition_view c.args.specification.now.whole) c.in_ok-found.found.items c.in_ok-gates.gates.items c.in_ok-start.start.value c.in_ok-start.processes.items
+    flat_joined (definition_view c.args.specification.now.whole) c.in_ok-found.found.items c.in_ok-gates.gates.items c.in_ok-start.start.value
+    c.in_ok-start.processes.items
     (adds at.After-as_slice-2) flattened named
 
 pub resolve_specification-requires : goal.resolve_specification-requires
 resolve_specification-requires c =
     let all = c.add_definitions.new.into in
     let below : length all.items < 9223372036854775808 = omega (arith, all.ok.0, all.ok.1, all.small) in
-    inner_below (λ d. definition_view d.now) all.items (definition_view c.args.specification.now.whole) (listed (goal.at.resolve_specification-requires c).In_ok-add_definitions)
+    inner_below (λ d. definition_view d.now) all.items (definition_view c.args.specification.now.whole)
+    (listed (goal.at.resolve_specification-requires c).In_ok-add_definitions)
     9223372036854775808 below
 
 pub returns-in_err-check_distinct-clause-inside : goal.returns-in_err-check_distinct-clause-inside
@@ -74,7 +77,8 @@ pub check_functionality-requires : goal.check_functionality-requires
 check_functionality-requires c =
     let all = listed (goal.at.check_functionality-requires c).In_ok-add_definitions in
     rw (c.as_slice.ensures.value, c.as_slice-2.ensures.value)
-    (found_length (λ d. definition_view d.now) c.add_definitions.new.into.items (definition_view c.args.specification.now.whole) all c.in_ok-found.found.items (adds c))
+    (found_length (λ d. definition_view d.now) c.add_definitions.new.into.items (definition_view c.args.specification.now.whole) all c.in_ok-found.found.items
+    (adds c))
 
 pub returns-in_err-check_functionality : goal.returns-in_err-check_functionality
 returns-in_err-check_functionality c =
@@ -82,7 +86,8 @@ returns-in_err-check_functionality c =
     let at = goal.at.returns-in_err-check_functionality c in
     let fault = c.in_err-check_functionality.field-0.0 in
     let found = c.in_ok-found.found.items in
-    let untyped = rw (c.as_slice.ensures.value, listed at.In_ok-add_definitions, c.as_slice-2.ensures.value) at c.in_err-check_functionality.ensures.functionality_fault in
+    let untyped = rw (c.as_slice.ensures.value, listed at.In_ok-add_definitions, c.as_slice-2.ensures.value)
+    at c.in_err-check_functionality.ensures.functionality_fault in
     let faulty = untyped_faulty whole found fault (walked whole found (adds at.After-as_slice-2)) untyped in
     let result = c.from_residual-in_err-check_functionality.result in
     let same = c.from_residual-in_err-check_functionality.ensures.1 in
@@ -98,7 +103,8 @@ pub flatten-requires-clause-sized : goal.flatten-requires-clause-sized
 flatten-requires-clause-sized c =
     let at = goal.at.flatten-requires-clause-sized c in
     rw c.as_slice-4.ensures.value
-    (found_length (λ d. definition_view d.now) c.add_definitions.new.into.items (definition_view c.args.specification.now.whole) (listed at.In_ok-add_definitions)
+    (found_length (λ d. definition_view d.now) c.add_definitions.new.into.items (definition_view c.args.specification.now.whole)
+    (listed at.In_ok-add_definitions)
     c.in_ok-found.found.items (adds at.After-as_slice-2))
 
 pub rank_processes-requires : goal.rank_processes-requires
@@ -144,7 +150,8 @@ overflow_add-index c =
     let at = goal.at.overflow_add-index c in
     let all = c.add_definitions.new.into in
     let unguarded = rw (c.in-Unguarded.is, c.as_slice-5.ensures.value) at c.in_ok-ranks.ensures in
-    let below = unguarded_below (λ d. definition_view d.now) all.items (definition_view c.args.specification.now.whole) (listed at.In_ok-add_definitions) _ c.in-Unguarded.set.items
+    let below = unguarded_below (λ d. definition_view d.now) all.items (definition_view c.args.specification.now.whole) (listed at.In_ok-add_definitions) _
+    c.in-Unguarded.set.items
     c.index.result.now (flat at.After-as_slice-5) unguarded c.index.ensures in
     omega (arith, all.ok.0, all.ok.1, all.small)
 
@@ -153,7 +160,8 @@ index-requires-in-Unguarded c =
     let at = goal.at.index-requires-in-Unguarded c in
     let all = c.add_definitions.new.into in
     let unguarded = rw (c.in-Unguarded.is, c.as_slice-5.ensures.value) at c.in_ok-ranks.ensures in
-    let below = unguarded_below (λ d. definition_view d.now) all.items (definition_view c.args.specification.now.whole) (listed at.In_ok-add_definitions) _ c.in-Unguarded.set.items
+    let below = unguarded_below (λ d. definition_view d.now) all.items (definition_view c.args.specification.now.whole) (listed at.In_ok-add_definitions) _
+    c.in-Unguarded.set.items
     c.index.result.now (flat at.After-as_slice-5) unguarded c.index.ensures in
     omega (arith, all.ok.0)
 

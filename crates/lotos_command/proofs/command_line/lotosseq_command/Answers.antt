@@ -13,4 +13,5 @@ pub returns : goal.returns
 returns c =
     let bare : app_of c.subcommand_required.result ≡ bare_app = search rules in
     IfOk-weaker c.subcommands-2.result _ _
-    (λ m h. gets_subcommands _ _ subcommand_apps _ h c.in_ok-subcommands.ensures ∙ ap (λ (app : App). with_subcommands app subcommand_apps) bare) c.subcommands-2.ensures
+    (λ m h. gets_subcommands _ _ subcommand_apps _ h c.in_ok-subcommands.ensures ∙ ap (λ (app : App). with_subcommands app subcommand_apps) bare)
+    c.subcommands-2.ensures

@@ -6,7 +6,8 @@ use Rattle.lotos_device.proofs.byte_output.write_bytes.Goals as goal
 pub loop-at-preserved : goal.loop-at-preserved
 loop-at-preserved g c = record {
   within = search rules;
-  written = written_more _ _ _ c.args.bytes.now _ c.loop-at.at c.in_ok-at.field-0 c.loop-at.invariant.written c.in_ok-at.ensures.bytes.1 (grind (arith, common_steps));
+  written = written_more _ _ _ c.args.bytes.now _ c.loop-at.at c.in_ok-at.field-0 c.loop-at.invariant.written c.in_ok-at.ensures.bytes.1
+      (grind (arith, common_steps));
   unfailed = search rules;
 }
 

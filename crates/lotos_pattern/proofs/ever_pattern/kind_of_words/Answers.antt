@@ -18,4 +18,5 @@ loop-word-preserved c =
 pub returns : goal.returns
 returns c =
     let long = length-map c.args.words.now (λ word. word.now) in
-    kind_of_none (texts_of c.args.words.now) c.loop-word.word-index (omega (arith, c.loop-word-test.false, c.loop-word.auto.word-index-end)) c.loop-word.invariant
+    kind_of_none (texts_of c.args.words.now) c.loop-word.word-index (omega (arith, c.loop-word-test.false, c.loop-word.auto.word-index-end))
+    c.loop-word.invariant

@@ -7,7 +7,8 @@ use Rattle.lotos_pattern.specs.Patterns.{IsObservable}
 use Rattle.lotos_pattern.proofs.pattern.is_unobservable.Goals as goal
 
 -- only where internal steps are not observed, and only the internal action, is unobservable
-hidden : (strong same : Bool) (label : Label) → same ≡ bytes_eq label internal → MatchBool (not strong && same) (IsObservable strong label → ⊥) (IsObservable strong label)
+hidden : (strong same : Bool) (label : Label) → same ≡ bytes_eq label internal →
+    MatchBool (not strong && same) (IsObservable strong label → ⊥) (IsObservable strong label)
 hidden true same label is = tt
 hidden false true label is = λ h. h ((bytes_eq-Decides label internal).0 (sym is))
 hidden false false label is = λ e. let equal : bytes_eq label internal ≡ true = (bytes_eq-Decides label internal).1 e in let z : ⊥ = cc in z

@@ -10,7 +10,8 @@ use Rattle.lotos_pattern.proofs.pattern_parser.parse_element.Goals as goal
 pub returns-in-Labels-clause-element : goal.returns-in-Labels-clause-element
 returns-in-Labels-clause-element c =
     let names = rw c.in-Labels.is at c.in_ok-labels.ensures in
-    spelled_by_one (texts_of c.args.words.now) c.args.index _ (word_at c.args.words.now c.args.index _ c.requires) (Spelling c.args.strong _) (one_of (some (named names)))
+    spelled_by_one (texts_of c.args.words.now) c.args.index _ (word_at c.args.words.now c.args.index _ c.requires) (Spelling c.args.strong _)
+    (one_of (some (named names)))
 
 pub returns-in-Any-clause-element : goal.returns-in-Any-clause-element
 returns-in-Any-clause-element c =

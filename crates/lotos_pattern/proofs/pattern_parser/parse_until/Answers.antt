@@ -36,25 +36,29 @@ returns-in-Internal-clause-fault c begins =
 pub returns-in-Any-clause-fault : goal.returns-in-Any-clause-fault
 returns-in-Any-clause-fault c =
     let is = rw c.in-Any.is at c.in_ok-labels.ensures in
-    fault_until_none c.args.strong (texts_of c.args.words.now) c.args.index _ (numbered _ _ IsUntil c.requires.until) _ (word_at c.args.words.now (c.args.index + 1) _ (omega arith))
+    fault_until_none c.args.strong (texts_of c.args.words.now) c.args.index _ (numbered _ _ IsUntil c.requires.until) _
+    (word_at c.args.words.now (c.args.index + 1) _ (omega arith))
     c.requires.until.such (any_ends_none _ _ is)
 
 pub returns-in-Until-clause-fault : goal.returns-in-Until-clause-fault
 returns-in-Until-clause-fault c =
     let is = rw c.in-Until.is at c.in_ok-labels.ensures in
-    fault_until_none c.args.strong (texts_of c.args.words.now) c.args.index _ (numbered _ _ IsUntil c.requires.until) _ (word_at c.args.words.now (c.args.index + 1) _ (omega arith))
+    fault_until_none c.args.strong (texts_of c.args.words.now) c.args.index _ (numbered _ _ IsUntil c.requires.until) _
+    (word_at c.args.words.now (c.args.index + 1) _ (omega arith))
     c.requires.until.such (until_ends_none _ _ is)
 
 pub returns-in-While-clause-fault : goal.returns-in-While-clause-fault
 returns-in-While-clause-fault c =
     let is = rw c.in-While.is at c.in_ok-labels.ensures in
-    fault_until_none c.args.strong (texts_of c.args.words.now) c.args.index _ (numbered _ _ IsUntil c.requires.until) _ (word_at c.args.words.now (c.args.index + 1) _ (omega arith))
+    fault_until_none c.args.strong (texts_of c.args.words.now) c.args.index _ (numbered _ _ IsUntil c.requires.until) _
+    (word_at c.args.words.now (c.args.index + 1) _ (omega arith))
     c.requires.until.such (while_ends_none _ _ is)
 
 pub returns-in-Unknown-clause-fault : goal.returns-in-Unknown-clause-fault
 returns-in-Unknown-clause-fault c =
     let is = rw c.in-Unknown.is at c.in_ok-labels.ensures in
-    fault_until_none c.args.strong (texts_of c.args.words.now) c.args.index _ (numbered _ _ IsUntil c.requires.until) _ (word_at c.args.words.now (c.args.index + 1) _ (omega arith))
+    fault_until_none c.args.strong (texts_of c.args.words.now) c.args.index _ (numbered _ _ IsUntil c.requires.until) _
+    (word_at c.args.words.now (c.args.index + 1) _ (omega arith))
     c.requires.until.such (nothing_ends_none _ _ is)
 
 pub returns-in_ok-set-in-Not-clause-element : goal.returns-in_ok-set-in-Not-clause-element

@@ -38,7 +38,8 @@ parse_parenthesized-returns-in_err-expect_operand_end-clause-fails t c =
     (λ rest. lost_going_on c.args.text.now _ c.args.first c.in_ok-rest.field-0-0 c.args.tokens.now c.in_ok-inner.rest.now
     c.in_ok-rest.rest.now rest _ c.requires.opens c.in_ok-inner.ensures.parses c.in_ok-rest.ensures.parses.0
     c.in_ok-rest.ensures.parses.1)
-    c.from_residual-in_err-expect_operand_end.result c.in_err-expect_operand_end.field-0.0 c.from_residual-in_err-expect_operand_end.ensures.1 c.in_err-expect_operand_end.ensures.fails
+    c.from_residual-in_err-expect_operand_end.result c.in_err-expect_operand_end.field-0.0 c.from_residual-in_err-expect_operand_end.ensures.1
+    c.in_err-expect_operand_end.ensures.fails
 
 pub parse_parenthesized-returns-clause-parses : goal.parse_parenthesized-returns-clause-parses
 parse_parenthesized-returns-clause-parses t c =
@@ -197,7 +198,8 @@ parse_operand-returns-in_err-expect_operand_end-in-Exit-clause-fails t c =
     rw c.in-Some.ensures (unended c.args.text.now c.args.nesting_left c.in-Some.rest.now _
     (λ rest. lost_exit c.args.text.now c.in-Some.first c.in-Some.rest.now rest
     (is_exit c.in-Some.first (sym c.operand_start.ensures ∙ c.in-Exit.is)))
-    c.from_residual-in_err-expect_operand_end-in-Exit.result c.in_err-expect_operand_end-in-Exit.field-0.0 c.from_residual-in_err-expect_operand_end-in-Exit.ensures.1
+    c.from_residual-in_err-expect_operand_end-in-Exit.result c.in_err-expect_operand_end-in-Exit.field-0.0
+    c.from_residual-in_err-expect_operand_end-in-Exit.ensures.1
     c.in_err-expect_operand_end-in-Exit.ensures.fails)
 
 pub parse_operand-returns-in_ok-whole-in-Stop-clause-parses : goal.parse_operand-returns-in_ok-whole-in-Stop-clause-parses

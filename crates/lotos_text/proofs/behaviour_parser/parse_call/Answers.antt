@@ -18,9 +18,11 @@ returns-in_err-expect_operand_end-clause-fails c =
     (λ at. lost_called c.args.text.now c.args.first c.args.tokens.now c.in_ok-gates.rest.now at _ c.requires.named c.requires.calls
     c.in_ok-gates.ensures.parses)
     c.from_residual-in_err-expect_operand_end.result c.in_err-expect_operand_end.field-0.0 c.from_residual-in_err-expect_operand_end.ensures.1
-    (missed_end c.in_ok-gates.rest.now c.in_err-expect_operand_end.field-0.0 c.in_err-expect_operand_end.ensures.fails.0 c.in_err-expect_operand_end.ensures.fails.1)
+    (missed_end c.in_ok-gates.rest.now c.in_err-expect_operand_end.field-0.0 c.in_err-expect_operand_end.ensures.fails.0
+    c.in_err-expect_operand_end.ensures.fails.1)
 
 pub returns-clause-parses : goal.returns-clause-parses
 returns-clause-parses c =
-    λ nesting_left. rw c.in_ok-whole.ensures (found_call c.args.text.now nesting_left c.args.first c.args.tokens.now c.in_ok-gates.rest.now c.args.name _ c.requires.named
+    λ nesting_left. rw c.in_ok-whole.ensures (found_call c.args.text.now nesting_left c.args.first c.args.tokens.now c.in_ok-gates.rest.now c.args.name _
+    c.requires.named
     c.requires.placed c.in_ok-gates.ensures.parses c.in_ok-expect_operand_end.ensures.whole)

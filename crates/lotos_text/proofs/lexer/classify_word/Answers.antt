@@ -4,4 +4,5 @@ use Rattle.lotos_text.proofs.lexer.classify_word.Goals as goal
 
 pub loop-word-preserved : goal.loop-word-preserved
 loop-word-preserved c =
-    row_out _ c.loop-word.word-index _ _ c.loop-word-test.true (iff_false c.eq_ignore_ascii_case.ensures.test c.if-eq_ignore_ascii_case.false) c.loop-word.invariant
+    row_out _ c.loop-word.word-index _ _ c.loop-word-test.true (iff_false c.eq_ignore_ascii_case.ensures.test c.if-eq_ignore_ascii_case.false)
+    c.loop-word.invariant

@@ -32,7 +32,8 @@ parse_definition_rest-returns-in_err-rest-clause-fails t c =
 
 pub parse_definition_rest-returns-in_err-body-clause-fails : goal.parse_definition_rest-returns-in_err-body-clause-fails
 parse_definition_rest-returns-in_err-body-clause-fails t c =
-    carried_on (BehaviourPhrase c.args.text.now enabling) (DefinitionRest c.args.text.now (definition_kind_view c.args.kind)) c.args.nesting_left c.args.nesting_left
+    carried_on (BehaviourPhrase c.args.text.now enabling) (DefinitionRest c.args.text.now (definition_kind_view c.args.kind)) c.args.nesting_left
+    c.args.nesting_left
     c.in_ok-rest.rest.now c.args.tokens.now
     (carries_behaviour c.args.text.now (definition_kind_view c.args.kind) c.args.nesting_left c.args.tokens.now c.in_ok-heading.rest.now
     c.in_ok-rest.rest.now c.in_ok-rest.field-0-0 _ c.in_ok-heading.ensures.parses c.in_ok-rest.ensures.parses.0
@@ -193,14 +194,16 @@ parse_definitions-loop-found-preserved t c = record {
       let k = c.in_ok-one.ensures.shorter in
       omega (arith, i, j, k);
   finds = λ ds remainder f.
-      subst (λ (l : List DefinitionView). Parses (DefinitionList c.args.text.now (Some c.args.nesting_left)) c.args.tokens.now (definition_list_view l) remainder)
+      subst (λ (l : List DefinitionView). Parses (DefinitionList c.args.text.now (Some c.args.nesting_left)) c.args.tokens.now (definition_list_view l)
+      remainder)
       (sym (seen_pushed c.push.new.self.items c.loop-found.found.items c.in_ok-one.one ds c.in_ok-push.ensures.items))
       (c.loop-found.invariant.finds (definition_view c.in_ok-one.one ∷ ds) remainder
       (found_more_processes c.args.text.now (c.args.nesting_left - 1) c.args.nesting_left c.loop-found.rest.now c.in_ok-word.after.now
       c.in_ok-one.remainder.now remainder c.in_ok-word.word (definition_view c.in_ok-one.one) (definition_list_view ds)
       (let h = c.if-nesting_left-eq0.false in omega (arith, h)) c.in_ok-word.ensures.parses.0 c.in_ok-word.ensures.parses.1
       c.in_ok-one.ensures.parses f));
-  carries = carries_further (DefinitionList c.args.text.now) (DefinitionList c.args.text.now) (DefinitionList c.args.text.now) c.args.nesting_left c.args.nesting_left c.args.nesting_left
+  carries = carries_further (DefinitionList c.args.text.now) (DefinitionList c.args.text.now) (DefinitionList c.args.text.now) c.args.nesting_left
+      c.args.nesting_left c.args.nesting_left
       c.in_ok-one.remainder.now c.loop-found.rest.now c.args.tokens.now
       (carries_more c.args.text.now (c.args.nesting_left - 1) c.args.nesting_left c.loop-found.rest.now c.in_ok-word.after.now
       c.in_ok-one.remainder.now c.in-Some.field-0.1.now c.in_ok-word.word c.in-Some.field-0.0 (definition_view c.in_ok-one.one)

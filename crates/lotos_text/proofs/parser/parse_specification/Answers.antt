@@ -16,7 +16,8 @@ returns-in_err-rest-clause-fails c =
 
 pub returns-in_err-whole-clause-fails : goal.returns-in_err-whole-clause-fails
 returns-in_err-whole-clause-fails c =
-    carried_on (DefinitionRest c.args.text.now a_specification) (SpecificationPhrase c.args.text.now) max_nesting max_nesting c.in_ok-rest.rest.now c.args.tokens.now
+    carried_on (DefinitionRest c.args.text.now a_specification) (SpecificationPhrase c.args.text.now) max_nesting max_nesting c.in_ok-rest.rest.now
+    c.args.tokens.now
     (carries_contents c.args.text.now max_nesting c.args.tokens.now c.in_ok-rest.rest.now c.in_ok-rest.field-0-0
     c.in_ok-rest.ensures.parses.0 c.in_ok-rest.ensures.parses.1)
     c.from_residual-in_err-whole.result c.in_err-whole.field-0.0 c.from_residual-in_err-whole.ensures.1

@@ -19,7 +19,8 @@ follow_words-requires g c =
     record {
       sequence = (request.strong, s, rw c.as_slice.ensures.value sequence.named);
       gates = rw (c.as_slice.ensures.value, c.new-sets.ensures.table)
-          (have_gates request.strong (system_of c.args.system) c.in_ok-table.table (words_of request.words) s c.in_ok-table.ensures sequence.named sequence.known_gates);
+          (have_gates request.strong (system_of c.args.system) c.in_ok-table.table (words_of request.words) s c.in_ok-table.ensures sequence.named
+          sequence.known_gates);
     }
 
 pub returns-in_err-table-clause-none : goal.returns-in_err-table-clause-none
@@ -37,7 +38,8 @@ returns-clause-answer g c s sequence =
       behaviour = behaviour_is system c.in_ok-table.table p v is c.new-sets.ensures.table c.new-sets.ensures.start;
       strong = c.new-sets.ensures.strong;
     } in
-    IfOk-weaker c.follow_words.result _ _ (λ a h. (behaviour_of v, asked, h)) (c.follow_words.ensures.answer request.strong s (rw c.as_slice.ensures.value sequence.named))
+    IfOk-weaker c.follow_words.result _ _ (λ a h. (behaviour_of v, asked, h))
+    (c.follow_words.ensures.answer request.strong s (rw c.as_slice.ensures.value sequence.named))
 
 pub returns-clause-none : goal.returns-clause-none
 returns-clause-none g c s sequence =

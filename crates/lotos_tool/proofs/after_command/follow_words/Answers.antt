@@ -35,7 +35,8 @@ answer_of-requires g c =
 
 pub returns-in_err-labels-clause-none : goal.returns-in_err-labels-clause-none
 returns-in_err-labels-clause-none g c strong s named =
-    passed_on (λ f. IfTooMany f (IsFirstOversized (behaviour_of c.args.sets.now) c.args.sets.now.bound s)) c.from_residual.result Memory c.from_residual.ensures.1 tt
+    passed_on (λ f. IfTooMany f (IsFirstOversized (behaviour_of c.args.sets.now) c.args.sets.now.bound s)) c.from_residual.result Memory
+    c.from_residual.ensures.1 tt
 
 pub returns-in_err-followed-clause-none : goal.returns-in_err-followed-clause-none
 returns-in_err-followed-clause-none g c strong s named =

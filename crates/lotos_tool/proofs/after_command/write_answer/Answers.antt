@@ -8,7 +8,8 @@ pub returns-in-Ok-Lines-clause-outcome : goal.returns-in-Ok-Lines-clause-outcome
 returns-in-Ok-Lines-clause-outcome g c s sequence =
     lines_told c.args.request.now (system_of c.args.system) s c.in-Ok-Lines.lines _ _ c.write_lines.result
     (rw c.in-Ok-Lines.field-0-is at (c.in-Ok-Lines.ensures.answer s sequence))
-    (subst (λ bytes. AreWritten bytes (g.W.Sink.written c.args.writer.now) (g.W.Sink.written c.write_lines.new.writer) c.write_lines.result) c.as_slice.ensures.value c.write_lines.ensures.written)
+    (subst (λ bytes. AreWritten bytes (g.W.Sink.written c.args.writer.now) (g.W.Sink.written c.write_lines.new.writer) c.write_lines.result)
+    c.as_slice.ensures.value c.write_lines.ensures.written)
 
 pub returns-in-Ok-NoLabel-clause-outcome : goal.returns-in-Ok-NoLabel-clause-outcome
 returns-in-Ok-NoLabel-clause-outcome g c s sequence =

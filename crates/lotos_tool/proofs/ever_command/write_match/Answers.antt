@@ -8,7 +8,8 @@ pub returns-in-Ok-Some-clause-outcome : goal.returns-in-Ok-Some-clause-outcome
 returns-in-Ok-Some-clause-outcome g c =
     line_told c.args.request.now (system_of c.args.system) c.args.pattern.now c.in-Ok-Some.line _ _ c.write_line.result
     (rw c.in-Ok-Some.field-0-is at c.in-Ok-Some.ensures.line)
-    (subst (λ bytes. IsWritten bytes (g.W.Sink.written c.args.writer.now) (g.W.Sink.written c.write_line.new.writer) c.write_line.result) c.as_slice.ensures.value c.write_line.ensures.written)
+    (subst (λ bytes. IsWritten bytes (g.W.Sink.written c.args.writer.now) (g.W.Sink.written c.write_line.new.writer) c.write_line.result)
+    c.as_slice.ensures.value c.write_line.ensures.written)
 
 pub returns-in-Ok-None-clause-outcome : goal.returns-in-Ok-None-clause-outcome
 returns-in-Ok-None-clause-outcome g c =

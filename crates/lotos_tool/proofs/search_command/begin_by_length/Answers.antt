@@ -7,5 +7,7 @@ pub returns : goal.returns
 returns c =
     let system = system_of c.args.parts.system in
     IfOk-weaker c.begin.result _ _ (λ search begun.
-    let question = c.begun_length_search_has_question.ensures system c.in_ok-table.table _ _ _ _ _ search c.in_ok-table.ensures c.recall_sound.ensures.sound begun in
-    length_asked_of c.args.request.now system c.in_ok-table.table c.args.parts.pattern c.args.parts.mark c.args.length search c.requires.extent question begun) (rw c.writes_runs-with_runs.ensures at c.begin.ensures.begun)
+    let question = c.begun_length_search_has_question.ensures system c.in_ok-table.table _ _ _ _ _ search c.in_ok-table.ensures c.recall_sound.ensures.sound
+    begun in
+    length_asked_of c.args.request.now system c.in_ok-table.table c.args.parts.pattern c.args.parts.mark c.args.length search c.requires.extent question begun)
+    (rw c.writes_runs-with_runs.ensures at c.begin.ensures.begun)

@@ -14,7 +14,8 @@ returns-in_ok-push c =
     let called = c.args.called.now.keys in
     let d = definition_view c.args.process.now in
     let none = number_missing c.args.number called (sym c.contains.ensures ∙ c.if-not-contains.true) in
-    let pushed = c.in_ok-push.ensures.items ∙ ap (λ p. c.args.warnings.now.items ++ UncalledProcess p ∷ []) (c.in_ok-process.ensures ∙ name_shown c.args.process.now) in
+    let pushed = c.in_ok-push.ensures.items ∙ ap (λ p. c.args.warnings.now.items ++ UncalledProcess p ∷ [])
+    (c.in_ok-process.ensures ∙ name_shown c.args.process.now) in
     subst (λ ws. Adds c.args.warnings.now.items ws (IsUncalledAt called c.args.number d)) (sym pushed)
     (adds_as c.args.warnings.now.items (c.args.warnings.now.items ++ UncalledProcess (name_of d) ∷ []) (λ w. UncalledProcess (name_of d) ≡ w)
     (IsUncalledAt called c.args.number d) (uncalled_one called c.args.number d none)

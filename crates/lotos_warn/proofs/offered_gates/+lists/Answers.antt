@@ -11,14 +11,16 @@ use Rattle.lotos_warn.proofs.offered_gates.+lists.Goals as goal
 pub warn_of_lists-returns-in_ok-insert_action-in-Prefix-clause-offers : goal.warn_of_lists-returns-in_ok-insert_action-in-Prefix-clause-offers
 warn_of_lists-returns-in_ok-insert_action-in-Prefix-clause-offers t c =
     rw c.in-Prefix.is (on_ok_weaker c.warn_of_lists.result
-    (λ h. offers_prefix (map (λ k. k.now) c.args.offered.now.keys) (map (λ k. k.now) c.insert_action.new.into.keys) (map (λ k. k.now) c.warn_of_lists.new.offered.keys)
+    (λ h. offers_prefix (map (λ k. k.now) c.args.offered.now.keys) (map (λ k. k.now) c.insert_action.new.into.keys)
+    (map (λ k. k.now) c.warn_of_lists.new.offered.keys)
     c.in-Prefix.action (behaviour_view c.in-Prefix.body.value) c.in_ok-insert_action-in-Prefix.ensures (rw c.deref.ensures at h))
     c.warn_of_lists.ensures.offers)
 
 pub warn_of_lists-returns-in_ok-insert_action-in-Prefix-clause-warns : goal.warn_of_lists-returns-in_ok-insert_action-in-Prefix-clause-warns
 warn_of_lists-returns-in_ok-insert_action-in-Prefix-clause-warns t c =
     rw c.in-Prefix.is (on_ok_weaker c.warn_of_lists.result
-    (λ h. lists_prefix c.args.warnings.now.items c.warn_of_lists.new.warnings.items c.in-Prefix.action (behaviour_view c.in-Prefix.body.value) (rw c.deref.ensures at h))
+    (λ h. lists_prefix c.args.warnings.now.items c.warn_of_lists.new.warnings.items c.in-Prefix.action (behaviour_view c.in-Prefix.body.value)
+    (rw c.deref.ensures at h))
     c.warn_of_lists.ensures.warns)
 
 pub warn_of_lists-returns-in_ok-warn_of_lists-in-Choice-clause-offers : goal.warn_of_lists-returns-in_ok-warn_of_lists-in-Choice-clause-offers
@@ -32,7 +34,8 @@ warn_of_lists-returns-in_ok-warn_of_lists-in-Choice-clause-offers t c =
     on_ok_weaker c.warn_of_lists-in-Choice-2.result
     (λ h. let second = rw c.deref-in-Choice-2.ensures at h in
     by_operands (λ b. Adds old new (OffersFree b)) c.args.behaviour.now c.in-Choice.left c.in-Choice.right
-    (offers_choice old mid new l r first second) (λ at. offers_enable old mid new l at r first second) (offers_disable old mid new l r first second) c.in-Choice.is)
+    (offers_choice old mid new l r first second) (λ at. offers_enable old mid new l at r first second) (offers_disable old mid new l r first second)
+    c.in-Choice.is)
     c.warn_of_lists-in-Choice-2.ensures.offers
 
 pub warn_of_lists-returns-in_ok-warn_of_lists-in-Choice-clause-warns : goal.warn_of_lists-returns-in_ok-warn_of_lists-in-Choice-clause-warns
@@ -46,7 +49,8 @@ warn_of_lists-returns-in_ok-warn_of_lists-in-Choice-clause-warns t c =
     on_ok_weaker c.warn_of_lists-in-Choice-2.result
     (λ h. let second = rw c.deref-in-Choice-2.ensures at h in
     by_operands (λ b. Adds old new (IsListWarning b)) c.args.behaviour.now c.in-Choice.left c.in-Choice.right
-    (lists_choice old mid new l r first second) (λ at. lists_enable old mid new l r first second at) (lists_disable old mid new l r first second) c.in-Choice.is)
+    (lists_choice old mid new l r first second) (λ at. lists_enable old mid new l r first second at) (lists_disable old mid new l r first second)
+    c.in-Choice.is)
     c.warn_of_lists-in-Choice-2.ensures.warns
 
 pub warn_of_lists-returns-in_ok-warn_of_list-in-Par-clause-offers : goal.warn_of_lists-returns-in_ok-warn_of_list-in-Par-clause-offers
@@ -61,7 +65,8 @@ warn_of_lists-returns-in_ok-warn_of_list-in-Par-clause-offers t c =
 pub warn_of_lists-returns-in_ok-warn_of_list-in-Par-clause-warns : goal.warn_of_lists-returns-in_ok-warn_of_list-in-Par-clause-warns
 warn_of_lists-returns-in_ok-warn_of_list-in-Par-clause-warns t c =
     rw c.in-Par.is (on_ok_weaker c.insert_both.result
-    (λ h. lists_par c.args.warnings.now.items c.warn_of_lists_in.new.warnings.items c.warn_of_lists_in-in-Par.new.warnings.items c.warn_of_list.new.warnings.items
+    (λ h. lists_par c.args.warnings.now.items c.warn_of_lists_in.new.warnings.items c.warn_of_lists_in-in-Par.new.warnings.items
+    c.warn_of_list.new.warnings.items
     (map (λ k. k.now) c.in_ok-by_left-in-Par.by_left.keys) (map (λ k. k.now) c.in_ok-by_right-in-Par.by_right.keys)
     (behaviour_view c.in-Par.left.value) (sync_view c.in-Par.sync) (behaviour_view c.in-Par.right.value)
     (rw c.deref-in-Par.ensures at c.in_ok-by_left-in-Par.ensures.offers) (rw c.deref-in-Par-2.ensures at c.in_ok-by_right-in-Par.ensures.offers)

@@ -16,4 +16,5 @@ pub loop-label-preserved : goal.loop-label-preserved
 loop-label-preserved c =
     let s = c.args.sequence.now in
     let i = c.loop-label.label-index in
-    subst (λ r. IsPlaceOf c.args.pattern.now r c.in_ok-place.place) (front_more s i _ c.loop-label-test.true) (c.in_ok-place.ensures.goes_on _ c.loop-label.invariant).1
+    subst (λ r. IsPlaceOf c.args.pattern.now r c.in_ok-place.place) (front_more s i _ c.loop-label-test.true)
+    (c.in_ok-place.ensures.goes_on _ c.loop-label.invariant).1

@@ -29,7 +29,8 @@ returns-in-None-clause-run c =
     let less = c.loop-test.true in
     record {
       end = c.loop.here;
-      run = run_grows c.loop.table new c.in_ok-next.ensures.grows (c.growth_is_transitive.ensures.labels _ _ c.in_ok-next.ensures.grows) c.loop.run.items c.loop.here c.loop.invariant.run;
+      run = run_grows c.loop.table new c.in_ok-next.ensures.grows (c.growth_is_transitive.ensures.labels _ _ c.in_ok-next.ensures.grows) c.loop.run.items
+          c.loop.here c.loop.invariant.run;
       within = omega (arith, steps, less);
       deadlock = λ _. subst (IsStepIfAny new c.loop.here) c.in-None.is c.in_ok-next.ensures.step;
     }

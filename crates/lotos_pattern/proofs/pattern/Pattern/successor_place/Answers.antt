@@ -10,8 +10,10 @@ pub loop-state-init : goal.loop-state-init
 loop-state-init c =
     let shown = ap elements_of c.as_slice-elements.ensures.value ∙ ap (λ p. p.elements) c.self.view_is in
     let long = as_long _ _ shown in (
-      rw c.unwrap_or-state.ensures (passing_begins c.args.self.now.elements _ _ _ c.first_state_from.result _ (omega arith) c.empty-next.ensures.none c.first_state_from.ensures),
-      rw c.unwrap_or-state.ensures (walk_begins c.args.self.now.elements _ _ _ c.first_state_from.result _ (omega arith) c.empty-next.ensures.none c.first_state_from.ensures),
+      rw c.unwrap_or-state.ensures (passing_begins c.args.self.now.elements _ _ _ c.first_state_from.result _ (omega arith) c.empty-next.ensures.none
+          c.first_state_from.ensures),
+      rw c.unwrap_or-state.ensures (walk_begins c.args.self.now.elements _ _ _ c.first_state_from.result _ (omega arith) c.empty-next.ensures.none
+          c.first_state_from.ensures),
       c.empty-next.ensures.place_value,
     )
 
@@ -24,7 +26,8 @@ loop-state-preserved c =
     let occur = subst (λ q. All (CanOccur q.strong) q.elements) c.self.view_is c.self.invariant.observable in
     let here = elements_at p kept c.loop-state.state c.index-elements-state.result shown (omega arith) c.index-elements-state.is in
     let element = element_at p kept c.loop-state.state c.index-elements-state.result shown (omega arith) c.index-elements-state.is in (
-      passed p c.args.place.now c.args.label.now c.loop-state.state _ here c.transition_on.result _ _ _ _ (omega arith) (omega arith) c.loop-state.invariant.0 c.transition_on.ensures
+      passed p c.args.place.now c.args.label.now c.loop-state.state _ here c.transition_on.result _ _ _ _ (omega arith) (omega arith) c.loop-state.invariant.0
+          c.transition_on.ensures
           c.apply_transition.ensures.states c.skip_empty_elements-state.ensures,
       walked c.args.self.now.strong p c.args.place.now c.args.label.now c.loop-state.state _ element
           (all_at (CanOccur c.args.self.now.strong) p c.loop-state.state _ occur element) c.transition_on.result _ _ _ _ (omega arith) (omega arith)

@@ -5,7 +5,8 @@ use Rattle.lotos_pattern.proofs.PlaceTransitions.{IsPassing}
 use Rattle.lotos_pattern.proofs.pattern.Pattern.successor_place.Given as goal
 
 abbrev pub invariant-loop-state : goal.invariant-loop-state
-invariant-loop-state l = IsPassing l.self.elements l.place l.label l.state l.next × IsWalked l.self.elements l.place l.label l.state l.next × IsPlaceValue l.next
+invariant-loop-state l = IsPassing l.self.elements l.place l.label l.state l.next × IsWalked l.self.elements l.place l.label l.state l.next
+    × IsPlaceValue l.next
 
 abbrev pub decreases-loop-state : goal.decreases-loop-state
 decreases-loop-state l = length l.self.elements - l.state
