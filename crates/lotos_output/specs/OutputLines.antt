@@ -58,8 +58,8 @@ abbrev pub deadlock_line : (dead : Bool) → List ℕ
 deadlock_line false = []
 deadlock_line true = codes "<deadlock>\n"
 
--- what follows the sequence in a line: nothing, or with `explain` ` : ` and the run
-abbrev pub run_text : (explain : Bool) → List Label → List ℕ
+-- what follows the sequence in a line: nothing, or with `with_run` ` : ` and the run
+abbrev pub run_text : (with_run : Bool) → List Label → List ℕ
 run_text false run = []
 run_text true run = codes " : " ++ sequence_text run
 
@@ -72,24 +72,24 @@ row_text (l ∷ rest) = sequence_text (l ∷ rest) ++ codes " "
 abbrev pub round_text : (row loop : List Label) → List ℕ
 round_text row loop = codes " <forever> " ++ row_text row ++ codes "[" ++ sequence_text loop ++ codes "]"
 
--- what follows the run in the line of a match: nothing, or with `explain` steps that go round, if there are such
-abbrev pub round_text_if : (explain : Bool) → Option (List Label × List Label) → List ℕ
+-- what follows the run in the line of a match: nothing, or with `with_run` steps that go round, if there are such
+abbrev pub round_text_if : (with_run : Bool) → Option (List Label × List Label) → List ℕ
 round_text_if false round = []
 round_text_if true None = []
 round_text_if true (Some (row, loop)) = round_text row loop
 
 -- the line of a match, ended by a line feed
-abbrev pub match_line : (explain : Bool) → Item → Option (List Label × List Label) → List ℕ
-match_line explain item round =
-    sequence_text item.sequence ++ run_text explain item.run ++ round_text_if explain round ++ 10 ∷ []
+abbrev pub match_line : (with_run : Bool) → Item → Option (List Label × List Label) → List ℕ
+match_line with_run item round =
+    sequence_text item.sequence ++ run_text with_run item.run ++ round_text_if with_run round ++ 10 ∷ []
 
 -- the line of an item, ended by a line feed
-abbrev pub line_of : (explain : Bool) → Item → List ℕ
-line_of explain item = sequence_text item.sequence ++ run_text explain item.run ++ 10 ∷ []
+abbrev pub line_of : (with_run : Bool) → Item → List ℕ
+line_of with_run item = sequence_text item.sequence ++ run_text with_run item.run ++ 10 ∷ []
 
 -- the lines of a list of items
-abbrev pub lines_of : (explain : Bool) → List Item → List ℕ
-lines_of explain items = flat_map (λ item. line_of explain item) items
+abbrev pub lines_of : (with_run : Bool) → List Item → List ℕ
+lines_of with_run items = flat_map (λ item. line_of with_run item) items
 
 -- the lines of what can come after a sequence: each label on one, and then `<deadlock>`, if it can end in one
 abbrev pub next_lines : List Label → (dead : Bool) → List ℕ
