@@ -98,6 +98,7 @@ names_some strong word spelled seen =
 abbrev pub AreLabelsOf : List Name → List Text → ℕ → List TermLabel → Type 0
 AreLabelsOf gates words n labels = (strong : Bool) (s : List Label) → NamesEach strong words s → ArePrinted gates labels (take n s)
 
+-- if the label that the word at the index names is appended, the labels are those of the words before the next index
 pub labels_more : (gates : List Name) (words : List Text) (n : ℕ) (labels : List TermLabel) → AreLabelsOf gates words n labels → (word : Text) →
     slice_get words n ≡ Some word → (k : TermLabel) → ((text : Label) → IsNamed word text → IsPrintedAs gates k text) →
     AreLabelsOf gates words (n + 1) (labels ++ k ∷ [])
@@ -106,6 +107,7 @@ labels_more gates words n labels so_far word at k shown strong s named =
     subst (ArePrinted gates (labels ++ k ∷ [])) (sym (take_at s n l there))
     (shown_push gates labels k (take n s) l (so_far strong s named) (shown l names.named))
 
+-- if no word is left, the labels are those of all words
 pub labels_all : (gates : List Name) (words : List Text) (n : ℕ) (labels : List TermLabel) → AreLabelsOf gates words n labels →
     length words ≤ n → (strong : Bool) (s : List Label) →
     NamesEach strong words s → ArePrinted gates labels s

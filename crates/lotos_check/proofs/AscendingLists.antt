@@ -48,5 +48,6 @@ module _ {A : Type 0} (lt : A → A → Type 0) (irrefl : (x : A) → lt x x →
 pub first_number_least : (x : ℕ) (xs : List ℕ) → IsAscending (x ∷ xs) → (y : ℕ) → In y xs → x < y
 first_number_least = first_least ◌<◌ (λ n h. omega arith) (λ a b c h g. omega arith)
 
+-- ascending lists of the same numbers are equal
 pub one_list_of_numbers : (xs ys : List ℕ) → IsAscending xs → IsAscending ys → ((n : ℕ) → In n xs → In n ys) → ((n : ℕ) → In n ys → In n xs) → xs ≡ ys
 one_list_of_numbers = one_list ◌<◌ (λ n h. omega arith) (λ a b c h g. omega arith)

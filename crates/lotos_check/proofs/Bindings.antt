@@ -92,6 +92,7 @@ same_ends (a ∷ c ∷ rest) [] x y e = cc
 same_ends (a ∷ xs) (b ∷ ys) x y e = let others = same_ends xs ys x y cc in let first : a ≡ b = cc in
     (rw (others.0, first) refl, others.1)
 
+-- a list that ends with an item is not empty
 not_empty : {X : Type 0} (xs : List X) (x : X) → xs ++ x ∷ [] ≡ [] → ⊥
 not_empty [] x e = cc
 not_empty (y ∷ xs) x e = cc

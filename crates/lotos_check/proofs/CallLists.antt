@@ -43,6 +43,7 @@ next_list items_of process_of edges processes k x y below read all h =
     rw (longer, map-append items_of edges (x ∷ []), map-append process_of (take k processes) (y ∷ []))
     (pair_end (map items_of edges) (map process_of (take k processes)) (items_of x) (process_of y) all h)
 
+-- of two cases of which the first is impossible, the second holds
 second : {A : Type 0} → ⊥ ⊎ A → A
 second (inl none) = elim none [ ]
 second (inr a) = a
@@ -54,15 +55,18 @@ added_alone old new process empty added = λ q.
     let here : In q new ↔ In q [] ⊎ CallsUnguarded process.body q = rw empty at (added q) in
     (λ i. second (here.0 i), λ c. here.1 (inr c))
 
+-- a list of nothing but `None` has a rank at no index
 unnumbered_none : (n p r : ℕ) → slice_get {X = Option ℕ} (replicate n None) p ≡ Some (Some r) → ⊥
 unnumbered_none zero p r e = cc
 unnumbered_none (suc n) zero r e = cc
 unnumbered_none (suc n) (suc p) r e = unnumbered_none n p r e
 
+-- in a list of `n` times `None`, `n` processes have no rank
 waiting_all : (n : ℕ) → count_unranked (replicate n None) ≡ n
 waiting_all zero = refl
 waiting_all (suc n) = let later = waiting_all n in omega arith
 
+-- if no process has a rank, the ranks are consistent, and 0 is the next one
 unnumbered : (edges : List (List ℕ)) (n : ℕ) → n ≡ length edges → AreConsistentRanks edges (replicate n None) 0
 unnumbered edges n e = record {
   sized = rw (length-replicate {A = Option ℕ} n None) e;

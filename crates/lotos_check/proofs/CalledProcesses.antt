@@ -78,6 +78,7 @@ named_call scope known t c k gates of_exit h = elim h [ ]
 abbrev StandsFrom : List ScopedDefinition → ℕ → List ScopedDefinition → Type 0
 StandsFrom all k some = (i j : ℕ) (v : ScopedDefinition) → j ≡ k + i → slice_get some i ≡ Some v → slice_get all j ≡ Some v
 
+-- an item of the second of two joined lists is in the whole, at its index plus the length of the first
 get_back : (xs ys : List ScopedDefinition) (i j : ℕ) (v : ScopedDefinition) → j ≡ length xs + i → slice_get ys i ≡ Some v →
     slice_get (xs ++ ys) j ≡ Some v
 get_back [] ys i j v at e = let same : i ≡ j = omega arith in subst (λ n. slice_get ys n ≡ Some v) same e
@@ -106,6 +107,7 @@ record IsNumbered (all : List ScopedDefinition) (w : Where) : Type 0 where
   scope : Scope
   located : StandsFrom all w.first (definitions_in_scope scope w.first w.defs)
 
+-- a definition that a `where` declares is at its number in a list that has the `where` from its first number on
 declared_at : (all : List ScopedDefinition) (scope : Scope) (k : ℕ) (ds : DefinitionListView) → StandsFrom all k (definitions_in_scope scope k ds) →
     (n : Name) (q : ℕ) (d : DefinitionView) → Declares ds k n q d → IsAt all q d
 declared_at all scope k (more_defs (def name formals declared body inner) ds) stands n q d here =
@@ -125,10 +127,13 @@ declared_at all scope k no_defs stands n q d x = elim x [ ]
 abbrev AllNumbered : List ScopedDefinition → Scope → Type 0
 AllNumbered all scope = (w : Where) → In w scope → IsNumbered all w
 
+-- each `where` of a scope is numbered in the order of the list if the nearest one and each of the others are
 more_numbered : (all : List ScopedDefinition) (w : Where) (scope : Scope) → IsNumbered all w → AllNumbered all scope → AllNumbered all (w ∷ scope)
 more_numbered all w scope h numbered x (inl e) = subst (IsNumbered all) e h
 more_numbered all w scope h numbered x (inr i) = numbered x i
 
+-- of definitions that the list has from their first number on, each has a scope whose `where`s are numbered in the
+-- order of the list, if those of the scope around them are
 listed_numbered : (all : List ScopedDefinition) (scope : Scope) (k : ℕ) (ds : DefinitionListView) → StandsFrom all k (definitions_in_scope scope k ds) →
     AllNumbered all scope →
     (v : ScopedDefinition) → In v (definitions_in_scope scope k ds) → AllNumbered all v.scope
@@ -151,6 +156,7 @@ listed_numbered all scope k (more_defs (def name formals declared body inner) ds
       ]
     ]
 
+-- each `where` in the scope of a definition of the specification is numbered in the order of the processes
 visible_numbered : (whole : DefinitionView) (v : ScopedDefinition) → In v (all_definitions whole) → AllNumbered (processes_of whole) v.scope
 visible_numbered whole v i =
     let all = processes_of whole in
@@ -162,6 +168,7 @@ visible_numbered whole v i =
       | inr j ↦ listed_numbered all (within whole 0 []) 0 (inner_of whole) stands top v j
     ]
 
+-- a name is bound to the definition at its number in the list, if the `where`s of the scope are numbered in that order
 meant_at : (all : List ScopedDefinition) (scope : Scope) → AllNumbered all scope → (n : Name) (q : ℕ) (d : DefinitionView) → Binds scope n q d → IsAt all q d
 meant_at all (w ∷ ws) numbered n q d (nearest x) =
     let h = numbered w (inl refl) in declared_at all h.scope w.first w.defs h.located n q d x
@@ -208,6 +215,7 @@ body_visible whole s flat b (of_process p process e) =
     let at = paired_at (processes_of whole) s.processes flat.processes p process e in
     (at.0, inr at.1, at.2.body)
 
+-- numbers that do not differ are equal
 same_unless : (x y : ℕ) → (x ≢ y → ⊥) → x ≡ y
 same_unless x y no_other = elim (eqb_tells x y) [ inl t ↦ t.1 | inr f ↦ absurd (no_other f.1) ]
 

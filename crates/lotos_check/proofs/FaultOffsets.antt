@@ -52,12 +52,15 @@ used_inside n t g (passes {gs = gs} i) h = named_inside n gs h.1 g i
 name_inside : (n : ℕ) (d : DefinitionView) → IsInside n d → (name_of d).at ≤ n
 name_inside n (def name formals declared body inner) h = h.0
 
+-- the formal gates of a definition inside the text are inside it
 formals_inside : (n : ℕ) (d : DefinitionView) → IsInside n d → AreNamesInside n (formals_of d)
 formals_inside n (def name formals declared body inner) h = h.1
 
+-- the body of a definition inside the text is inside it
 body_inside : (n : ℕ) (d : DefinitionView) → IsInside n d → IsBehaviourInside n (body_of d)
 body_inside n (def name formals declared body inner) h = h.2
 
+-- the inner definitions of a definition inside the text are inside it
 inner_inside : (n : ℕ) (d : DefinitionView) → IsInside n d → AreInside n (inner_of d)
 inner_inside n (def name formals declared body inner) h = h.3
 

@@ -73,6 +73,7 @@ misnamed_faulty whole (E26 at) h = absurd h.misnamed
 misnamed_faulty whole (E27 name set) h = absurd h.misnamed
 misnamed_faulty whole (E99 e) h = tt
 
+-- if definitions and bodies are paired, the body at the index of a definition is its resolved one, in its scope
 found_at : (vs : List ScopedDefinition) (found : List ResolvedBody) → Pairwise IsResolvedBody vs found → (i : ℕ) (d : DefinitionView) (r : ResolvedBody) →
     slice_get (map (λ v. v.definition) vs) i ≡ Some d → slice_get found i ≡ Some r → (v : ScopedDefinition) × In v vs × (v.definition ≡ d) × IsResolvedBody v r
 found_at vs found pairs i d r e f =
@@ -81,6 +82,7 @@ found_at vs found pairs i d r e f =
     let same = ap (λ (v : ScopedDefinition). v.definition) (one_item vs i n.0 m.0 n.1 m.1) in
     (n.0, get_in vs i n.0 n.1, same ∙ m.2, n.2)
 
+-- the offset that was found in a body is that of a `>>` in it whose left operand has noexit
 never_at : (v : ScopedDefinition) (never : Option ℕ) (at : ℕ) → never ≡ Some at →
     MatchOption never (LeftsExit v.scope (texts (formals_of v.definition)) (body_of v.definition))
     (NeverExits v.scope (texts (formals_of v.definition)) (body_of v.definition)) →
@@ -88,6 +90,7 @@ never_at : (v : ScopedDefinition) (never : Option ℕ) (at : ℕ) → never ≡ 
 never_at v None at e h = cc
 never_at v (Some x) at e h = let f : x ≡ at = cc in subst (NeverExits v.scope (texts (formals_of v.definition)) (body_of v.definition)) f h
 
+-- a definition of the specification whose resolved body does not fit it breaks a rule
 untyped_one : (whole : DefinitionView) (v : ScopedDefinition) (r : ResolvedBody) (fault : CheckFault) → In v (all_definitions whole) → IsResolvedBody v r →
     IsFunctionalityFault v.definition r fault → IsStaticFault whole fault
 untyped_one whole v r (E20 gate) i b h = absurd h

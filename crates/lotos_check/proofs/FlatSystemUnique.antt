@@ -15,6 +15,7 @@ use Rattle.lotos_check.proofs.NameOrder.{one_set}
 use Rattle.lotos_check.proofs.Pairs.{pair_of_second, pairs_length}
 use Rattle.lotos_check.proofs.ScopedDefinitions.{visible_distinct, meant_below}
 
+-- two sets of the names of one list are equal
 one_set_of : (xs ys : List Name) (list : List Placed) → IsSetOf xs list → IsSetOf ys list → xs ≡ ys
 one_set_of xs ys list h k =
     one_set xs ys h.ascends k.ascends (λ n i. (k.same n).1 ((h.same n).0 i)) (λ n i. (h.same n).1 ((k.same n).0 i))
@@ -39,10 +40,12 @@ one_flat scope distinct t c e (of_disable x u) (of_disable y v) =
 one_flat scope distinct t c e (of_call {p = p} {k = i} {d = d} x) (of_call {k = j} {d = f} y) =
     let a = (one_meant scope distinct p.name i j d f x y).0 in cc
 
+-- processes with the same parts are the same
 same_parts : (n m : Name) (f g : List Name) (x y : Functionality) (b c : Flat) → n ≡ m → f ≡ g → x ≡ y → b ≡ c →
     ◌≡◌ {A = FlatProcess} (record { name = n; formals = f; functionality = x; body = b }) (record { name = m; formals = g; functionality = y; body = c })
 same_parts n m f g x y b c e h k l = rw (e, h, k, l) refl
 
+-- a definition is one process only, if no `where` of its scope declares a name twice
 one_process : (v : ScopedDefinition) → IsDistinctScope v.scope → (p q : FlatProcess) → IsProcess v p → IsProcess v q → p ≡ q
 one_process v distinct p q h k =
     let n : p.name ≡ q.name = h.name ∙ sym k.name in
@@ -51,6 +54,7 @@ one_process v distinct p q h k =
     let b : p.body ≡ q.body = one_flat v.scope distinct (body_of v.definition) p.body q.body h.body k.body in
     same_parts p.name q.name p.formals q.formals p.functionality q.functionality p.body q.body n f g b
 
+-- definitions are one list of processes only, if no `where` of their scopes declares a name twice
 one_processes : (vs : List ScopedDefinition) → ((v : ScopedDefinition) → In v vs → IsDistinctScope v.scope) → (ps qs : List FlatProcess) →
     Pairwise IsProcess vs ps → Pairwise IsProcess vs qs → ps ≡ qs
 one_processes [] distinct [] [] no_pair no_pair = refl

@@ -50,15 +50,19 @@ module _ {A : Type 0} (lt : A → A → Type 0) (cmp : A → A → Ordering) (sa
   lex_says (x ∷ s) [] = tt
   lex_says (x ∷ s) (y ∷ t) = then_says x y s t (cmp x y) (slice_cmp cmp s t) (says x y) (lex_says s t)
 
+-- the comparison of numbers decides their order
 pub nat_says : (x y : ℕ) → Says ◌<◌ x y (nat_cmp x y)
 nat_says x y = grind (arith, nat_tests)
 
+-- the comparison of texts by their bytes decides their order
 pub text_says : (x y : Name) → Says Below x y (slice_cmp nat_cmp x y)
 text_says = lex_says ◌<◌ nat_cmp nat_says
 
+-- no text is below itself
 pub below_irrefl : (x : Name) → Below x x → ⊥
 below_irrefl = lex_irrefl ◌<◌ (λ n h. omega arith)
 
+-- the order of texts by their bytes is transitive
 pub below_trans : (x y z : Name) → Below x y → Below y z → Below x z
 below_trans = lex_trans ◌<◌ (λ a b c h g. omega arith)
 
@@ -70,6 +74,7 @@ below_differ x y h e = below_irrefl y (subst (λ n. Below n y) e h)
 pub below_from_less : (x y : Name) → slice_cmp nat_cmp x y ≡ Less → Below x y
 below_from_less x y e = subst (Says Below x y) e (text_says x y)
 
+-- a text that is below another compares with it as less
 pub less_from_below : (x y : Name) → Below x y → slice_cmp nat_cmp x y ≡ Less
 less_from_below x y h = by (slice_cmp nat_cmp x y) (text_says x y)
   where

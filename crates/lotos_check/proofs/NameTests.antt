@@ -48,6 +48,7 @@ listed n ms e =
     let same = in_if_any (λ m. m) (λ x y. bytes_eq y x) (λ x y h. sym ((bytes_eq-Decides y x).0 h)) (λ x y h. (bytes_eq-Decides y x).1 (sym h)) in
     subst (In n) (map-id ms) (same n ms e)
 
+-- a name that a test finds equal to none of a list is not in the list
 pub not_listed : (n : Name) (ms : List Name) → list_any (λ m. bytes_eq m n) ms ≡ false → In n ms → ⊥
 not_listed n ms e i =
     let others = out_if_none (λ m. m) (λ x y. bytes_eq y x) (λ x y h. sym ((bytes_eq-Decides y x).0 h)) (λ x y h. (bytes_eq-Decides y x).1 (sym h)) in

@@ -128,34 +128,40 @@ module _ (scope : Scope) (inner known : List Name) (left right body : BehaviourV
   never_joined head None (Some at) h k = never_lift scope inner known right body has.from_right at k
   never_joined head (Some at) n h k = never_lift scope inner known left body has.from_left at h
 
+-- a part of a prefix is the prefix itself or a part of its behaviour
 splits_prefix : (known : List Name) (action : Action) (body : BehaviourView) (there : List Name) (part : BehaviourView) →
     IsSubexpression known (prefix action body) there part → Portion known known body body (prefix action body) there part
 splits_prefix known action body there part whole = itself
 splits_prefix known action body there part (in_prefix p) = of_left p
 
+-- a part of a hide form is the form itself, or a part of its behaviour, in which its gates are in scope too
 splits_hide : (known : List Name) (gates : List Placed) (body : BehaviourView) (there : List Name) (part : BehaviourView) →
     IsSubexpression known (hide gates body) there part → Portion (texts gates ++ known) known body body (hide gates body) there part
 splits_hide known gates body there part whole = itself
 splits_hide known gates body there part (in_hide p) = of_left p
 
+-- a part of a choice is the choice itself or a part of one of its operands
 splits_choice : (known : List Name) (left right : BehaviourView) (there : List Name) (part : BehaviourView) →
     IsSubexpression known (choice left right) there part → Portion known known left right (choice left right) there part
 splits_choice known left right there part whole = itself
 splits_choice known left right there part (in_choice_left p) = of_left p
 splits_choice known left right there part (in_choice_right p) = of_right p
 
+-- a part of a parallel expression is the expression itself or a part of one of its operands
 splits_par : (known : List Name) (left right : BehaviourView) (sync : SyncView) (there : List Name) (part : BehaviourView) →
     IsSubexpression known (par left sync right) there part → Portion known known left right (par left sync right) there part
 splits_par known left right sync there part whole = itself
 splits_par known left right sync there part (in_par_left p) = of_left p
 splits_par known left right sync there part (in_par_right p) = of_right p
 
+-- a part of a `>>` is the `>>` itself or a part of one of its operands
 splits_enable : (known : List Name) (left right : BehaviourView) (at : ℕ) (there : List Name) (part : BehaviourView) →
     IsSubexpression known (enable left at right) there part → Portion known known left right (enable left at right) there part
 splits_enable known left right at there part whole = itself
 splits_enable known left right at there part (in_enable_left p) = of_left p
 splits_enable known left right at there part (in_enable_right p) = of_right p
 
+-- a part of a `[>` is the `[>` itself or a part of one of its operands
 splits_disable : (known : List Name) (left right : BehaviourView) (there : List Name) (part : BehaviourView) →
     IsSubexpression known (disable left right) there part → Portion known known left right (disable left right) there part
 splits_disable known left right there part whole = itself

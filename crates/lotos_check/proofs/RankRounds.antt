@@ -3,21 +3,25 @@ use Rattle.std.proofs.Common.{◌≡◌, ℕ, ◌+◌, ◌<◌, ◌⊎◌, zero,
 use Rattle.std.specs.Prelude.{slice_get, slice_set}
 use Rattle.lotos_check.specs.RankingSteps.{ListsCall, AreConsistentRanks, count_unranked}
 
+-- the numbers after two numbers are the same or not, if the two are
 same_later : (k p : ℕ) → (k ≡ p) ⊎ (k ≡ p → ⊥) → (suc k ≡ suc p) ⊎ (suc k ≡ suc p → ⊥)
 same_later k p (inl e) = inl (ap suc e)
 same_later k p (inr n) = inr (λ e. n (omega (arith, e)))
 
+-- two numbers are the same or not
 same_or : (k p : ℕ) → (k ≡ p) ⊎ (k ≡ p → ⊥)
 same_or zero zero = inl refl
 same_or zero (suc p) = inr (λ e. omega arith)
 same_or (suc k) zero = inr (λ e. omega arith)
 same_or (suc k) (suc p) = same_later k p (same_or k p)
 
+-- an item that is set at an index of a list is there
 get_set : {X : Type 0} (xs : List X) (p : ℕ) (v x : X) → slice_get xs p ≡ Some x → slice_get (slice_set xs p v) p ≡ Some v
 get_set [] p v x e = cc
 get_set (y ∷ xs) zero v x e = refl
 get_set (y ∷ xs) (suc p) v x e = get_set xs p v x e
 
+-- to set an item of a list changes no item at another index
 get_set_other : {X : Type 0} (xs : List X) (p k : ℕ) (v : X) → (k ≡ p → ⊥) → slice_get (slice_set xs p v) k ≡ slice_get xs k
 get_set_other [] p k v n = refl
 get_set_other (y ∷ xs) zero zero v n = absurd (n refl)
@@ -25,11 +29,13 @@ get_set_other (y ∷ xs) zero (suc k) v n = refl
 get_set_other (y ∷ xs) (suc p) zero v n = refl
 get_set_other (y ∷ xs) (suc p) (suc k) v n = get_set_other xs p k v (λ e. n (ap suc e))
 
+-- to set an item of a list does not change its length
 length_set : {X : Type 0} (xs : List X) (p : ℕ) (v : X) → length (slice_set xs p v) ≡ length xs
 length_set [] p v = refl
 length_set (y ∷ xs) zero v = refl
 length_set (y ∷ xs) (suc p) v = ap suc (length_set xs p v)
 
+-- if a process without a rank gets one, one process fewer has none
 waiting_set : (ranks : List (Option ℕ)) (p r : ℕ) → slice_get ranks p ≡ Some None →
     count_unranked (slice_set ranks p (Some r)) + 1 ≡ count_unranked ranks
 waiting_set [] p r e = cc

@@ -4,10 +4,12 @@ use Rattle.std.proofs.lemmas.Option.{slice_get-get_or}
 use Rattle.std.specs.Prelude.{slice_get}
 use Rattle.std.specs.Option.{is_some}
 
+-- an option has a number if `is_some` is true of it
 number_in : (v : Option ℕ) → is_some v ≡ true → (s : ℕ) × (v ≡ Some s)
 number_in None e = cc
 number_in (Some s) e = (s, refl)
 
+-- an option is `None` if `is_some` is false of it
 nothing_in : (v : Option ℕ) → is_some v ≡ false → v ≡ None
 nothing_in None e = refl
 nothing_in (Some s) e = cc

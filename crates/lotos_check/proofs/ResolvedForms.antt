@@ -27,6 +27,7 @@ pub carried : {X E : Type 0} (result : Result X E) (P : X → Type 0) (Q : E →
 carried (Ok x) P Q fault h q = absurd h
 carried (Err x) P Q fault h q = subst Q (sym h) q
 
+-- an option, or else the same option, is that option
 or_same : (n : Option ℕ) → option_or n n ≡ n
 or_same None = refl
 or_same (Some at) = refl

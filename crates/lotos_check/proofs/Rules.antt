@@ -114,6 +114,7 @@ module _ (whole : DefinitionView) (found : List ResolvedBody) (distinct : IsDist
     left_exits = no_stuck_enabling;
   }
 
+-- processes made of definitions and their resolved bodies are the definitions with calls by number, one by one
 flat_processes : (vs : List ScopedDefinition) (found : List ResolvedBody) (processes : List Process) → Pairwise IsResolvedBody vs found →
     AreProcessesOfBodies (map (λ v. v.definition) vs) found processes → Pairwise IsProcess vs (map process_of processes)
 flat_processes [] [] [] no_pair no_processes = no_pair
@@ -131,6 +132,8 @@ flat_processes (v ∷ vs) [] processes b a = elim b [ ]
 flat_processes [] [] (p ∷ processes) b a = elim a [ ]
 flat_processes (v ∷ vs) (r ∷ found) [] b a = elim a [ ]
 
+-- if resolved bodies are flattened, the behaviour is the first definition's body with calls by number, and the
+-- processes are the other definitions with calls by number
 flat_all : (v : ScopedDefinition) (vs : List ScopedDefinition) (ds : List DefinitionView) (found : List ResolvedBody) (start : Code)
     (processes : List Process) →
     ds ≡ map (λ v. v.definition) vs → Pairwise IsResolvedBody (v ∷ vs) found → IsFlattened (v.definition ∷ ds) found start processes →

@@ -77,10 +77,13 @@ pub record IsWhereOf (whole : DefinitionView) (w : Where) : Type 0 where
 abbrev AllWheres : DefinitionView → Scope → Type 0
 AllWheres whole scope = (w : Where) → In w scope → IsWhereOf whole w
 
+-- each `where` of a scope is one of the specification if the nearest one and each of the others are
 more_wheres : (whole : DefinitionView) (w : Where) (scope : Scope) → IsWhereOf whole w → AllWheres whole scope → AllWheres whole (w ∷ scope)
 more_wheres whole w scope h all x (inl e) = subst (IsWhereOf whole) e h
 more_wheres whole w scope h all x (inr i) = all x i
 
+-- if listed definitions are among those of the specification, their numbers among its numbers, and the `where`s around
+-- them those of definitions of it, so are the `where`s of their scopes
 listed_wheres : (whole : DefinitionView) (scope : Scope) (k : ℕ) (ds : DefinitionListView) →
     ((v : ScopedDefinition) → In v (definitions_in_scope scope k ds) → In v (all_definitions whole)) →
     k + count ds ≤ count (inner_of whole) → AllWheres whole scope → (v : ScopedDefinition) → In v (definitions_in_scope scope k ds) → AllWheres whole v.scope
@@ -121,12 +124,14 @@ visible_distinct whole distinct v i w j p s =
     let e = h.same in
     distinct.processes p (record { scope = h.scoped.scope; definition = h.scoped.definition; located = h.located; second = rw e at s })
 
+-- the number of a definition that a `where` declares is less than the first one plus how many definitions it has
 declares_below : (ds : DefinitionListView) (k : ℕ) (n : Name) (q : ℕ) (d : DefinitionView) → Declares ds k n q d → q < k + count ds
 declares_below (more_defs (def name formals declared body inner) ds) k n q d here = omega arith
 declares_below (more_defs (def name formals declared body inner) ds) k n q d (later x) =
     let r = declares_below ds (k + 1 + count inner) n q d x in omega arith
 declares_below no_defs k n q d x = elim x [ ]
 
+-- if each `where` of a scope is one of the specification, a name is bound to a number below the count of processes
 means_below : (whole : DefinitionView) (scope : Scope) → AllWheres whole scope → (n : Name) (q : ℕ) (d : DefinitionView) → Binds scope n q d →
     q < count (inner_of whole)
 means_below whole (w ∷ ws) all n q d (nearest x) =

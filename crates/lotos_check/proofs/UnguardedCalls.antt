@@ -9,25 +9,31 @@ use Rattle.lotos_check.proofs.JoinedLists.{in_added, in_front, in_last}
 abbrev pub Adds : List ℕ → List ℕ → Flat → Type 0
 Adds old new code = (q : ℕ) → In q new ↔ In q old ⊎ CallsUnguarded code q
 
+-- an unguarded call in a choice is one in its left or its right operand
 from_choice : {l r : Flat} {q : ℕ} → CallsUnguarded (choice l r) q → CallsUnguarded l q ⊎ CallsUnguarded r q
 from_choice (left_choice c) = inl c
 from_choice (right_choice c) = inr c
 
+-- an unguarded call in a parallel expression is one in its left or its right operand
 from_par : {l r : Flat} {s : Option (List Name)} {q : ℕ} → CallsUnguarded (par l s r) q →
     CallsUnguarded l q ⊎ CallsUnguarded r q
 from_par (left_par c) = inl c
 from_par (right_par c) = inr c
 
+-- an unguarded call in a disabling is one in its left or its right operand
 from_disable : {l r : Flat} {q : ℕ} → CallsUnguarded (disable l r) q → CallsUnguarded l q ⊎ CallsUnguarded r q
 from_disable (left_disable c) = inl c
 from_disable (right_disable c) = inr c
 
+-- an unguarded call in a hide form is one in its body
 from_hide : {gs : List Name} {b : Flat} {q : ℕ} → CallsUnguarded (hide gs b) q → CallsUnguarded b q
 from_hide (under_hide c) = c
 
+-- an unguarded call in an enabling is one in its left operand
 from_enable : {l r : Flat} {q : ℕ} → CallsUnguarded (enable l r) q → CallsUnguarded l q
 from_enable (left_enable c) = c
 
+-- an instantiation calls no process unguarded but the one that it names
 from_call : {k q : ℕ} {gs : List Name} → CallsUnguarded (call k gs) q → k ≡ q
 from_call itself = refl
 
@@ -94,10 +100,12 @@ adds_hide old new gs b a = adds_one old new b (hide gs b) a (λ q c. from_hide c
 pub adds_enable : (old new : List ℕ) (l r : Flat) → Adds old new l → Adds old new (enable l r)
 adds_enable old new l r a = adds_one old new l (enable l r) a (λ q c. from_enable c) (λ q c. left_enable c)
 
+-- a process of a list, or the one that an instantiation names, is in the list or called unguarded by the instantiation
 call_out : (old : List ℕ) (k q : ℕ) (gs : List Name) → In q old ⊎ (k ≡ q) → In q old ⊎ CallsUnguarded (call k gs) q
 call_out old k q gs (inl i) = inl i
 call_out old k q gs (inr e) = inr (rw (← e) itself)
 
+-- a process of a list, or one that an instantiation calls unguarded, is in the list with the named process appended
 call_back : (old : List ℕ) (k q : ℕ) (gs : List Name) → In q old ⊎ CallsUnguarded (call k gs) q → In q (old ++ k ∷ [])
 call_back old k q gs (inl i) = in_front q old (k ∷ []) i
 call_back old k q gs (inr c) = rw (← from_call c) (in_last k old)

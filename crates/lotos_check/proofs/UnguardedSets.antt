@@ -11,6 +11,7 @@ use Rattle.lotos_check.specs.Acceptance.{AreRanks}
 use Rattle.lotos_check.proofs.CallLists.{lists_call, calls_list}
 use Rattle.lotos_check.proofs.Pairs.{pairs_length}
 
+-- if ranks decrease at every unguarded call, no process of an unguarded set has a rank below `n`, whatever `n` is
 falls_from : (processes : List FlatProcess) (set : List ℕ) (rank : ℕ → ℕ) → IsUnguardedSet processes set →
     IsRanking processes rank → (n p : ℕ) → rank p < n → In p set → ⊥
 falls_from processes set rank unguarded falls zero p below stands = omega (arith, below)

@@ -14,6 +14,7 @@ places n [] = []
 places n (None ∷ ranks) = n ∷ places (n + 1) ranks
 places n (Some r ∷ ranks) = places (n + 1) ranks
 
+-- each of the indices without a rank is the first index plus that of an item of the list that is `None`
 from_place : (n p : ℕ) (ranks : List (Option ℕ)) → In p (places n ranks) →
     (k : ℕ) × (p ≡ n + k) × (slice_get ranks k ≡ Some None)
 from_place n p [] i = elim i [ ]
@@ -23,6 +24,7 @@ from_place n p (None ∷ ranks) (inr i) =
 from_place n p (Some r ∷ ranks) i =
     let later = from_place (n + 1) p ranks i in let e = later.1 in (suc later.0, omega arith, later.2)
 
+-- the first index plus that of an item of the list that is `None` is one of the indices without a rank
 to_place : (n k p : ℕ) (ranks : List (Option ℕ)) → p ≡ n + k → slice_get ranks k ≡ Some None → In p (places n ranks)
 to_place n k p [] e h = cc
 to_place n zero p (None ∷ ranks) e h = inl (omega arith)
@@ -30,6 +32,7 @@ to_place n (suc k) p (None ∷ ranks) e h = inr (to_place (n + 1) k p ranks (ome
 to_place n zero p (Some r ∷ ranks) e h = cc
 to_place n (suc k) p (Some r ∷ ranks) e h = to_place (n + 1) k p ranks (omega arith) h
 
+-- the indices without a rank ascend
 rises_places : (n : ℕ) (ranks : List (Option ℕ)) → IsAscending (places n ranks)
 rises_places n [] = none
 rises_places n (None ∷ ranks) =

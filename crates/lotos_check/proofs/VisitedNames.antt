@@ -36,6 +36,7 @@ distinct_more ps p distinct new q s =
       | inr e ↦ distinct q (record { before = s.before; after = e.0; located = e.1; again = s.again })
     ]
 
+-- the empty list has no item with items before it and after it
 not_second : (p : Placed) (before after : List Placed) → [] ≡ before ++ p ∷ after → ⊥
 not_second p [] after e = cc
 not_second p (b ∷ bs) after e = cc

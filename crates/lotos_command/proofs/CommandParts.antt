@@ -37,6 +37,7 @@ stays_local_by old new (a ∷ args) h simple local =
     let each = both _ _ simple in
     stays_local_by h.0 new args h.2 each.1 (h.1.globals ∙ ap₂ (λ (x y : Bool). x || y) local (not_global a each.0))
 
+-- a command without global arguments has none after arguments with these rules, all simple, are added in turn
 pub stays_local : (old new : Command) (args : List Arg) (rules : List Rule) → AddsInTurn AddsArg old args new
     → map rule_of args ≡ rules → all_simple rules ≡ true → (out-Command old).has_globals ≡ false → (out-Command new).has_globals ≡ false
 stays_local old new args rules h are simple = stays_local_by old new args h (ap all_simple are ∙ simple)

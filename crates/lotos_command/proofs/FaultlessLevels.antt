@@ -22,12 +22,14 @@ abbrev name_in : Step → Option Text
 name_in (subcommand name) = Some name
 name_in _ = None
 
+-- a word that is taken as a value names no subcommand
 plain_names_none : (rules : List Rule) (waiting : Waiting) (word : Text) (h : Held)
     → name_in (plain_word rules waiting word h).1 ≡ None
 plain_names_none rules (option id) word h = refl
 plain_names_none rules idle word h = refl
 plain_names_none rules positional word h = refl
 
+-- a word that is taken as a flag names no subcommand, whatever the outcome
 after_names_none : (rules : List Rule) (waiting : Waiting) (word : Text) (h : Held) (o : Outcome)
     → name_in (after_flag rules waiting word h o).1 ≡ None
 after_names_none rules waiting word h done = refl
@@ -35,6 +37,7 @@ after_names_none rules waiting word h (waits id) = refl
 after_names_none rules waiting word h plain = plain_names_none rules waiting word h
 after_names_none rules waiting word h refused = plain_names_none rules waiting word h
 
+-- a word that is taken as a flag or a value names no subcommand
 flag_names_none : (rules : List Rule) (long : Option (Text × Option Text)) (waiting : Waiting) (word : Text) (h : Held)
     → name_in (long_or_other rules waiting word long h).1 ≡ None
 flag_names_none rules (Some p) waiting word h = after_names_none rules waiting word _ _

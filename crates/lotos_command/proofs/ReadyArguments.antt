@@ -17,6 +17,7 @@ abbrev pub Each : {X : Type 0} → (X → Type 0) → List X → Type 0
 Each P [] = ⊤
 Each P (x ∷ xs) = P x × Each P xs
 
+-- if each item of two lists has a property, so has each item of their concatenation
 each_join : (P : Row → Type 0) (xs ys : List Row) → Each P xs → Each P ys → Each P (xs ++ ys)
 each_join P [] ys here there = there
 each_join P (x ∷ xs) ys here there = (here.0, each_join P xs ys here.1 there)

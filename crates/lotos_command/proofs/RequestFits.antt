@@ -32,6 +32,7 @@ pub record IsReadFrom (a : Rule) (t : Text) : Type 0 where
   pub is : t ≡ read_as (reading_by a) value
   pub accepted : Accepts a.ignore_case (parser_of_value a.parser) value
 
+-- if a value passes the parser of an argument without a fault, the parser accepts it
 passed_is_accepted : (a : Rule) (v : Text) → value_kinds a.ignore_case (parser_of_value a.parser) v ≡ []
     → Accepts a.ignore_case (parser_of_value a.parser) v
 passed_is_accepted a v e =
@@ -114,6 +115,7 @@ signed_is_within low high t accepted = subst (IsNumberIn low high) (sym (without
         let bare : IsNumberIn low high t = record { numeral = digits; least = low_ok; most = high_ok } in
         rw minus bare
 
+-- if every text with `P` has `Q`, and a text, if there is one, has `P`, then it has `Q`
 if_some_more : (P Q : Text → Type 0) (o : Option Text) → ((t : Text) → P t → Q t) → IfSome o P → IfSome o Q
 if_some_more P Q None more h = tt
 if_some_more P Q (Some t) more h = more t h
@@ -158,24 +160,31 @@ each_ordinary rules (a ∷ more) own once =
     let others_once : map (λ b. counts (action_of b)) more ≡ map (λ _. false) more = cc in
     (record { own = cc; no_count = cc }, each_ordinary rules more others others_once)
 
+-- the arguments of the program itself are ordinary
 top_is_ordinary : Each (IsOrdinary whole.top.rules) whole.top.rules
 top_is_ordinary = each_ordinary whole.top.rules whole.top.rules refl refl
 
+-- the arguments of `search` are ordinary
 search_is_ordinary : Each (IsOrdinary search_shape.rules) search_shape.rules
 search_is_ordinary = each_ordinary search_shape.rules search_shape.rules refl refl
 
+-- the arguments of `check` are ordinary
 check_is_ordinary : Each (IsOrdinary check_shape.rules) check_shape.rules
 check_is_ordinary = each_ordinary check_shape.rules check_shape.rules refl refl
 
+-- the arguments of `ever` are ordinary
 ever_is_ordinary : Each (IsOrdinary ever_shape.rules) ever_shape.rules
 ever_is_ordinary = each_ordinary ever_shape.rules ever_shape.rules refl refl
 
+-- the arguments of `after` are ordinary
 after_is_ordinary : Each (IsOrdinary after_shape.rules) after_shape.rules
 after_is_ordinary = each_ordinary after_shape.rules after_shape.rules refl refl
 
+-- the arguments of `cover` are ordinary
 cover_is_ordinary : Each (IsOrdinary cover_shape.rules) cover_shape.rules
 cover_is_ordinary = each_ordinary cover_shape.rules cover_shape.rules refl refl
 
+-- if the entries of `search` are ready, their numbers are within their bounds, and the flags can be read
 search_fits : (rows : List Row) → Each (IsReady search_shape.rules) rows → FitsSearch rows
 search_fits rows all = record {
   depth = if_some_more _ (IsNumberIn 0 255) (one_of (codes "depth") rows)
@@ -207,6 +216,7 @@ search_fits rows all = record {
       (entry_fits search_shape.rules rows all (codes "progress") _ refl);
 }
 
+-- if the entries of `check` are ready, the flags can be read
 check_fits : (rows : List Row) → Each (IsReady check_shape.rules) rows → FitsCheck rows
 check_fits rows all = record {
   explain = if_some_more _ IsTruthText (one_of (codes "explain") rows)
@@ -217,6 +227,7 @@ check_fits rows all = record {
       (entry_fits check_shape.rules rows all (codes "warn") _ refl);
 }
 
+-- if the entries of `ever` are ready, their number is within its bounds, and the flags can be read
 ever_fits : (rows : List Row) → Each (IsReady ever_shape.rules) rows → FitsEver rows
 ever_fits rows all = record {
   states = if_some_more _ (IsNumberIn 1 100000000) (one_of (codes "states") rows)
@@ -236,6 +247,7 @@ ever_fits rows all = record {
       (entry_fits ever_shape.rules rows all (codes "progress") _ refl);
 }
 
+-- if the entries of `after` are ready, their number is within its bounds, and the flags can be read
 after_fits : (rows : List Row) → Each (IsReady after_shape.rules) rows → FitsAfter rows
 after_fits rows all = record {
   terms = if_some_more _ (IsNumberIn 1 1000000) (one_of (codes "terms") rows)
@@ -249,6 +261,7 @@ after_fits rows all = record {
       (entry_fits after_shape.rules rows all (codes "progress") _ refl);
 }
 
+-- if the entries of `cover` are ready, their numbers are within their bounds, and the flags can be read
 cover_fits : (rows : List Row) → Each (IsReady cover_shape.rules) rows → FitsCover rows
 cover_fits rows all = record {
   limit = if_some_more _ (IsNumberIn 1 1000000000) (one_of (codes "limit") rows)
@@ -277,6 +290,8 @@ named is_search is_check is_ever is_after is_cover is_help =
     (cond (is_after || false) (Some after_shape)
     (cond (is_cover || false) (Some cover_shape) (cond (is_help || false) (Some help_shape) None)))))
 
+-- if the words stop at no `help`, and neither the subcommand nor the last checks have a fault, a subcommand was given
+-- and its entries can be read
 stop_fits : (rows : List Row) (stop : Option (Text × List Text)) → StopsWell whole.top (names_of whole) top_is_ordinary stop
     → entered_fault whole stop ≡ [] → check_fault whole.top rows (is_some (entered whole stop)) ≡ [] → FitsRequest (entered whole stop)
 stop_fits rows None well below check = absurd (not_empty _ _ check)
@@ -309,6 +324,7 @@ stop_fits rows (Some p) well below check =
         cc
     go false false false false false false e under check = absurd (not_empty _ _ check)
 
+-- words without a fault give a subcommand, and its entries can be read
 pub request_fits : (words : List Text) → fault_of lotosseq words ≡ [] → FitsRequest (subcommand_of lotosseq words)
 request_fits words e =
     let left = level_leaves whole.top (names_of whole) top_is_ordinary (argument_words lotosseq words) _ _ e in

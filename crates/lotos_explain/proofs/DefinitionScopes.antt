@@ -22,6 +22,7 @@ abbrev pub Continues : Scope → ℕ → DefinitionListView → DefinitionListVi
 Continues scope first all rest =
     (k : ℕ) × ((v : ScopedDefinition) → In v (definitions_in_scope scope k rest) → In v (definitions_in_scope scope first all))
 
+-- if the rest is all the definitions, those of the rest are among those of the whole
 pub continues_all : (scope : Scope) (first : ℕ) (all rest : DefinitionListView) → rest ≡ all → Continues scope first all rest
 continues_all scope first all rest e = (first, λ v h. subst (λ ds. In v (definitions_in_scope scope first ds)) e h)
 
@@ -56,11 +57,13 @@ pub gate_here : (scope : Scope) (first : ℕ) (d : DefinitionView) (place : Occu
     IsInScopeAt (texts (formals_of d)) (body_of d) place n → IsInScopeInAny (definition_in_scope scope first d) place n
 gate_here scope first d place n h = record { scoped = record { scope = within d first scope; definition = d }; located = inl refl; inside = h }
 
+-- a name that is in scope at an occurrence in an inner definition is so in the definition around it
 pub gate_inside : (scope : Scope) (first k : ℕ) (d one : DefinitionView) (place : Occurrence) (n : Name) →
     ((v : ScopedDefinition) → In v (definition_in_scope (within d first scope) k one) → In v (definitions_in_scope (within d first scope) first (inner_of d))) →
     IsInScopeInAny (definition_in_scope (within d first scope) k one) place n → IsInScopeInAny (definition_in_scope scope first d) place n
 gate_inside scope first k d one place n f h = record { scoped = h.scoped; located = inr (f h.scoped h.located); inside = h.inside }
 
+-- a name that is bound inside a definition is bound at a call in its body
 pub process_here : (scope : Scope) (first : ℕ) (d : DefinitionView) (at : ℕ) (n : Name) →
     CallsAt (texts (formals_of d)) (body_of d) at → IsBound (within d first scope) n → IsBoundInAny (definition_in_scope scope first d) at n
 process_here scope first d at n h b = record {
@@ -70,6 +73,7 @@ process_here scope first d at n h b = record {
   visible = b;
 }
 
+-- a name that is bound at a call in an inner definition is so in the definition around it
 pub process_inside : (scope : Scope) (first k : ℕ) (d one : DefinitionView) (at : ℕ) (n : Name) →
     ((v : ScopedDefinition) → In v (definition_in_scope (within d first scope) k one) → In v (definitions_in_scope (within d first scope) first (inner_of d))) →
     IsBoundInAny (definition_in_scope (within d first scope) k one) at n → IsBoundInAny (definition_in_scope scope first d) at n
@@ -139,6 +143,7 @@ gate_in_whole whole at n h = record {
   visible = h.inside.visible;
 }
 
+-- a name in scope at a call in a definition of the specification is a gate in scope at a call there
 pub gate_at_call_in_whole : (whole : DefinitionView) (at : ℕ) (n : Name) → IsInScopeInAny (definition_in_scope [] 0 whole) (occurrence.Call at) n →
     IsGateInScopeAtCall whole at n
 gate_at_call_in_whole whole at n h = record {
@@ -150,6 +155,7 @@ gate_at_call_in_whole whole at n h = record {
   visible = h.inside.visible;
 }
 
+-- a name bound at a call in a definition of the specification is a process visible at a call there
 pub process_in_whole : (whole : DefinitionView) (at : ℕ) (n : Name) → IsBoundInAny (definition_in_scope [] 0 whole) at n → IsProcessVisibleAt whole at n
 process_in_whole whole at n h = record {
   scope = h.scoped.scope;

@@ -23,6 +23,7 @@ scopes_here scopes outer d first scope e h = record {
   around = enclosing_inside scopes outer d first scope e h;
 }
 
+-- a list of scopes in an inner definition is one in the definition around it
 pub scopes_deeper : (scope : Scope) (first k : ℕ) (d one : DefinitionView) (scopes : List DefinitionView) →
     ((v : ScopedDefinition) → In v (definition_in_scope (within d first scope) k one) → In v (definitions_in_scope (within d first scope) first (inner_of d))) →
     AreScopesInAny (definition_in_scope (within d first scope) k one) scopes → AreScopesInAny (definition_in_scope scope first d) scopes

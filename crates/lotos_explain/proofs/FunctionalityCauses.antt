@@ -80,6 +80,7 @@ pub record SameDeclared (all : DefinitionListView) (first : ℕ) (n : Name) (res
   pub left : (j : ℕ) (d : DefinitionView) → Declares rest number n j d → Declares all first n j d
   pub only : (j : ℕ) (d : DefinitionView) → Declares all first n j d → Declares rest number n j d
 
+-- if the rest is all the definitions, it declares the name just if all do
 pub same_all : (all : DefinitionListView) (first : ℕ) (n : Name) → SameDeclared all first n all
 same_all all first n = record { number = first; left = λ j d h. h; only = λ j d h. h }
 
@@ -104,6 +105,7 @@ module _ (all : DefinitionListView) (first : ℕ) (n : Name) (one : DefinitionVi
     only = λ j d h. not_first same.number j n d other (same.only j d h);
   }
 
+-- if an empty rest declares the name just if all do, none of all declares it
 pub same_none : (all : DefinitionListView) (first : ℕ) (n : Name) → SameDeclared all first n no_defs → (k : ℕ) (d : DefinitionView) → Declares all first n k d →
     ⊥
 same_none all first n same k d h = elim (same.only k d h) [ ]
@@ -149,8 +151,10 @@ call_caused scope p gs of b = record {
   reached = itself (subst (Func scope (call p.now gs)) (sym (declared_shown of)) (of_call b.means));
 }
 
+-- `stop` has the functionality `noexit`, of which it is the cause itself
 pub stop_caused : (scope : Scope) → HasCause scope stop (record { functionality = NoExit; leaf = leaf.Stop })
 stop_caused scope = record { part = stop; is = refl; reached = itself of_stop }
 
+-- `exit` has the functionality `exit`, of which it is the cause itself
 pub exit_caused : (scope : Scope) → HasCause scope exit (record { functionality = Exit; leaf = leaf.Exit })
 exit_caused scope = record { part = exit; is = refl; reached = itself of_exit }

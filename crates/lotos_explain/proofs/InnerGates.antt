@@ -10,6 +10,7 @@ use Rattle.lotos_check.proofs.ListIndices.{contains_in}
 use Rattle.lotos_check.proofs.MappedLists.{in_map}
 use Rattle.lotos_explain.specs.InnerGates.{IsNamedAt, HidesAt, HidesInAny, IsHiddenAt, HasFormalInAny, IsFormalGateOf}
 
+-- if a gate at an index of a list has the name, one of the gates has the name and the offset of that one
 pub named_item : (gs : List Placed) (i : ℕ) (g : Placed) (n : Name) → i < length gs → g ≡ get_or gs i g → g.name ≡ n → IsNamedAt gs n g.at
 named_item gs i g n below is named =
     record { gate = g; located = contains_in gs g (i, below, sym is); named = named; offset = refl }
@@ -34,6 +35,7 @@ pub hides_here : (scope : Scope) (first : ℕ) (d : DefinitionView) (n : Name) (
     HidesAt (texts (formals_of d)) (body_of d) n at → HidesInAny (definition_in_scope scope first d) n at
 hides_here scope first d n at h = record { scoped = record { scope = within d first scope; definition = d }; located = inl refl; inside = h }
 
+-- a gate that is hidden in an inner definition is hidden in the definition around it
 pub hides_inside : (scope : Scope) (first k : ℕ) (d one : DefinitionView) (n : Name) (at : ℕ) →
     ((v : ScopedDefinition) → In v (definition_in_scope (within d first scope) k one) → In v (definitions_in_scope (within d first scope) first (inner_of d))) →
     HidesInAny (definition_in_scope (within d first scope) k one) n at → HidesInAny (definition_in_scope scope first d) n at
@@ -60,6 +62,7 @@ pub formal_here : (scope : Scope) (first : ℕ) (d : DefinitionView) (n process 
 formal_here scope first d n process h e =
     record { scoped = record { scope = within d first scope; definition = d }; located = inl refl; formal = h; named = e }
 
+-- a formal gate in an inner definition is one in the definition around it, of a process of the same name
 pub formal_inside : (scope : Scope) (first k : ℕ) (d one : DefinitionView) (n process : Name) →
     ((v : ScopedDefinition) → In v (definition_in_scope (within d first scope) k one) → In v (definitions_in_scope (within d first scope) first (inner_of d))) →
     HasFormalInAny (definition_in_scope (within d first scope) k one) n process → HasFormalInAny (definition_in_scope scope first d) n process

@@ -10,6 +10,7 @@ pub record IsCut (at end : ℕ) (text rest : List ℕ) : Type 0 where
   pub joined : text ≡ front ++ rest
   pub far : end ≡ at + length front
 
+-- a piece, and what lexes of the text after it, are a front of both together, as long as the offsets say
 longer : {at end : ℕ} (piece text rest : List ℕ) → IsCut (at + length piece) end text rest → IsCut at end (piece ++ text) rest
 longer piece text rest cut = record {
   front = piece ++ cut.front;
@@ -17,6 +18,7 @@ longer piece text rest cut = record {
   far = omega (arith, cut.far, length-append piece cut.front);
 }
 
+-- what lexes of a text is a front of it, as long as the offsets say
 pub lexed_is_front : {at end : ℕ} {text rest : List ℕ} {ts : List Token} → LexesTo at text ts end rest → IsCut at end text rest
 lexed_is_front nothing = record { front = []; joined = refl; far = omega arith }
 lexed_is_front (blank {b = b} {text = text} i c) = longer (b ∷ []) text _ (lexed_is_front c)

@@ -34,6 +34,7 @@ word_located [] i d below = absurd (omega (arith, below))
 word_located (w ∷ ws) zero d below = inl refl
 word_located (w ∷ ws) (suc i) d below = inr (word_located ws i d (omega (arith, below)))
 
+-- if a gate at an index of a list has the offset, one of the gates has it
 pub among_item : (gs : List Placed) (i : ℕ) (g : Placed) (at : ℕ) → i < length gs → g ≡ get_or gs i g → g.at ≡ at → IsAmongAt gs at
 among_item gs i g at below is offset = record { gate = g; located = contains_in gs g (i, below, sym is); offset = offset }
 
@@ -69,15 +70,19 @@ module _ {A : Type 0} (now : A → Name) where
       IfSome found (λ n. In (now n) names)
   from_nothing found names more = some_weaker found (λ n h. elim h [ inl e ↦ cc | inr i ↦ i ]) more
 
+-- a prefix uses a gate at the offset of its gate
 pub acts_at : (g : Placed) (b : BehaviourView) (at : ℕ) → g.at ≡ at → UsesGateAt (prefix (Gate g) b) at
 acts_at g b at e = record { gate = g; uses = acts; offset = e }
 
+-- a parallel composition uses a gate at the offset of each gate in its list
 pub synchronizes_at : (l r : BehaviourView) (gs : List Placed) (at : ℕ) → IsAmongAt gs at → UsesGateAt (par l (gates gs) r) at
 synchronizes_at l r gs at h = record { gate = h.gate; uses = synchronizes h.located; offset = h.offset }
 
+-- a call uses a gate at the offset of each of its actual gates
 pub passes_at : (p : Placed) (gs : List Placed) (at : ℕ) → IsAmongAt gs at → UsesGateAt (call p gs) at
 passes_at p gs at h = record { gate = h.gate; uses = passes h.located; offset = h.offset }
 
+-- a call is one at the offset of its name
 pub call_at : (p : Placed) (gs : List Placed) (at : ℕ) → p.at ≡ at → IsCallAt (call p gs) at
 call_at p gs at e = record { called = p; actuals = gs; is = refl; offset = e }
 

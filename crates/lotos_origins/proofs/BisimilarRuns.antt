@@ -21,6 +21,7 @@ KeepsBackward system = (t u u' : Term) (k : Label) → AreBisimilar system t u �
 abbrev pub CanLeadTo : List Process → Term → Term → List Label → Type 0
 CanLeadTo system u t run = (v : Term) × DerivesByNumber system t run v × AreAlike system v u
 
+-- each term is strongly bisimilar to itself
 pub alike_itself : (system : List Process) (t : Term) → AreAlike system t t
 alike_itself system t = same
 

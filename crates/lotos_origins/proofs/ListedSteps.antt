@@ -51,5 +51,6 @@ leads_grow old new grows k n m leads = record {
 pub step_same : (k j : Label) (n m : ℕ) → k ≡ j → n ≡ m → IsSameStep (k, n) (j, m)
 step_same k j n m label number = subst (λ h. IsSameStep (k, n) (h, m)) label (ap (λ i. pair k i) number)
 
+-- listed steps that are the same have the same label and the same number
 pub same_step : (k j : Label) (n m : ℕ) → IsSameStep (k, n) (j, m) → (k ≡ j) × (n ≡ m)
 same_step k j n m same = (ap (λ (s : Label × ℕ). s.0) same, ap (λ (s : Label × ℕ). s.1) same)

@@ -35,6 +35,7 @@ bodies_grow old new bound grows bodies p q listed =
 pub found_made : (v : TableView) (n m : ℕ) (o : Origin) (found : Finding) → found ≡ finding.Made o → IsFinding v n m found → IsOriginIn v n m o
 found_made v n m o found is says = subst (IsFinding v n m) is says
 
+-- if the finding is an internal step from `a` to `b`, this is further inside the step from `n` to `m`
 pub found_inner : (v : TableView) (n m a b : ℕ) (found : Finding) → found ≡ finding.Inner a b → IsFinding v n m found → IsInner v n m a b
 found_inner v n m a b found is says = subst (IsFinding v n m) is says
 

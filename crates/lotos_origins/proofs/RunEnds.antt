@@ -17,6 +17,7 @@ pub end_grows : (old new : TableView) → Grows old new → (set : LabelFlags) (
 end_grows old new grows set n (t, at, none) =
     (t, grows.terms n t at, subst (λ (ps : List Process). HasNoStepWith ps set t) (sym grows.processes) none)
 
+-- an end of a run in a table that has grown is one in the old table, if this has a term with its number
 pub end_before : (old new : TableView) → Grows old new → (set : LabelFlags) (n : ℕ) → n < length old.terms → IsEndAt new set n → IsEndAt old set n
 end_before old new grows set n known (t, at, none) =
     let (s, was) = get_some old.terms n known in

@@ -23,9 +23,11 @@ pub record AreCut (names : List Name) (k : TermLabel) (ks : List TermLabel) (s :
   pub all : ArePrinted names ks others
   pub joined : s ≡ first ∷ others
 
+-- the texts of a list of labels with a first one are that of the first label and those of the others
 pub cut_first : (names : List Name) (k : TermLabel) (ks : List TermLabel) (s : List Label) → ArePrinted names (k ∷ ks) s → AreCut names k ks s
 cut_first names k ks _ (more_printed h hs) = record { first = _; others = _; printed = h; all = hs; joined = refl }
 
+-- an empty list of labels has no texts
 nothing_shown : (names : List Name) (s : List Label) → ArePrinted names [] s → s ≡ []
 nothing_shown names _ none_printed = refl
 
@@ -98,6 +100,7 @@ line_behind names rest later label lines shown lines' all e h written (left, pri
     let others = flat_map label_line cut.others in
     (cut.others, cut.all, ap (λ x. x ++ others) grown ∙ append_assoc lines (label_line cut.first) others ∙ whole')
 
+-- the next label whose line is left has a printed text
 pub line_shown : (names : List Name) (rest later : List TermLabel) (label : TermLabel) (lines : List ℕ) (all : List Label) → rest ≡ label ∷ later →
     AreLinesLeft names rest lines all → (t : List ℕ) × IsPrintedAs names label t
 line_shown names rest later label lines all e (left, printed, whole) =

@@ -27,6 +27,7 @@ pub record IsCutNamed (names : List Name) (k : TermLabel) (ks : List TermLabel) 
   pub all : AreNamed names ks left others rest
   pub joined : texts ≡ first ∷ others
 
+-- the texts of steps are that of the first step, and those of the others by the origins that the first one leaves
 pub cut_named : (names : List Name) (k : TermLabel) (ks : List TermLabel) (origins : List Origin) (texts : List Label) (rest : List Origin) →
     AreNamed names (k ∷ ks) origins texts rest → IsCutNamed names k ks origins texts rest
 cut_named names k ks origins _ rest (more_named step all) =
@@ -131,6 +132,7 @@ row_named names _ origins _ rest text mid made none_named some grown written = a
 row_named names (k ∷ ks) origins (first ∷ others) rest text mid made (more_named step all) some grown written =
     written ∙ ap (λ x. x ++ codes " ") grown ∙ append_assoc text (sequence_text (first ∷ others)) (codes " ")
 
+-- without steps no origin is taken, and `row_text` adds nothing to the text
 pub no_row_named : (names : List Name) (labels : List TermLabel) (origins : List Origin) (r : List Label) (rest : List Origin) (text : List ℕ) →
     labels ≡ [] → AreNamed names labels origins r rest → (origins ≡ rest) × (text ≡ text ++ row_text r)
 no_row_named names labels origins r rest text is named =

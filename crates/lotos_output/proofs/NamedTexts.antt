@@ -52,6 +52,7 @@ pub record AreSplit (names : List Name) (first second : List TermLabel) (origins
   pub first_named : AreNamed names first origins first_texts rest
   pub second_named : AreNamed names second rest second_texts left
 
+-- if two runs have texts one after the other, each has texts, the second by the origins that the first one leaves
 pub named_split : (names : List Name) (first second : List TermLabel) (origins left : List Origin) (texts : List Label) →
     AreNamed names (first ++ second) origins texts left → AreSplit names first second origins left
 named_split names [] second origins left texts named =

@@ -18,6 +18,7 @@ empty_on p zero j = j
 empty_on [] (suc k) j = j
 empty_on (e ∷ p) (suc k) j = empty_on p k (parts_empty e p j).1
 
+-- if the elements from index `i` on may all be empty, so may those from `k` on, for `k` not below `i`
 empty_from : (p : List Element) (i k : ℕ) → i ≤ k → IsJoin Segment (drop i p) [] → IsJoin Segment (drop k p) []
 empty_from p zero k h j = empty_on p k j
 empty_from [] (suc i) k h j = empty_on [] k j
@@ -28,6 +29,7 @@ empty_from (e ∷ p) (suc i) (suc k) h j = empty_from p i k (omega arith) j
 pub none_left : (p : List Element) (k : ℕ) → length p ≤ k → IsJoin Segment (drop k p) []
 none_left p k past = subst (λ q. IsJoin Segment q []) (sym (drop_all k p past)) refl
 
+-- if all elements may be empty, those from index `k` on may be exactly if `k` is at least 0
 pub none_needed : (p : List Element) (k : ℕ) → IsJoin Segment (drop 0 p) [] → IsJoin Segment (drop k p) [] ↔ (0 ≤ k)
 none_needed p k j = (λ m. omega arith, λ h. empty_from p 0 k h j)
 

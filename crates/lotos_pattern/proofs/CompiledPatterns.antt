@@ -248,6 +248,7 @@ leads_within old new place label (Some n) below named leads =
     let to = leads _ _ (slice_get-get_or old.places place (record { bits = [] }) below) (slice_get-get_or old.labels label [] named) in
     slice_get_within new.places n to.0 to.1
 
+-- if the result is a success, the number in it to which a label leads is that of a place
 pub answer_within : {E : Type 0} (old new : CompiledView) (place label : ℕ) (answer : Result (Option ℕ) E) → place < length old.places →
     label < length old.labels →
     IfOk answer (λ next. (from : Place) (text : Label) → IsPlaceAt old place from → IsLabelAt old label text → LeadsTo new from text next) →

@@ -27,6 +27,7 @@ element_at p kept i x shown within is =
     let there : slice_get kept i ≡ Some x = slice_get_read kept (length kept) i x refl within is in
     subst (λ q. slice_get q i ≡ Some (element_of x)) shown (slice_get-map element_of kept i ∙ ap (option_map element_of) there)
 
+-- as many elements are kept as the pattern has
 pub as_long : (p : List Element) (kept : List CodeElement) → elements_of kept ≡ p → length kept ≡ length p
 as_long p kept shown = sym (length-map kept element_of) ∙ ap length shown
 
@@ -42,6 +43,7 @@ last_decides (f ∷ g ∷ p) e is =
     let shorter : length (f ∷ g ∷ p) - 1 ≡ suc (length (g ∷ p) - 1) = omega arith in
     last_decides (g ∷ p) e (subst (λ i. drop i (f ∷ g ∷ p) ≡ e ∷ []) shorter is)
 
+-- the set that the last kept element demands to be refused, if any, is the one that the elements demand
 pub last_kept : (kept : List CodeElement) (x : CodeElement) (answer : Option LabelSet) → 0 < length kept → x ≡ get_or kept (length kept - 1) x →
     answer ≡ refusal_of (element_of x) → answer ≡ last_refusal (elements_of kept)
 last_kept kept x answer some is h =

@@ -23,6 +23,7 @@ end_joined : (refused : Option LabelSet) → IsJoin Segment (end_elements refuse
 end_joined None = refl
 end_joined (Some set) = ([], [], refl, refl, refl)
 
+-- only the empty sequence has a segment for each of the elements after the last label
 end_empty : (refused : Option LabelSet) (t : List Label) → IsJoin Segment (end_elements refused) t → t ≡ []
 end_empty None t h = h
 end_empty (Some set) t (front, rest, no_label, nothing, cut) = cc
@@ -41,10 +42,12 @@ module _ (refused : Option LabelSet) where
       let after : rest ≡ s = joined_alone s rest others in
       cc
 
+-- of the elements after the last label only the last may demand a refusal
 ends_last_alone : (refused : Option LabelSet) → OnlyLastDemandsRefusal (end_elements refused)
 ends_last_alone None = tt
 ends_last_alone (Some set) = tt
 
+-- of the elements for one label only the last may demand a refusal
 ends_last_after : (refused : Option LabelSet) (l : Label) → OnlyLastDemandsRefusal (exact_elements refused (l ∷ []))
 ends_last_after None l = tt
 ends_last_after (Some set) l = ((λ none. none), tt)
@@ -60,10 +63,12 @@ demands_alone : (refused : Option LabelSet) → last_refusal (end_elements refus
 demands_alone None = refl
 demands_alone (Some set) = refl
 
+-- so does the last of the elements for one label
 demands_after : (refused : Option LabelSet) (l : Label) → last_refusal (exact_elements refused (l ∷ [])) ≡ refused
 demands_after None l = refl
 demands_after (Some set) l = refl
 
+-- so does the last of the elements for any sequence
 demands : (refused : Option LabelSet) (s : List Label) → last_refusal (exact_elements refused s) ≡ refused
 demands refused [] = demands_alone refused
 demands refused (l ∷ []) = demands_after refused l

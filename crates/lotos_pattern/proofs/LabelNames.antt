@@ -74,6 +74,7 @@ all_but_internal strong labels none =
     All-weaker (Contains labels) (IsObservable strong) (λ l has. other_observable strong l (λ e. none (subst (Contains labels) e has))) labels
     (All-contains_itself labels)
 
+-- if internal steps are observed, all labels can be observed
 observed_all : (labels : List Label) → All (IsObservable true) labels
 observed_all [] = All-nil (IsObservable true)
 observed_all (l ∷ labels) = All-cons (IsObservable true) l labels tt (observed_all labels)
@@ -86,6 +87,8 @@ hidden_labels true has labels h e = absurd (let z : ⊥ = cc in z)
 hidden_labels false true labels h e = (refl, h)
 hidden_labels false false labels h e = absurd (let z : ⊥ = cc in z)
 
+-- names of labels name them as labels that can be observed, unless the internal action is among them
+-- and is not observed
 pub seen_labels : (strong has : Bool) (names : List Text) (labels : List Label) → MatchBool has (Contains labels internal) (Contains labels internal → ⊥) →
     not strong && has ≡ false → NamesEach true names labels → NamesEach strong names labels
 seen_labels true has names labels h e n = named_as_observed true names labels n (observed_all labels)
@@ -106,6 +109,7 @@ internal_no_labels strong word hidden is (labels, n) =
 pub no_labels : (strong : Bool) (word : Text) → (IsLabels true word → ⊥) → IsLabels strong word → ⊥
 no_labels strong word none (labels, n) = none (labels, named_if_observed strong (parts_of word) labels n)
 
+-- a word that names no labels if internal steps are observed does not name the internal action
 pub no_labels_no_internal : (word : Text) → (IsLabels true word → ⊥) → NamesInternal word → ⊥
 no_labels_no_internal word none is = none (is.labels, is.named)
 
@@ -113,9 +117,11 @@ no_labels_no_internal word none is = none (is.labels, is.named)
 letter : (b : ℕ) → IsTrue (is_ascii_alphabetic b) → to_ascii_lowercase b ≡ 60 → ⊥
 letter b h e = grind (arith, nat_tests)
 
+-- a byte that is `<` in lower case is no comma
 no_comma : (b : ℕ) → to_ascii_lowercase b ≡ 60 → (b == 44) ≡ false
 no_comma b e = grind (arith, nat_tests)
 
+-- if a byte begins the first of the names of some labels, it is a letter
 names_begin : (strong : Bool) (b : ℕ) (parts : List Text) (labels : List Label) → NamesEach strong (onto_first b parts) labels → IsTrue (is_ascii_alphabetic b)
 names_begin strong b [] [] h = absurd h
 names_begin strong b [] (l ∷ labels) h = h.0.spelled.0
@@ -130,6 +136,7 @@ labels_no_angle strong (b ∷ bs) tail (labels, n) e =
     let parts : parts_of (b ∷ bs) ≡ onto_first b (parts_of bs) = slice_split-cons_no (λ c. c == 44) b bs (no_comma b lower) in
     letter b (names_begin strong b (parts_of bs) labels (subst (λ names. NamesEach strong names labels) parts n)) lower
 
+-- a word that names the internal action is no word in angle brackets
 pub internal_no_angle : (word tail : Text) → NamesInternal word → EqualsIgnoringCase word (60 ∷ tail) → ⊥
 internal_no_angle word tail is e = labels_no_angle true word tail (is.labels, is.named) e
 
@@ -138,6 +145,7 @@ abbrev total : List Label → ℕ
 total [] = 0
 total (l ∷ labels) = length l + total labels
 
+-- each of the labels is at most as long as all of them together
 all_shorter : (labels : List Label) → All (λ l. length l ≤ total labels) labels
 all_shorter [] = All-nil (λ l. length l ≤ 0)
 all_shorter (l ∷ labels) =
@@ -155,6 +163,7 @@ other_label strong labels =
       other_observable strong l (λ e. let one : length l ≡ 1 = ap length e in absurd (omega arith)),
     )
 
+-- if there are names, the set of the labels that they name has one that can be observed
 named_label : (strong : Bool) (names : List Text) (labels : List Label) → 0 < length names → NamesEach strong names labels →
     (l : Label) × IsIn l (these labels) × IsObservable strong l
 named_label strong [] labels some h = absurd (omega arith)
@@ -167,5 +176,6 @@ some_label strong _ _ (named {word = word} {labels = labels} n) =
     let many = length-slice_split (λ b. b == 44) word in named_label strong (parts_of word) labels (omega arith) n
 some_label strong _ _ (complement {labels = labels} i n) = other_label strong labels
 
+-- the set of all labels has one that can be observed
 pub some_other_label : (strong : Bool) → (l : Label) × IsIn l (others []) × IsObservable strong l
 some_other_label strong = other_label strong []

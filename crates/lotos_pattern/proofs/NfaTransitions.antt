@@ -20,12 +20,14 @@ no_advance_and_stay : (e : Element) (l : Label) → IsTransition e l Advance →
 unfolding IsTransition
 no_advance_and_stay e l ends goes_on = no_label l [] ((ends (l ∷ [])).0 ((goes_on (l ∷ [])).1 ((ends []).1 refl)))
 
+-- if a label has the transition `Advance` at an element, it has no other there
 only_advance : (t : Transition) (e : Element) (l : Label) → IsTransition e l t → IsTransition e l Advance → t ≡ Advance
 unfolding IsTransition
 only_advance Advance e l takes ends = refl
 only_advance Stay e l takes ends = absurd (no_advance_and_stay e l ends takes)
 only_advance Reject e l takes ends = absurd (takes [] ((ends []).1 refl))
 
+-- if a label has the transition `Stay` at an element that can occur, it has no other there
 only_stay : (strong : Bool) (t : Transition) (e : Element) (l : Label) → CanOccur strong e → IsTransition e l t → IsTransition e l Stay → t ≡ Stay
 unfolding IsTransition
 only_stay strong Advance e l some takes goes_on = absurd (no_advance_and_stay e l takes goes_on)
@@ -44,9 +46,11 @@ data Led (p : List Element) (l : Label) (e : Element) (j k : ℕ) : Type 0 where
   stayed : IsTransition e l Stay → k ≡ j → Led p l e j k
   skipped : Segment e [] → Leads p l (j + 1) k → Led p l e j k
 
+-- two elements that one reading gives are the same
 same_element : (e f : Element) (read : Option Element) → read ≡ Some e → read ≡ Some f → e ≡ f
 same_element e f read is too = cc
 
+-- if a label leads from the state `j` to `k`, it leads there in one of these ways from the element at `j`
 led : (p : List Element) (l : Label) (j k : ℕ) → Leads p l j k → (e : Element) → slice_get p j ≡ Some e → Led p l e j k
 led p l _ _ (advances {j = j} {e = f} is takes) e here = advanced (subst (λ x. IsTransition x l Advance) (same_element f e (slice_get p j) is here) takes) refl
 led p l _ _ (stays {j = j} {e = f} is takes) e here = stayed (subst (λ x. IsTransition x l Stay) (same_element f e (slice_get p j) is here) takes) refl
@@ -92,6 +96,7 @@ walk_ends p from l k onward past w n = (
   ],
 )
 
+-- a place that gains the state of a transition keeps its states
 keeps : (t : Transition) (k : ℕ) (old new : Place) → HasTransition t k old new → (n : ℕ) → HasState old n → HasState new n
 keeps Advance k old new marks n has = (marks n).1 (inl has)
 keeps Stay k old new marks n has = (marks n).1 (inl has)
@@ -159,14 +164,17 @@ data Ended (p : List Element) (s : List Label) (k : ℕ) : Type 0 where
   at_start : s ≡ [] → k ≡ 0 → Ended p s k
   after_label : (r : List Label) (l : Label) (j : ℕ) → s ≡ r ++ l ∷ [] → IsStateAfter p r j → Leads p l j k → Ended p s k
 
+-- a state after a sequence is the one at the start, or one to which the last label leads
 ended : (p : List Element) (s : List Label) (k : ℕ) → IsStateAfter p s k → Ended p s k
 ended p _ _ initial = at_start refl refl
 ended p _ _ (led_to {r = r} {l = l} {j = j} before lead) = after_label r l j refl before lead
 
+-- a sequence with a label at its end is not empty
 not_empty : (r : List Label) (l : Label) → r ++ l ∷ [] ≡ [] → ⊥
 not_empty [] l e = cc
 not_empty (x ∷ r) l e = cc
 
+-- after the empty sequence 0 is the only state
 first_state : (p : List Element) (k : ℕ) → Ended p [] k → k ≡ 0
 first_state p k (at_start none first) = first
 first_state p k (after_label r l j cut before lead) = absurd (not_empty r l (sym cut))

@@ -16,6 +16,7 @@ data Split (e : Element) (p : List Element) (l : Label) (s : List Label) : Type 
   passed_over : Segment e [] → IsJoin Segment p (l ∷ s) → Split e p l s
   begun : (front remainder : List Label) → Segment e (l ∷ front) → IsJoin Segment p remainder → s ≡ front ++ remainder → Split e p l s
 
+-- if a sequence with a label at its beginning has segments for an element and the rest, it begins in one of these ways
 split : (e : Element) (p : List Element) (l : Label) (s : List Label) → IsJoin Segment (e ∷ p) (l ∷ s) → Split e p l s
 split e p l s ([], rest, segment, j, cut) = passed_over segment (subst (IsJoin Segment p) (sym cut) j)
 split e p l s (x ∷ front, rest, segment, j, cut) =
@@ -28,6 +29,7 @@ After Advance e p s = IsJoin Segment p s
 After Stay e p s = IsJoin Segment (e ∷ p) s
 After Reject e p s = ⊥
 
+-- what follows a label that begins a segment of an element is what may follow it by its transition there
 taken : (t : Transition) (e : Element) (p : List Element) (l : Label) (s front remainder : List Label) → IsTransition e l t → Segment e (l ∷ front) →
     IsJoin Segment p remainder → s ≡ front ++ remainder → After t e p s
 unfolding IsTransition
@@ -37,6 +39,7 @@ taken Advance e p l s front remainder takes segment j cut =
 taken Stay e p l s front remainder takes segment j cut = (front, remainder, (takes front).0 segment, j, cut)
 taken Reject e p l s front remainder takes segment j cut = takes front segment
 
+-- a label and what may follow it by its transition at an element have segments for the element and the rest
 untaken : (t : Transition) (e : Element) (p : List Element) (l : Label) (s : List Label) → IsTransition e l t → After t e p s → IsJoin Segment (e ∷ p) (l ∷ s)
 unfolding IsTransition
 untaken Advance e p l s takes j = (l ∷ [], s, (takes []).1 refl, j, refl)
@@ -50,12 +53,14 @@ pub record IsPassing (p : List Element) (from : Place) (l : Label) (k : ℕ) (on
   pub complete : (s : List Label) (j : ℕ) → HasState from j → IsJoin Segment (drop j p) (l ∷ s) →
       CanContinue p onward s ⊎ (IsJoin Segment (drop k p) (l ∷ s) ⊎ (k < j))
 
+-- a number that is at least `k` is `k`, or at least `k + 1`
 pub later : (k j : ℕ) → k ≤ j → (j ≡ k) ⊎ (k + 1 ≤ j)
 later zero zero h = inl refl
 later zero (suc j) h = inr (omega arith)
 later (suc k) zero h = absurd (omega arith)
 later (suc k) (suc j) h = elim (later k j (omega arith)) [ inl e ↦ inl (ap suc e) | inr g ↦ inr (omega arith) ]
 
+-- a sequence with a label at its beginning is not empty
 pub no_label : (l : Label) (s : List Label) → l ∷ s ≡ [] → ⊥
 no_label l s e = cc
 
@@ -97,6 +102,7 @@ record Marked (t : Transition) (p : List Element) (k : ℕ) (e : Element) (old n
   adds : (s : List Label) → After t e (drop (k + 1) p) s → CanContinue p new s
   only : (s : List Label) → CanContinue p new s → CanContinue p old s ⊎ After t e (drop (k + 1) p) s
 
+-- a place that gains the state of a transition has the old continuations and those after the transition, no others
 marked : (t : Transition) (p : List Element) (k : ℕ) (e : Element) (old new : Place) → drop k p ≡ e ∷ drop (k + 1) p → HasTransition t k old new →
     Marked t p k e old new
 marked Advance p k e old new here marks = record {

@@ -22,6 +22,7 @@ some_sequence p (e ∷ es) h =
       All-append (IsObservable p.strong) first.0 rest.0 first.2 rest.2,
     )
 
+-- a pattern whose elements can all occur matches some sequence
 pub some_matched : (p : Pattern) → All (CanOccur p.strong) p.elements → Viable p []
 some_matched p h = let some = some_sequence p p.elements h in (some.0, record { joined = some.1; observable = some.2 })
 
@@ -29,6 +30,7 @@ some_matched p h = let some = some_sequence p p.elements h in (some.0, record { 
 follows : (p : Pattern) (place : Place) (s : List Label) → CanContinue p.elements place s → All (IsObservable p.strong) s → CanFollow p place s
 follows p place s m o = record { state = m.state; has = m.has; matched = record { joined = m.joined; observable = o } }
 
+-- what can follow at a place has a segment for each of the elements left at some state of the place
 leads : (p : Pattern) (place : Place) (s : List Label) → CanFollow p place s → CanContinue p.elements place s
 leads p place s m = record { state = m.state; has = m.has; joined = m.matched.joined }
 

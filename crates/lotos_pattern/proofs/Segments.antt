@@ -54,10 +54,12 @@ module _ (set : LabelSet) (l : Label) where
   unfolding IsTransition
   while_fails none s h = none (All-head (λ v. IsIn v set) l s h)
 
+-- every label has the transition `Reject` at the element `refuses set`
 pub refuses_fails : (set : LabelSet) (l : Label) → IsTransition (refuses set) l Reject
 unfolding IsTransition
 refuses_fails set l s e = cc
 
+-- every label has the transition `Stay` at the element `until_refuses set`
 pub until_refuses_stays : (set : LabelSet) (l : Label) → IsTransition (until_refuses set) l Stay
 unfolding IsTransition
 until_refuses_stays set l s = (λ h. tt, λ h. tt)

@@ -449,15 +449,19 @@ module _ (strong : Bool) (word rest : Text) (is : EqualsIgnoringCase word (60 �
   pub angle_names_none : EndsNoComplement strong word
   angle_names_none = record { labels = λ n. labels_no_angle strong word rest n is; internal = λ n. internal_no_angle word rest n is }
 
+-- `<any>` goes on no element that `<until>` begins
 pub any_ends_none : (strong : Bool) (word : Text) → IsAny word → EndsNoUntil strong word
 any_ends_none strong word is = angle_ends_none strong word _ is refl refl refl (angle_no_future strong word _ is refl refl refl)
 
+-- `<until>` goes on no element that `<until>` begins
 pub until_ends_none : (strong : Bool) (word : Text) → IsUntil word → EndsNoUntil strong word
 until_ends_none strong word is = angle_ends_none strong word _ is refl refl refl (angle_no_future strong word _ is refl refl refl)
 
+-- `<while>` goes on no element that `<until>` begins
 pub while_ends_none : (strong : Bool) (word : Text) → IsWhile word → EndsNoUntil strong word
 while_ends_none strong word is = angle_ends_none strong word _ is refl refl refl (angle_no_future strong word _ is refl refl refl)
 
+-- a word that begins no element goes on none that `<until>` begins
 pub nothing_ends_none : (strong : Bool) (word : Text) → BeginsNoElement strong word → EndsNoUntil strong word
 nothing_ends_none strong word none = record {
   labels = none.labels;
@@ -468,30 +472,38 @@ nothing_ends_none strong word none = record {
   future = none.future;
 }
 
+-- `<until>` begins no set
 pub until_begins_no_set : (strong : Bool) (word : Text) → IsUntil word → BeginsNoSet strong word
 until_begins_no_set strong word is = angle_begins_no_set strong word _ is refl refl
 
+-- `<while>` begins no set
 pub while_begins_no_set : (strong : Bool) (word : Text) → IsWhile word → BeginsNoSet strong word
 while_begins_no_set strong word is = angle_begins_no_set strong word _ is refl refl
 
+-- `<deadlock>` begins no set
 pub deadlock_begins_no_set : (strong : Bool) (word : Text) → IsDeadlock word → BeginsNoSet strong word
 deadlock_begins_no_set strong word is = angle_begins_no_set strong word _ is refl refl
 
+-- `<refuses>` begins no set
 pub refuses_begins_no_set : (strong : Bool) (word : Text) → IsRefuses word → BeginsNoSet strong word
 refuses_begins_no_set strong word is = angle_begins_no_set strong word _ is refl refl
 
+-- a demand on what can come after the end begins no set
 pub future_begins_no_set : (strong : Bool) (word : Text) → IsFuture word → BeginsNoSet strong word
 future_begins_no_set strong word (inl is) = angle_begins_no_set strong word _ is refl refl
 future_begins_no_set strong word (inr (inl is)) = angle_begins_no_set strong word _ is refl refl
 future_begins_no_set strong word (inr (inr is)) = angle_begins_no_set strong word _ is refl refl
 
+-- a demand on what can come after the end ends no set that `<not>` begins
 pub future_names_none : (strong : Bool) (word : Text) → IsFuture word → EndsNoComplement strong word
 future_names_none strong word (inl is) = angle_names_none strong word _ is
 future_names_none strong word (inr (inl is)) = angle_names_none strong word _ is
 future_names_none strong word (inr (inr is)) = angle_names_none strong word _ is
 
+-- a word that begins no element begins no set
 pub nothing_begins_no_set : (strong : Bool) (word : Text) → BeginsNoElement strong word → BeginsNoSet strong word
 nothing_begins_no_set strong word none = record { labels = none.labels; internal = none.internal; complement = none.complement; any = none.any }
 
+-- a word that begins no element ends no set that `<not>` begins
 pub nothing_names_none : (strong : Bool) (word : Text) → BeginsNoElement strong word → EndsNoComplement strong word
 nothing_names_none strong word none = record { labels = none.labels; internal = none.internal }

@@ -19,6 +19,7 @@ letters text = get_or text 1 0 * 256 + get_or text 2 0
 abbrev pub Differ : Text → Text → Type 0
 Differ left right = (letters left == letters right) ≡ false
 
+-- equal numbers do not compare as different
 not_alike : (m n : ℕ) → m ≡ n → (m == n) ≡ false → ⊥
 not_alike m n same differ = grind (arith, nat_tests)
 
@@ -26,9 +27,11 @@ not_alike m n same differ = grind (arith, nat_tests)
 pub apart : (word left right : Text) → EqualsIgnoringCase word left → EqualsIgnoringCase word right → Differ left right → ⊥
 apart word left right h k differ = not_alike (letters left) (letters right) (ap letters (sym h ∙ k)) differ
 
+-- termination is not the internal action
 exit_not_internal : termination ≢ internal
 exit_not_internal e = let long : length termination ≡ length internal = ap length e in absurd (omega arith)
 
+-- a word names one label alone
 pub one_named : (word : Text) (l m : Label) → IsNamed word l → IsNamed word m → l ≡ m
 one_named word _ _ (exits h) (exits k) = refl
 one_named word _ _ (exits h) (inside k) = absurd (exit_not_internal (sym h ∙ k))
@@ -45,9 +48,11 @@ pub other_observable : (strong : Bool) (l : Label) → l ≢ internal → IsObse
 other_observable true l h = tt
 other_observable false l h = h
 
+-- no byte in upper case is `i`
 upper_no_i : (b : ℕ) → to_ascii_uppercase b ≢ 105
 upper_no_i b e = grind (arith, nat_tests)
 
+-- no text in upper case is the internal action
 upper_not_internal : (word : Text) → map to_ascii_uppercase word ≢ internal
 upper_not_internal [] e = cc
 upper_not_internal (b ∷ bs) e = upper_no_i b cc
@@ -74,6 +79,7 @@ word_at [] index other within = absurd (omega arith)
 word_at (w ∷ ws) zero other within = refl
 word_at (w ∷ ws) (suc index) other within = word_at ws index other (omega arith)
 
+-- an index of a word is an index of its text
 pub within_texts : (words : List (Bor Text)) (index : ℕ) → index < length words → index < length (texts_of words)
 within_texts words index within = let h = length-map words (λ word. word.now) in omega arith
 

@@ -13,6 +13,7 @@ pub begins_true : (front text : List ℕ) → starts_with nat_eq text front ≡ 
 begins_true front text h =
     (drop (length front) text, (starts_is {E = nat_eq} Decides-eqb text front (starts_with nat_eq text front) refl).0 h)
 
+-- if the test fails, the front does not begin the text
 pub begins_false : (front text : List ℕ) → starts_with nat_eq text front ≡ false → StartsWith front text → ⊥
 begins_false front text h b =
     both_ways (starts_with nat_eq text front) h
@@ -25,6 +26,7 @@ record Closing (front text : List ℕ) : Type 0 where
   long : length front ≡ at + 2
   located : StartsWith comment_closing (drop at text)
 
+-- a closed comment that begins a text ends with a closing in the text, after the opening
 closing_of : (front rest text : List ℕ) → text ≡ front ++ rest → IsClosedComment front → Closing front text
 closing_of front rest text e c =
     let body = c.0 in
@@ -86,6 +88,7 @@ opened_front text more (suc (suc j)) e h =
     let same : j ≡ suc (suc j) - 2 = omega arith in
     ap (take (suc (suc j))) e ∙ ap (λ m. comment_opening ++ take m more) same
 
+-- the bytes of a text through a closing are those before it and then the closing
 closed_here : (text : List ℕ) (at : ℕ) → at ≤ length text → StartsWith comment_closing (drop at text) → take (at + 2) text ≡ take at text ++ comment_closing
 closed_here text at i c =
     let rest = c.0 in
@@ -95,6 +98,7 @@ closed_here text at i c =
     omega (arith, length-append (take at text) comment_closing, length-take-le at text i) in
     ap (take (at + 2)) whole ∙ take_at (take at text ++ comment_closing) rest (at + 2) long
 
+-- a list of length 0 is empty
 no_bytes : (l : List ℕ) → length l ≡ 0 → l ≡ []
 no_bytes [] h = refl
 no_bytes (b ∷ bs) h = absurd (omega (arith, h))

@@ -27,28 +27,34 @@ four_lists a b c d r =
 
 -- what a definition ends with goes on with nothing, and begins no inner definitions
 
+-- the last keyword of a definition has precedence 0
 closing_rank : (what : DefinitionKind) → kind_precedence (closing_word what) ≡ 0
 closing_rank a_specification = refl
 closing_rank a_process = refl
 
+-- the last keyword of a definition is not `where`
 closing_row : (what : DefinitionKind) → closing_word what ≡ Reserved w.WhereWord → ⊥
 closing_row a_specification e = cc
 closing_row a_process e = cc
 
+-- the last keyword of a definition is not `process`
 closing_one : (what : DefinitionKind) → closing_word what ≡ Reserved w.ProcessWord → ⊥
 closing_one a_specification e = cc
 closing_one a_process e = cc
 
 -- what keeps within a limit as the deeper of two does so as each of them, and the other way round
 
+-- if the greater of two nestings is within the limit, so is the first
 pub within_first : (limit : NestingLimit) (n m : ℕ) → IsNestingWithin limit (max n m) → IsNestingWithin limit n
 within_first None n m h = tt
 within_first (Some limit) n m h = omega (arith, h)
 
+-- if the greater of two nestings is within the limit, so is the second
 pub within_second : (limit : NestingLimit) (n m : ℕ) → IsNestingWithin limit (max n m) → IsNestingWithin limit m
 within_second None n m h = tt
 within_second (Some limit) n m h = omega (arith, h)
 
+-- if two nestings are within the limit, so is the greater of them
 pub within_both : (limit : NestingLimit) (n m : ℕ) → IsNestingWithin limit n → IsNestingWithin limit m → IsNestingWithin limit (max n m)
 within_both None n m h g = tt
 within_both (Some limit) n m h g = omega (arith, h, g)

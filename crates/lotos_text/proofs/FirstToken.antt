@@ -6,9 +6,11 @@ use Rattle.lotos_text.specs.ParserContracts.{DoesNotStartWith, StartsAlike}
 use Rattle.lotos_text.specs.declared.token.Token.{Token}
 use Rattle.lotos_text.specs.declared.token.TokenKind.{TokenKind}
 
+-- equal lists have the same first item
 pub head_same : {A : Type 0} {x y : A} {xs ys : List A} → x ∷ xs ≡ y ∷ ys → x ≡ y
 head_same e = cc
 
+-- equal lists have the same items after the first
 pub tail_same : {A : Type 0} {x y : A} {xs ys : List A} → x ∷ xs ≡ y ∷ ys → xs ≡ ys
 tail_same e = cc
 

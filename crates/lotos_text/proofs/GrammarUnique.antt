@@ -22,6 +22,7 @@ pub record SameSpelling (a b : List Token) (o p : Bool) (n m : ℕ) (x y : Behav
   pub tree : x ≡ y
   pub rest : r ≡ q
 
+-- equal lists have equal rests after equal beginnings
 same_rest : {a b r q : List Token} → a ≡ b → a ++ r ≡ b ++ q → r ≡ q
 same_rest {a} {b} {r} {q} h e = cancel a (e ∙ ap (λ m. m ++ q) (sym h))
   where

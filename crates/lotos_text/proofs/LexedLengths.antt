@@ -15,5 +15,6 @@ cut_length (sign_token sign {text = text} i d) = let h = cut_length d in let g =
 pub byte_inside : (text : List ℕ) (at : ℕ) → FailsAtByte text at → at ≤ length text
 byte_inside text at s = let h = cut_length s.lexes in omega (arith, h)
 
+-- the offset of a comment at which a text fails to lex is at most the length of the text
 pub comment_inside : (text : List ℕ) (at : ℕ) → FailsAtComment text at → at ≤ length text
 comment_inside text at s = let h = cut_length s.lexes in omega (arith, h)

@@ -17,6 +17,7 @@ use Rattle.lotos_text.proofs.Comments.{rest_of, rest_is, comment_some}
 pub remainder : (text : List ℕ) (at : ℕ) (found rest : List ℕ) → drop at text ≡ found ++ rest → drop (at + length found) text ≡ rest
 remainder text at found rest e = sym (drop-drop (length found) at text) ∙ ap (drop (length found)) e ∙ drop-append_seam found rest
 
+-- bytes that a text has at an offset end at its length at most
 pub fits : (text : List ℕ) (at : ℕ) (found rest : List ℕ) → at ≤ length text → drop at text ≡ found ++ rest → at + length found ≤ length text
 fits text at found rest h e = omega (arith, ap length e, length-drop at text, length-append found rest)
 
@@ -35,12 +36,14 @@ cut_blank text at (a_blank b rest e i) =
     let C : List ℕ → List ℕ → Type 0 = λ t r. LexesTo at t [] (at + 1) r in
     subst (λ t. C t (drop (at + 1) text)) (sym e) (subst (λ r. C (b ∷ rest) r) (sym (remainder text at (b ∷ []) rest e)) (blank i nothing))
 
+-- the text from a comment on lexes to no tokens up to the end of the comment
 cut_comment : (text : List ℕ) (at n : ℕ) → IsNextLexeme (drop at text) (Comment n) → LexesTo at (drop at text) [] (at + n) (drop (at + n) text)
 cut_comment text at n (a_comment piece rest e i) =
     let C : List ℕ → List ℕ → Type 0 = λ t r. LexesTo at t [] (at + n) r in
     subst (λ t. C t (drop (at + n) text)) (sym e)
     (subst (λ r. C (piece ++ rest) r) (sym (remainder text at piece rest e)) (comment piece i nothing))
 
+-- the text from a token on lexes to that token up to its end
 cut_token : (text : List ℕ) (at n : ℕ) (kind : TokenKind) → IsNextLexeme (drop at text) (a_token n kind) →
     LexesTo at (drop at text) (token at n kind ∷ []) (at + n) (drop (at + n) text)
 cut_token text at n kind (a_word found rest e i f) =
@@ -56,6 +59,7 @@ word_some : (found : List ℕ) → IsWord found → 0 < length found
 word_some [] i = absurd i
 word_some (b ∷ bs) i = omega arith
 
+-- a sign has a byte at least
 mark_some : (sign : Sign) → 0 < length (sign_text sign)
 mark_some s.Semicolon = omega arith
 mark_some _ = omega arith
@@ -78,6 +82,7 @@ front_some (no_piece b rest e i) = omega (arith, ap length e)
 comment_fits : (text : List ℕ) (at n : ℕ) → at ≤ length text → IsNextLexeme (drop at text) (Comment n) → at + n ≤ length text
 comment_fits text at n h (a_comment piece rest e i) = fits text at piece rest h e
 
+-- a token at an offset of a text ends at the length of the text at most
 token_fits : (text : List ℕ) (at n : ℕ) (kind : TokenKind) → at ≤ length text → IsNextLexeme (drop at text) (a_token n kind) → at + n ≤ length text
 token_fits text at n kind h (a_word found rest e i f) = fits text at found rest h e
 token_fits text at n kind h (a_sign sign rest e i) = fits text at (sign_text sign) rest h e
@@ -104,6 +109,7 @@ reached_blank text at found r f =
       lexes = subst (λ ts. LexesTo 0 text ts (at + 1) (drop (at + 1) text)) (append-nil found) (join r.lexes (cut_blank text at g));
     }
 
+-- a comment at the offset extends the lexing to its end, by no token
 pub reached_comment : (text : List ℕ) (at n : ℕ) (found : List Token) → Reached text at found → IsNextLexeme (rest_of text at) (Comment n) →
     Reached text (at + n) found
 reached_comment text at n found r f =
@@ -113,6 +119,7 @@ reached_comment text at n found r f =
       lexes = subst (λ ts. LexesTo 0 text ts (at + n) (drop (at + n) text)) (append-nil found) (join r.lexes (cut_comment text at n g));
     }
 
+-- a token at the offset extends the lexing to its end, by that token
 pub reached_token : (text : List ℕ) (at n : ℕ) (kind : TokenKind) (found : List Token) → Reached text at found →
     IsNextLexeme (rest_of text at) (a_token n kind) →
     Reached text (at + n) (found ++ token at n kind ∷ [])
@@ -135,6 +142,7 @@ stuck_at_byte text at found r f = here (front_at text at Unknown f)
     here (no_piece b rest e i) =
         record { before = found; byte = b; rest = rest; lexes = subst (λ t. LexesTo 0 text found at t) e r.lexes; no_lexeme = i }
 
+-- if an unclosed comment begins at the offset, the text fails to lex there
 pub stuck_at_comment : (text : List ℕ) (at : ℕ) (found : List Token) → Reached text at found → IsNextLexeme (rest_of text at) Unended →
     FailsAtComment text at
 stuck_at_comment text at found r f = here (front_at text at Unended f)

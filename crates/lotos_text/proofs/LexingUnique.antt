@@ -21,9 +21,11 @@ record Halts (text : List ℕ) : Type 0 where
 nothing_in : {p : Lexeme} → IsNextLexeme [] p → ⊥
 nothing_in f = omega (arith, front_some f)
 
+-- no lexing goes on at the end of a text
 halts_end : Halts []
 halts_end = record { no_blank = nothing_in; no_comment = λ n f. nothing_in f; no_token = λ n kind f. nothing_in f }
 
+-- no lexing goes on at a byte with which no lexeme begins
 halts_unknown : {text : List ℕ} → IsNextLexeme text Unknown → Halts text
 halts_unknown u = record {
   no_blank = λ f. cc (one_front u f);
@@ -31,6 +33,7 @@ halts_unknown u = record {
   no_token = λ n kind f. cc (one_front u f);
 }
 
+-- no lexing goes on at the opening of a comment that is not closed
 halts_unended : {text : List ℕ} → IsNextLexeme text Unended → Halts text
 halts_unended u = record {
   no_blank = λ f. cc (one_front u f);
@@ -145,6 +148,7 @@ record Stuck (text : List ℕ) (at : ℕ) : Type 0 where
   halts : Halts rest
   more : rest ≡ [] → ⊥
 
+-- if a text fails to lex at an offset, it lexes up to it, halts there, and is not at its end
 stuck : {text : List ℕ} {at : ℕ} → LexingFailsAt text at → Stuck text at
 stuck (at_byte s) = record {
   before = s.before;

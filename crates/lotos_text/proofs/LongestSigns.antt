@@ -19,6 +19,7 @@ begins text sign = starts_with nat_eq text (sign_text sign)
 begins_true : (text : List ℕ) (sign : Sign) → begins text sign ≡ true → text ≡ sign_text sign ++ drop (length (sign_text sign)) text
 begins_true text sign = (starts_is {E = nat_eq} Decides-eqb text (sign_text sign) (begins text sign) refl).0
 
+-- a sign that begins the text passes the test
 begins_from : (text : List ℕ) (sign : Sign) → StartsWith (sign_text sign) text → begins text sign ≡ true
 begins_from text sign b = (starts_is {E = nat_eq} Decides-eqb text (sign_text sign) (begins text sign) refl).1 b.0 b.1
 
@@ -139,6 +140,7 @@ pub mark_no_blank : (sign : Sign) (rest : List ℕ) → is_blank (slice_index (s
 mark_no_blank s.Semicolon rest = refl
 mark_no_blank _ rest = refl
 
+-- no sign begins with a letter
 pub mark_no_letter : (sign : Sign) (rest : List ℕ) → is_ascii_alphabetic (slice_index (sign_text sign ++ rest) 0) ≡ false
 mark_no_letter s.Semicolon rest = refl
 mark_no_letter _ rest = refl

@@ -36,10 +36,12 @@ piece_of text =
 piece_blank : (text : List ℕ) → is_blank (slice_index text 0) ≡ true → piece_of text ≡ Blank
 piece_blank text h = cond-true (is_blank (slice_index text 0)) _ _ h
 
+-- at a letter the computed lexeme is the word of all word bytes there
 piece_word : (text : List ℕ) → is_ascii_alphabetic (slice_index text 0) ≡ true → piece_of text ≡ word_piece text (prefix_len is_word_byte text)
 piece_word text h =
     cond-false (is_blank (slice_index text 0)) _ _ (letter_no_blank (slice_index text 0) h) ∙ cond-true (is_ascii_alphabetic (slice_index text 0)) _ _ h
 
+-- at a byte that is no blank and no letter the computed lexeme is the longest sign there, if one begins there
 piece_mark : (text : List ℕ) → is_blank (slice_index text 0) ≡ false → is_ascii_alphabetic (slice_index text 0) ≡ false →
     piece_of text ≡ mark_piece (longest_sign text)
 piece_mark text h k = cond-false (is_blank (slice_index text 0)) _ _ h ∙ cond-false (is_ascii_alphabetic (slice_index text 0)) _ _ k
@@ -97,6 +99,7 @@ front_opened o (a_sign sign rest e i) = absurd (i.no_comment (o.0, sym e ∙ o.1
 front_opened o (no_end u) = unclosed u
 front_opened o (no_piece b rest e i) = absurd (i.no_sign s.LeftParenthesis (42 ∷ o.0, sym e ∙ o.1))
 
+-- a text with an opening at its front begins with one such lexeme only
 one_opened : {text : List ℕ} {p q : Lexeme} → Opened text p → Opened text q → p ≡ q
 one_opened {text} (closed a r e i) (closed b q f j) = ap Comment (one_comment a r b q text e f i j)
 one_opened (closed a r e i) (unclosed u) = absurd (u.never a (r, e) i.closed)
@@ -115,6 +118,7 @@ pub blank_front : (text : List ℕ) → is_blank (slice_index text 0) ≡ true �
 blank_front [] h = absurd (cc)
 blank_front (b ∷ bs) h = a_blank b bs refl h
 
+-- a text that begins with a letter starts with the word of all word bytes there
 pub word_front : (text : List ℕ) → is_ascii_alphabetic (slice_index text 0) ≡ true → IsNextLexeme text (word_piece text (prefix_len is_word_byte text))
 word_front text h =
     let n = prefix_len is_word_byte text in
@@ -132,10 +136,12 @@ comment_front text n i h =
 pub open_front : (text : List ℕ) → IsUnclosedComment text → IsNextLexeme text Unended
 open_front text u = no_end u
 
+-- a text that begins with no comment opening starts with the longest sign there, if one is found
 pub mark_front : (text : List ℕ) (sign : Sign) → starts_with nat_eq text comment_opening ≡ false → longest_sign text ≡ Some sign →
     IsNextLexeme text (a_token (length (sign_text sign)) (of_sign sign))
 mark_front text sign o e = let found = mark_found text sign (begins_false comment_opening text o) e in a_sign sign found.0 found.1 found.2
 
+-- if a text begins with a byte that is no blank and no letter, and no sign is found, no lexeme begins there
 pub unknown_front : (text : List ℕ) → 0 < length text → is_blank (slice_index text 0) ≡ false → is_ascii_alphabetic (slice_index text 0) ≡ false →
     longest_sign text ≡ None → IsNextLexeme text Unknown
 unknown_front [] h i k e = absurd (omega arith)

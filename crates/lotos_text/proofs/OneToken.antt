@@ -20,6 +20,7 @@ same_token a b r q n m i j e = sym (ap (λ l. l ++ r) i) ∙ e ∙ ap (λ l. l +
 its_first : (own ts remainder : List Token) (n : Token) → ts ≡ own ++ remainder → own ≡ n ∷ [] → ts ≡ n ∷ remainder
 its_first own ts remainder n e i = e ∙ ap (λ l. l ++ remainder) i
 
+-- a list that begins with a token of the kind parses as that token
 pub found_one : (k : TokenKind) (ts rest : List Token) (n : Token) → ts ≡ n ∷ rest → IsOfKind n k → Parses (OneToken k) ts n rest
 found_one k ts rest n e i = record { front = n ∷ []; joined = e; whole = record { joined = refl; is = i } }
 
@@ -55,6 +56,7 @@ firm_declared a b r more q x y p st o e =
       rest = tail_same h;
     }
 
+-- a list that begins with a token of a functionality parses as that functionality
 pub found_declared : (ts rest : List Token) (n : Token) (x : Functionality) → ts ≡ n ∷ rest → IsFunctionality n x →
     Parses OneFunctionality ts x rest
 found_declared ts rest n x e d = record { front = n ∷ []; joined = e; whole = record { token = n; joined = refl; declares = d } }
@@ -78,6 +80,7 @@ lost_declared ts rest h l = record {
     neither (exits i) h g e = h i e
     neither (never_exits i) h g e = g i
 
+-- the empty list parses as the end of the input
 pub found_nothing : Parses EndOfInput [] tt []
 found_nothing = record { front = []; joined = refl; whole = record { empty = refl; last = refl } }
 

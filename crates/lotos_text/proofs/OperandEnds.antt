@@ -25,6 +25,7 @@ pub record Ended (own : List Token) (said : Unit {0}) (remainder : List Token) :
   pub empty : own ≡ []
   pub quits : precedence remainder < 5
 
+-- if the next token has precedence 5, the end of the operand fails there
 lost_ended : (ts : List Token) → precedence ts ≡ 5 → Fails Ended ts ts
 lost_ended ts h = record {
   front = [];

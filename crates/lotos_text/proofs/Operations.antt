@@ -51,6 +51,7 @@ mark_opens n i.Full e = opens_is (is_mark n i.Full e) refl
 mark_opens n i.Sync e = opens_is (is_mark n i.Sync e) refl
 mark_opens n i.Choice e = opens_is (is_mark n i.Choice e) refl
 
+-- a list that begins with an operator's sign has the precedence of its level's operators
 mark_rank : (n : Token) (m : Infix) (ts : List Token) → infix_of n.kind ≡ Some m → precedence (n ∷ ts) ≡ level_precedence (infix_level m)
 mark_rank n i.Enable ts e = rank_is ts (is_mark n i.Enable e)
 mark_rank n i.Disable ts e = rank_is ts (is_mark n i.Disable e)
@@ -77,6 +78,7 @@ shut prefixing m true ts e h = absurd (omega (arith, e, h))
 left_within : (limit : NestingLimit) (nl nr : ℕ) → IsNestingWithin limit (max nl (nr + 1)) → IsNestingWithin limit nl
 left_within limit nl nr h = within_less limit nl (max nl (nr + 1)) (omega arith) h
 
+-- if an operation is nested within the limit, its right operand is within the limit inside
 right_within : (limit : NestingLimit) (nl nr : ℕ) → IsNestingWithin limit (max nl (nr + 1)) → IsNestingWithin (inside limit) nr
 right_within limit nl nr h = within_inside limit nr (nr + 1) refl (within_less limit (nr + 1) (max nl (nr + 1)) (omega arith) h)
 

@@ -9,17 +9,20 @@ use Rattle.lotos_text.specs.declared.parse_primitives.ParseError.{ParseError}
 use Rattle.lotos_text.specs.declared.parse_primitives.ParseError.TheVariants.{Unexpected, TooDeep, Memory}
 use Rattle.lotos_text.specs.declared.token.Token.{Token}
 
+-- if a whole fails at each token at which a part does, it fails with each error of the part, memory included
 stopped : {A B : Type 0} (P : Phrase A) (Q : Phrase B) (ts us : List Token) →
     ((rest : List Token) → Fails P ts rest → Fails Q us rest) → (e : ParseError) → FailsAtAnyNesting P ts e → FailsAtAnyNesting Q us e
 stopped P Q ts us to (Unexpected rest) l = to rest.now l
 stopped P Q ts us to (TooDeep token) l = l
 stopped P Q ts us to (Memory e) l = tt
 
+-- a phrase that fails at an unexpected token, its only error, also fails so if memory may run out
 missed_lost : {A : Type 0} (P : Phrase A) (ts : List Token) (e : ParseError) → FailsAtToken P ts e → FailsAtAnyNesting P ts e
 missed_lost P ts (Unexpected rest) l = l
 missed_lost P ts (TooDeep token) l = absurd l
 missed_lost P ts (Memory e) l = tt
 
+-- if a whole fails at each token at which a part does, an unexpected token of the part is one of the whole
 missed : {A B : Type 0} (P : Phrase A) (Q : Phrase B) (ts us : List Token) → ((rest : List Token) → Fails P ts rest → Fails Q us rest) →
     (e : ParseError) → FailsAtToken P ts e → FailsAtToken Q us e
 missed P Q ts us to (Unexpected rest) l = to rest.now l
@@ -55,6 +58,7 @@ still_missed P Q ts us to r e h l =
 
 -- ---- parts with a limit of nesting
 
+-- two joined lists have as many tokens that open a construct as both lists together
 openings_append : (front back : List Token) → count_openings (front ++ back) ≡ count_openings front + count_openings back
 openings_append front back = sum_by-append (λ t. cond (opens_construct t.kind) 1 0) front back
 
@@ -102,6 +106,7 @@ deeper_on P Q inner nesting_left ts us c token l = record {
   opens = l.opens;
 }
 
+-- an error of a part with a limit is one of the whole with its limit
 carried : {A B : Type 0} (P : NestingLimit → Phrase A) (Q : NestingLimit → Phrase B) (inner nesting_left : ℕ) (ts us : List Token) →
     Carries P inner ts Q nesting_left us → (e : ParseError) → FailsWithin P inner ts e → FailsWithin Q nesting_left us e
 carried P Q inner nesting_left ts us c (Unexpected rest) l = c.free rest.now l

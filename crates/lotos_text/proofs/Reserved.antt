@@ -33,6 +33,7 @@ pub record Left (rows : List Row) (found : List ℕ) : Type 0 where
 abbrev pub Alike : List ℕ → List ℕ → Type 0
 Alike a b = map to_ascii_lowercase a ≡ map to_ascii_lowercase b
 
+-- the test fails for a spelling in lower case and a word that is not alike
 is_not : (word found : List ℕ) → bytes_eq (map to_ascii_lowercase word) word ≡ true → (Alike found word → ⊥) → equals_ignoring_case word found ≡ false
 is_not word found h k =
     let lower = (bytes_eq-Decides (map to_ascii_lowercase word) word).0 h in
@@ -45,6 +46,7 @@ first_out row rows found h left =
     let other = cond-false (equals_ignoring_case row.0.now found) (Reserved row.1) (kind_by rows found) (is_not row.0.now found parts.0 h) in
     record { decides = sym other ∙ left.decides; lower = parts.1 }
 
+-- what holds of the entries from an index on holds of the entry there and those after it
 first_left : (rows : List Row) (i : ℕ) (row : Row) (found : List ℕ) → i < length rows → Left (drop i rows) found →
     Left (get_or rows i row ∷ drop (suc i) rows) found
 first_left rows i row found lt left = subst (λ r. Left r found) (drop-cons rows i row lt) left

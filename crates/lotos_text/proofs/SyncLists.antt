@@ -30,6 +30,7 @@ abbrev Means : TokenKind → Option Infix → Type 0
 Means k None = Unit {0}
 Means k (Some m) = k ≡ Sign (sign_of m)
 
+-- the operator that begins with a sign, if one does, has that sign
 means_sign : (x : SignKind) → Means (Sign x) (infix_of (Sign x))
 means_sign s.Enable = refl
 means_sign s.Disable = refl
@@ -39,6 +40,7 @@ means_sign s.LeftSync = refl
 means_sign s.Choice = refl
 means_sign _ = tt
 
+-- the operator that begins with a token of a kind, if one does, has a sign of that kind
 means : (k : TokenKind) → Means k (infix_of k)
 means Identifier = tt
 means (Reserved _) = tt

@@ -17,15 +17,19 @@ AreWordBytes bs = AllByRecursion (λ c. IsTrue (is_word_byte c)) bs
 letter_in_word : (b : ℕ) → is_ascii_alphabetic b ≡ true → is_word_byte b ≡ true
 letter_in_word b h = grind (arith, nat_tests)
 
+-- a letter is no blank
 pub letter_no_blank : (b : ℕ) → is_ascii_alphabetic b ≡ true → is_blank b ≡ false
 letter_no_blank b h = grind (arith, nat_tests)
 
+-- a byte of words is below 128
 word_byte_ascii : (b : ℕ) → is_word_byte b ≡ true → b < 128
 word_byte_ascii b h = grind (arith, nat_tests)
 
+-- a letter in upper case is a letter A to Z
 letter_raised : (b : ℕ) → is_ascii_alphabetic b ≡ true → is_ascii_uppercase (to_ascii_uppercase b) ≡ true
 letter_raised b h = grind (arith, nat_tests)
 
+-- a byte of words in upper case is a byte of names
 word_byte_raised : (b : ℕ) → is_word_byte b ≡ true → is_name_byte (to_ascii_uppercase b) ≡ true
 word_byte_raised b h = grind (arith, nat_tests)
 
@@ -34,10 +38,12 @@ bytes_ascii : (bs : List ℕ) → AreWordBytes bs → IsAscii bs
 bytes_ascii [] h = IsAscii-nil
 bytes_ascii (b ∷ bs) h = IsAscii-cons b bs (word_byte_ascii b h.0) (bytes_ascii bs h.1)
 
+-- the bytes of a word are ASCII
 pub word_ascii : (word : List ℕ) → IsWord word → IsAscii word
 word_ascii [] h = absurd h
 word_ascii (b ∷ bs) h = IsAscii-cons b bs (word_byte_ascii b (letter_in_word b h.0)) (bytes_ascii bs h.1)
 
+-- bytes of words in upper case are bytes of names
 bytes_raised : (bs : List ℕ) → AreWordBytes bs → AllByRecursion (λ c. IsTrue (is_name_byte c)) (map to_ascii_uppercase bs)
 bytes_raised [] h = tt
 bytes_raised (b ∷ bs) h = (word_byte_raised b h.0, bytes_raised bs h.1)

@@ -113,6 +113,7 @@ pub word_rejects : (request : AfterRequest) (left : Option (List ℕ)) (f : Word
 word_rejects request left (word.NoLabel n) cause none = record { kept = Keeps-refl left; cause = cause; never = none }
 word_rejects request left (word.Internal n) cause none = record { kept = Keeps-refl left; cause = cause; never = none }
 
+-- the rejection for a word of a sequence is no failure of the reader
 pub word_was_read : (T : Type 0) (f : WordFault) → is_input_failure {T = T} (Err (word_rejection f)) ≡ false
 word_was_read T (word.NoLabel n) = refl
 word_was_read T (word.Internal n) = refl

@@ -72,6 +72,7 @@ process_count processes shown e = sym (length-map processes process_of) ∙ ap l
 
 -- ---- input that is rejected
 
+-- a check whose input is rejected, with nothing written, ends with that rejection
 pub rejection_ended : (left left' got got' : Option (List ℕ)) (cause : Rejection) → IsRejectionBy IsInputRefusal left left' cause → Keeps got got' →
     CheckOutcome left left' got got' (end_of cause)
 rejection_ended left left' got got' (rejection.Refused cause) h kept = (h, kept)

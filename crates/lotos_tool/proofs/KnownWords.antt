@@ -17,12 +17,15 @@ use Rattle.lotos_terms.specs.TableView.{IsTableOf, TableView}
 use Rattle.lotos_after.specs.LabelWords.{HaveGates}
 use Rattle.lotos_tool.specs.UnknownGates.{HasNoUnknownGate}
 
+-- no letter is a comma
 letter_no_comma : (b : ℕ) → IsTrue (is_ascii_alphabetic b) → (b == 44) ≡ false
 letter_no_comma b letter = grind (arith, nat_tests)
 
+-- no letter, digit or underscore is a comma
 byte_no_comma : (b : ℕ) → IsTrue (is_word_byte b) → (b == 44) ≡ false
 byte_no_comma b byte = grind (arith, nat_tests)
 
+-- if each byte of a text is a letter, a digit or an underscore, none is a comma
 no_comma : (bs : Text) → AllByRecursion (λ c. IsTrue (is_word_byte c)) bs → All (λ c. (c == 44) ≡ false) bs
 no_comma [] h = All-nil (λ c. (c == 44) ≡ false)
 no_comma (b ∷ bs) h = All-cons (λ c. (c == 44) ≡ false) b bs (byte_no_comma b h.0) (no_comma bs h.1)

@@ -57,6 +57,7 @@ still_read {T = T} (Err v) u same h = subst (λ w. is_input_failure {T = T} (Err
 
 -- ---- from a text to the bytes that a reader had left
 
+-- if all that the reader had left is the text, a rejection of the text is one of the input
 pub unread : (left left' : Option (List ℕ)) (text : List ℕ) (u : Rejection) → ReadsAll left left' max_text_length text → IsRejection text u →
     IsRejectionBy IsInputRefusal left left' u
 unread left left' text Memory r h = (text, (let w = r.within in omega arith), r.bytes)
@@ -116,6 +117,7 @@ pattern_rejected_for strong words (pattern.E51 n) cause none =
     no_pattern (pattern.E51 n) (λ left. record { kept = Keeps-refl left; cause = cause; no_memory = refl; never = none })
 pattern_rejected_for strong words (pattern.E99 e) cause none = pattern_memory
 
+-- the rejection of the words of a pattern is no failure of the reader
 pub pattern_was_read : (T : Type 0) (strong : Bool) (words : List (List ℕ)) (u : Rejection) → IsPatternRejection strong words u →
     is_input_failure {T = T} (Err u) ≡ false
 pattern_was_read T strong words _ (no_pattern fault h) = refl
@@ -130,11 +132,13 @@ pattern_means Means strong words left _ means pattern_memory = nothing_taken lef
 
 -- ---- the line of a mark
 
+-- the rejection for a fault of a line is a rejection of the line as a mark
 pub mark_rejected_for : (strong : Bool) (line : String Global) (fault : MarkFault) → IsMarkFault strong (string_bytes line) fault →
     IsMarkRejection strong (Some line) (mark_rejection fault)
 mark_rejected_for strong line mark_fault.E46 h = no_mark line h
 mark_rejected_for strong line (mark_fault.E99 e) h = mark_memory line
 
+-- the rejection of the line of a mark is no failure of the reader
 pub mark_was_read : (T : Type 0) (strong : Bool) (line : Option (String Global)) (u : Rejection) → IsMarkRejection strong line u →
     is_input_failure {T = T} (Err u) ≡ false
 mark_was_read T strong _ _ (no_mark line h) = refl
@@ -150,6 +154,7 @@ mark_means Means strong _ left _ means (mark_memory line) = nothing_taken left
 
 -- ---- the gates that words name
 
+-- the rejection of words for the gates that they name is no failure of the reader
 pub gate_was_read : (T : Type 0) (gates : List Name) (words : List (List ℕ)) (u : Rejection) → IsGateRejection gates words u →
     is_input_failure {T = T} (Err u) ≡ false
 gate_was_read T gates words _ (no_gate n h) = refl
@@ -213,6 +218,7 @@ pub list_asked : (interface : Interface) (text : List ℕ) (own : System) (u : R
 list_asked interface text own _ accepted (no_list given h) = record { own = own; accepted = accepted; no_gate = h }
 list_asked interface text own _ accepted list_memory = tt
 
+-- if all that the reader had left is the text, a rejection of it and an interface is one of the input and the interface
 pub asked_unread : (interface : Interface) (left left' : Option (List ℕ)) (text : List ℕ) (u : Rejection) → ReadsAll left left' max_text_length text →
     IsAskedRejection interface text u → IsRejectionBy (IsInterfaceRefusal interface) left left' u
 asked_unread interface left left' text Memory r h = unread left left' text Memory r h

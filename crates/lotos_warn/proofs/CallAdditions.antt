@@ -8,34 +8,43 @@ use Rattle.lotos_check.proofs.ListIndices.{one_item}
 use Rattle.lotos_warn.specs.Additions.{Adds, ContainsCallOf, IsCalledByAny, IsCalledByNumber}
 use Rattle.lotos_warn.proofs.Additions.{adds_as, adds_both, adds_nothing}
 
+-- `stop` contains no call
 from_stop : (k : ℕ) → ContainsCallOf stop k → ⊥
 from_stop k (gs, h) = elim h [ ]
 
+-- `exit` contains no call
 from_exit : (k : ℕ) → ContainsCallOf exit k → ⊥
 from_exit k (gs, h) = elim h [ ]
 
+-- a call in a prefix is one in the behaviour after its action
 prefix_part : {a : Option Name} {b : Flat} {k : ℕ} {gs : List Name} → ContainsCall (prefix a b) k gs → ContainsCall b k gs
 prefix_part (under_prefix h) = h
 
+-- a call in a hiding is one in the behaviour inside it
 hide_part : {hidden : List Name} {b : Flat} {k : ℕ} {gs : List Name} → ContainsCall (hide hidden b) k gs → ContainsCall b k gs
 hide_part (under_hide h) = h
 
+-- a call in a choice is one in its left or its right side
 choice_parts : {l r : Flat} {k : ℕ} {gs : List Name} → ContainsCall (choice l r) k gs → ContainsCall l k gs ⊎ ContainsCall r k gs
 choice_parts (left_choice h) = inl h
 choice_parts (right_choice h) = inr h
 
+-- a call in a parallel composition is one in its left or its right side
 par_parts : {l r : Flat} {s : Option (List Name)} {k : ℕ} {gs : List Name} → ContainsCall (par l s r) k gs → ContainsCall l k gs ⊎ ContainsCall r k gs
 par_parts (left_par h) = inl h
 par_parts (right_par h) = inr h
 
+-- a call in a `>>` is one in its left or its right side
 enable_parts : {l r : Flat} {k : ℕ} {gs : List Name} → ContainsCall (enable l r) k gs → ContainsCall l k gs ⊎ ContainsCall r k gs
 enable_parts (left_enable h) = inl h
 enable_parts (right_enable h) = inr h
 
+-- a call in a `[>` is one in its left or its right side
 disable_parts : {l r : Flat} {k : ℕ} {gs : List Name} → ContainsCall (disable l r) k gs → ContainsCall l k gs ⊎ ContainsCall r k gs
 disable_parts (left_disable h) = inl h
 disable_parts (right_disable h) = inr h
 
+-- a call contains a call of no process but its own
 called_number : {j k : ℕ} {gs names : List Name} → ContainsCall (call j gs) k names → j ≡ k
 called_number itself = refl
 
@@ -48,16 +57,20 @@ both_parts whole l r k down left right = (
   (λ c. elim (down c.0 c.1) [ inl i ↦ inl (c.0, i) | inr i ↦ inr (c.0, i) ]),
 )
 
+-- `stop` adds no process to those that are called
 pub calls_stop : (ks : List ℕ) → Adds ks ks (ContainsCallOf stop)
 calls_stop ks = adds_nothing ks (ContainsCallOf stop) from_stop
 
+-- `exit` adds no process to those that are called
 pub calls_exit : (ks : List ℕ) → Adds ks ks (ContainsCallOf exit)
 calls_exit ks = adds_nothing ks (ContainsCallOf exit) from_exit
 
+-- a prefix adds the processes that the behaviour after its action calls
 pub calls_prefix : (old new : List ℕ) (a : Option Name) (b : Flat) → Adds old new (ContainsCallOf b) → Adds old new (ContainsCallOf (prefix a b))
 calls_prefix old new a b = adds_as old new (ContainsCallOf b) (ContainsCallOf (prefix a b))
     (λ k. ((λ c. (c.0, under_prefix c.1)), (λ c. (c.0, prefix_part c.1))))
 
+-- a hiding adds the processes that the behaviour inside it calls
 pub calls_hide : (old new : List ℕ) (hidden : List Name) (b : Flat) → Adds old new (ContainsCallOf b) → Adds old new (ContainsCallOf (hide hidden b))
 calls_hide old new hidden b = adds_as old new (ContainsCallOf b) (ContainsCallOf (hide hidden b))
     (λ k. ((λ c. (c.0, under_hide c.1)), (λ c. (c.0, hide_part c.1))))
@@ -82,9 +95,11 @@ module _ (old mid new : List ℕ) (l r : Flat) (first : Adds old mid (ContainsCa
   calls_disable = adds_as old new (λ k. ContainsCallOf l k ⊎ ContainsCallOf r k) (ContainsCallOf (disable l r))
       (λ k. both_parts (disable l r) l r k (λ gs h. disable_parts h) (λ gs h. left_disable h) (λ gs h. right_disable h)) both
 
+-- a call of a process contains a call of that process
 call_of : (j k : ℕ) (gs : List Name) → j ≡ k → ContainsCallOf (call j gs) k
 call_of j k gs e = subst (ContainsCallOf (call j gs)) e (gs, itself)
 
+-- a call adds its process and no other
 pub calls_call : (old new : List ℕ) (j : ℕ) (gs : List Name) → Adds old new (λ k. j ≡ k) → Adds old new (ContainsCallOf (call j gs))
 calls_call old new j gs = adds_as old new (λ k. j ≡ k) (ContainsCallOf (call j gs))
     (λ k. (call_of j k gs, (λ c. called_number c.1)))

@@ -17,10 +17,12 @@ use Rattle.lotos_check.proofs.ScopedDefinitions.{visible_distinct}
 use Rattle.lotos_warn.specs.Warnings.{IsCalled, IsCalledIn, IsReached, at_once, later, scoped_whole}
 use Rattle.lotos_warn.specs.Additions.{ContainsCallOf, IsCalledByAny, IsCalledByBody, IsReachedIn, by_start, by_process}
 
+-- each process that a body of the system calls is called in the system's behaviour or by one of its processes
 body_called : (system : System) (k : ℕ) (b : Flat) → IsBodyOf system b → ContainsCallOf b k → ContainsCallOf system.start k ⊎ IsCalledByAny system.processes k
 body_called system k b of_whole c = inl c
 body_called system k b (of_process p process e) c = inr (process, get_in system.processes p process e, c)
 
+-- each process that one of the system's processes calls is called by a body of the system
 any_called : (system : System) (k : ℕ) → IsCalledByAny system.processes k → IsCalledByBody system k
 any_called system k (process, i, c) =
     let p = in_get system.processes process i in
@@ -70,6 +72,7 @@ number_called scope one start b c there callee actuals k d (of_disable x y) (in_
 number_called scope one start b c there callee actuals k d of_stop i h = elim i [ ]
 number_called scope one start b c there callee actuals k d of_exit i h = elim i [ ]
 
+-- if definitions and processes are paired, each definition has its process among them
 process_at : (vs : List ScopedDefinition) (ps : List FlatProcess) → Pairwise IsProcess vs ps → (v : ScopedDefinition) → In v vs →
     (p : FlatProcess) × In p ps × IsProcess v p
 process_at vs ps pairs v i =

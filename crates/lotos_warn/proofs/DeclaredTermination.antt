@@ -38,19 +38,24 @@ functionality_of scope b c (r.of_disable x y) =
     let (g, has) = functionality_of scope _ _ x in let (h, more) = functionality_of scope _ _ y in (either g h, f.of_disable has more)
 functionality_of scope b c (r.of_call {d = d} m) = (declared_of d, f.of_call m)
 
+-- `either` of a functionality and exit is exit
 right_exits : (g : Functionality) → either g Exit ≡ Exit
 right_exits Exit = refl
 right_exits NoExit = refl
 
+-- `either` of two functionalities is exit if the left one is
 left_side : (g h : Functionality) → g ≡ Exit → either g h ≡ Exit
 left_side g h e = ap (λ z. either z h) e
 
+-- `either` of two functionalities is exit if the right one is
 right_side : (g h : Functionality) → h ≡ Exit → either g h ≡ Exit
 right_side g h e = ap (either g) e ∙ right_exits g
 
+-- `both` of two functionalities is exit if each of them is
 both_sides : (g h : Functionality) → g ≡ Exit → h ≡ Exit → both g h ≡ Exit
 both_sides g h e k = ap (λ z. both z h) e ∙ k
 
+-- a functionality that does not differ from exit is exit
 exit_unless : (g : Functionality) → (Exit ≢ g → ⊥) → g ≡ Exit
 exit_unless Exit no_other = refl
 exit_unless NoExit no_other = absurd (no_other (λ e. cc))

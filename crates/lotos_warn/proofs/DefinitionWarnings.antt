@@ -29,6 +29,7 @@ unused_split used name g gs (UnusedGate gate d) = (
   ]),
 )
 
+-- there is no warning about an unused gate of an empty list
 pub unused_none : (used : List Name) (name : Name) (w : Warning) → IsUnusedAmong used name [] w → ⊥
 unused_none used name (UncalledProcess p) h = h
 unused_none used name (UnreachedProcess p) h = h
@@ -160,6 +161,7 @@ endless_whole exits d declared none (DeadStart p) = ((λ e. cc), (λ h. absurd h
 endless_whole exits d declared none (UnusedGate gate name) = ((λ e. cc), (λ h. absurd h))
 endless_whole exits d declared none (UnofferedGate gate side) = ((λ e. cc), (λ h. absurd h))
 
+-- no warning says that a specification never terminates if it is declared noexit, or if its behaviour exits
 pub endless_whole_never : (exits : Bool) (d : DefinitionView) → (declared_of d ≡ NoExit) ⊎ (exits ≡ true) → (w : Warning) → IsEndlessWhole exits d w → ⊥
 endless_whole_never exits d other (UncalledProcess p) h = h
 endless_whole_never exits d other (UnreachedProcess p) h = h

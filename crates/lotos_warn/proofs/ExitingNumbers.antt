@@ -14,22 +14,27 @@ use Rattle.lotos_warn.specs.Termination.{MayExit, of_exit, of_prefix, of_choice_
 use Rattle.lotos_warn.specs.Additions.{AddsExiting, AreExiting, IsClosedBelow}
 use Rattle.lotos_warn.proofs.NameTests.{number_found, number_missing}
 
+-- a disjunction is true only if one of its parts is
 pub one_true : (a b : Bool) → (a || b) ≡ true → (a ≡ true) ⊎ (b ≡ true)
 one_true true b e = inl refl
 one_true false b e = inr e
 
+-- a conjunction is true only if both parts are
 pub both_true : (a b : Bool) → (a && b) ≡ true → (a ≡ true) × (b ≡ true)
 both_true true b e = (refl, e)
 both_true false b e = cc
 
+-- a disjunction is true if its first part is
 pub first_true : (a b : Bool) → a ≡ true → (a || b) ≡ true
 first_true true b e = refl
 first_true false b e = cc
 
+-- a disjunction is true if its second part is
 pub second_true : (a b : Bool) → b ≡ true → (a || b) ≡ true
 second_true true b e = refl
 second_true false b e = e
 
+-- a conjunction is true if both parts are
 pub all_true : (a b : Bool) → a ≡ true → b ≡ true → (a && b) ≡ true
 all_true true b e f = f
 all_true false b e f = cc
@@ -102,6 +107,7 @@ pub record IsRound (processes : List FlatProcess) (old now : List ℕ) (number :
   pub longer : length old ≤ length now
   pub closed : length now ≡ length old → IsClosedBelow processes now number
 
+-- at the start of a round nothing is added, and no process is passed
 pub round_start : (processes : List FlatProcess) (old : List ℕ) → IsRound processes old old 0
 round_start processes old = record { sound = λ h. h; longer = omega arith; closed = λ e k process below at x. absurd (omega arith) }
 
@@ -116,6 +122,8 @@ sound_next processes old now next number process at sound (inr (grown, exits)) h
       (record { process = process; located = at; exits = exits_soundly processes now (sound h) process.body exits })
 ]
 
+-- a round up to a process is one up to the next number, if the process is added when its body may terminate by the
+-- numbers there
 pub round_next : (processes : List FlatProcess) (old now next : List ℕ) (number : ℕ) (process : FlatProcess) → slice_get processes number ≡ Some process →
     IsRound processes old now number → AddsExiting number process.body now next → IsRound processes old next (number + 1)
 round_next processes old now next number process at before (inl (same, last)) = record {
@@ -164,5 +172,6 @@ whole_exits processes numbers all b exits e = (
     closed_by processes numbers all k process at x =
         (all k).1 (record { process = process; located = at; exits = exits_soundly processes numbers (λ j i. (all j).0 i) process.body x })
 
+-- equivalence is transitive
 pub both_ways : {P Q R : Type 0} → P ↔ Q → Q ↔ R → P ↔ R
 both_ways h k = ((λ p. k.0 (h.0 p)), (λ r. h.1 (k.1 r)))

@@ -23,26 +23,33 @@ pub data IsLabelOf (names : List Name) : First → Label → Type 0 where
   moves : IsLabelOf names internal l.Internal
   acts : {m : Name} {g : ℕ} → IsNumberOf names m g → IsLabelOf names (action m) (l.Gate g)
 
+-- a relabelling leaves termination as it is
 exit_relabels : {m : List (ℕ × ℕ)} {j : Label} → Relabels m l.Exit j → j ≡ l.Exit
 exit_relabels s.exit_stays = refl
 
+-- a relabelling leaves the internal action as it is
 internal_relabels : {m : List (ℕ × ℕ)} {j : Label} → Relabels m l.Internal j → j ≡ l.Internal
 internal_relabels s.internal_stays = refl
 
+-- the empty relabelling leaves a gate as it is
 none_relabels : {g : ℕ} {j : Label} → Relabels [] (l.Gate g) j → j ≡ l.Gate g
 none_relabels s.stays = refl
 
+-- a gate is relabelled by the first pair of a relabelling if that pair is its own, and otherwise by the other pairs
 first_relabels : {m : List (ℕ × ℕ)} {x h g : ℕ} {j : Label} → Relabels ((x, h) ∷ m) (l.Gate g) j →
     ((x ≡ g) × (j ≡ l.Gate h)) ⊎ ((x ≢ g) × Relabels m (l.Gate g) j)
 first_relabels s.first = inl (refl, refl)
 first_relabels (s.later apart r) = inr (apart, r)
 
+-- termination becomes nothing but termination
 termination_becomes : {pairs : List (Name × Name)} {y : First} → Becomes pairs termination y → y ≡ termination
 termination_becomes c.termination_stays = refl
 
+-- the internal action becomes nothing but the internal action
 internal_becomes : {pairs : List (Name × Name)} {y : First} → Becomes pairs internal y → y ≡ internal
 internal_becomes c.internal_stays = refl
 
+-- an action of a gate becomes nothing but an action of a gate
 action_becomes : {pairs : List (Name × Name)} {g : Name} {y : First} → Becomes pairs (action g) y → (h : Name) × (y ≡ action h)
 action_becomes (c.stays {g = g}) = (g, refl)
 action_becomes (c.at_first {h = h}) = (h, refl)

@@ -114,11 +114,13 @@ module _ (has : BehaviourView → Placed → Type 0) (listed : SyncView → Name
   pub free_by_form : (b : BehaviourView) (n : Name) → HasFree has b n ↔ HasIn listed b n
   free_by_form b n = (to_form b n, λ h. free_of b n (from_form [] b n (λ i. i) h))
 
+-- a gate that a behaviour itself uses is free in it by its form
 used_own : (b : BehaviourView) (g : Placed) → UsesGate b g → HasIn IsListed b g.name
 used_own b g parts.acts = inl refl
 used_own b g (parts.synchronizes {gs = gs} i) = inr (inl (in_map (λ (g : Placed). g.name) g gs i))
 used_own b g (parts.passes {gs = gs} i) = in_map (λ (g : Placed). g.name) g gs i
 
+-- a parallel composition uses a gate of each name in its list
 used_lists : (l : BehaviourView) (s : SyncView) (r : BehaviourView) (n : Name) → IsListed s n → (g : Placed) × UsesGate (par l s r) g × (g.name ≡ n)
 used_lists l (gates gs) r n h = let g = in_map_from (λ (g : Placed). g.name) n gs h in (g.0, parts.synchronizes g.1, g.2)
 used_lists l all r n h = absurd h
@@ -131,6 +133,7 @@ used_by_form = free_by_form UsesGate IsListed used_own (λ g b. parts.acts) (λ 
 abbrev pub IsNone : SyncView → Name → Type 0
 IsNone s n = ⊥
 
+-- a gate that a behaviour itself offers is free in it by its form, without the gates of lists
 offered_own : (b : BehaviourView) (g : Placed) → OffersGate b g → HasIn IsNone b g.name
 offered_own b g own.acts = inl refl
 offered_own b g (own.passes {gs = gs} i) = in_map (λ (g : Placed). g.name) g gs i

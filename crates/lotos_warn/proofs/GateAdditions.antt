@@ -9,6 +9,7 @@ use Rattle.lotos_warn.specs.Warnings.{UsesFree, OffersFree}
 use Rattle.lotos_warn.proofs.Additions.{adds_as, adds_both, adds_nothing, adds_alone}
 use Rattle.lotos_warn.proofs.FreeGates.{HasIn, used_by_form, IsNone, offered_by_form}
 
+-- equivalence is symmetric
 flip : {P Q : Type 0} → P ↔ Q → Q ↔ P
 flip h = (h.1, h.0)
 
@@ -56,64 +57,81 @@ module _ (free : BehaviourView → Name → Type 0) (listed : SyncView → Name 
   pub form_call : (old new : List Name) (p : Placed) (gs : List Placed) → Adds old new (λ n. In n (texts gs)) → Adds old new (free (call p gs))
   form_call old new p gs h = made old new (call p gs) h
 
+-- `stop` adds no gate to those that are used
 pub uses_stop : (names : List Name) → Adds names names (UsesFree stop)
 uses_stop = form_stop UsesFree IsListed used_by_form
 
+-- `exit` adds no gate to those that are used
 pub uses_exit : (names : List Name) → Adds names names (UsesFree exit)
 uses_exit = form_exit UsesFree IsListed used_by_form
 
+-- a prefix adds the gate of its action, if that has one, and the gates that the behaviour after it uses
 pub uses_prefix : (old mid new : List Name) (a : Action) (b : BehaviourView) → Adds old mid (IsActionNamed a) → Adds mid new (UsesFree b) →
     Adds old new (UsesFree (prefix a b))
 uses_prefix = form_prefix UsesFree IsListed used_by_form
 
+-- a choice adds the gates that its sides use
 pub uses_choice : (old mid new : List Name) (l r : BehaviourView) → Adds old mid (UsesFree l) → Adds mid new (UsesFree r) → Adds old new (UsesFree (choice l r))
 uses_choice = form_choice UsesFree IsListed used_by_form
 
+-- `>>` adds the gates that its sides use
 pub uses_enable : (old mid new : List Name) (l : BehaviourView) (at : ℕ) (r : BehaviourView) → Adds old mid (UsesFree l) → Adds mid new (UsesFree r) →
     Adds old new (UsesFree (enable l at r))
 uses_enable = form_enable UsesFree IsListed used_by_form
 
+-- `[>` adds the gates that its sides use
 pub uses_disable : (old mid new : List Name) (l r : BehaviourView) → Adds old mid (UsesFree l) → Adds mid new (UsesFree r) →
     Adds old new (UsesFree (disable l r))
 uses_disable = form_disable UsesFree IsListed used_by_form
 
+-- a parallel composition adds the gates of its list, if it has one, and those that its sides use
 pub uses_par : (old mid more new : List Name) (l : BehaviourView) (s : SyncView) (r : BehaviourView) →
     Adds old mid (UsesFree l) → Adds mid more (IsListed s) → Adds more new (UsesFree r) → Adds old new (UsesFree (par l s r))
 uses_par = form_par UsesFree IsListed used_by_form
 
+-- a hiding adds the gates that the behaviour inside it uses, without those that it hides
 pub uses_hide : (old new empty inside : List Name) (gs : List Placed) (b : BehaviourView) → empty ≡ [] → Adds empty inside (UsesFree b) →
     Adds old new (IsVisible (texts gs) inside) → Adds old new (UsesFree (hide gs b))
 uses_hide = form_hide UsesFree IsListed used_by_form
 
+-- a call adds its actual gates to those that are used
 pub uses_call : (old new : List Name) (p : Placed) (gs : List Placed) → Adds old new (λ n. In n (texts gs)) → Adds old new (UsesFree (call p gs))
 uses_call = form_call UsesFree IsListed used_by_form
 
+-- `stop` adds no gate to those that are offered
 pub offers_stop : (names : List Name) → Adds names names (OffersFree stop)
 offers_stop = form_stop OffersFree IsNone offered_by_form
 
+-- `exit` adds no gate to those that are offered
 pub offers_exit : (names : List Name) → Adds names names (OffersFree exit)
 offers_exit = form_exit OffersFree IsNone offered_by_form
 
+-- a prefix adds the gate of its action, if that has one, and the gates that the behaviour after it offers
 pub offers_prefix : (old mid new : List Name) (a : Action) (b : BehaviourView) → Adds old mid (IsActionNamed a) → Adds mid new (OffersFree b) →
     Adds old new (OffersFree (prefix a b))
 offers_prefix = form_prefix OffersFree IsNone offered_by_form
 
+-- a choice adds the gates that its sides offer
 pub offers_choice : (old mid new : List Name) (l r : BehaviourView) → Adds old mid (OffersFree l) → Adds mid new (OffersFree r) →
     Adds old new (OffersFree (choice l r))
 offers_choice = form_choice OffersFree IsNone offered_by_form
 
+-- `>>` adds the gates that its sides offer
 pub offers_enable : (old mid new : List Name) (l : BehaviourView) (at : ℕ) (r : BehaviourView) → Adds old mid (OffersFree l) → Adds mid new (OffersFree r) →
     Adds old new (OffersFree (enable l at r))
 offers_enable = form_enable OffersFree IsNone offered_by_form
 
+-- `[>` adds the gates that its sides offer
 pub offers_disable : (old mid new : List Name) (l r : BehaviourView) → Adds old mid (OffersFree l) → Adds mid new (OffersFree r) →
     Adds old new (OffersFree (disable l r))
 offers_disable = form_disable OffersFree IsNone offered_by_form
 
+-- a hiding adds the gates that the behaviour inside it offers, without those that it hides
 pub offers_hide : (old new empty inside : List Name) (gs : List Placed) (b : BehaviourView) → empty ≡ [] → Adds empty inside (OffersFree b) →
     Adds old new (IsVisible (texts gs) inside) → Adds old new (OffersFree (hide gs b))
 offers_hide = form_hide OffersFree IsNone offered_by_form
 
+-- a call adds its actual gates to those that are offered
 pub offers_call : (old new : List Name) (p : Placed) (gs : List Placed) → Adds old new (λ n. In n (texts gs)) → Adds old new (OffersFree (call p gs))
 offers_call = form_call OffersFree IsNone offered_by_form
 

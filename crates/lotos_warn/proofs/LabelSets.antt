@@ -26,22 +26,27 @@ bare_none termination e = let wrong : false ≡ true = e in cc
 bare_none internal e = let wrong : false ≡ true = e in cc
 bare_none (action n) h = h
 
+-- if no label has the property, an empty set of labels is exactly that of the labels with it
 pub none_exactly : (new : FirstLabels) (P : First → Type 0) → ((x : First) → P x → ⊥) → HasExactly new (IsBare false false) → HasExactly new P
 none_exactly new P none exact x = ((λ h. absurd (bare_none x ((exact x).0 h))), (λ p. absurd (none x p)))
 
+-- labels with termination, but without the internal one and without actions, are termination alone
 termination_alone : (x : First) → IsBare true false x ↔ (x ≡ termination)
 termination_alone termination = ((λ h. refl), (λ e. refl))
 termination_alone internal = ((λ e. let wrong : false ≡ true = e in cc), (λ e. cc))
 termination_alone (action n) = ((λ h. absurd h), (λ e. cc))
 
+-- if the labels have termination, but not the internal one and no actions, they are exactly termination
 pub termination_exactly : (new : FirstLabels) → HasExactly new (IsBare true false) → HasExactly new (λ x. x ≡ termination)
 termination_exactly new exact x = both_ways (exact x) (termination_alone x)
 
+-- labels with the internal one, but without termination and without actions, are the label of an internal prefix
 internal_alone : (x : First) → IsBare false true x ↔ IsOfAction None x
 internal_alone termination = ((λ e. let wrong : false ≡ true = e in cc), (λ h. absurd h))
 internal_alone internal = ((λ h. tt), (λ h. refl))
 internal_alone (action n) = ((λ h. h), (λ h. h))
 
+-- if the labels have the internal one, but not termination and no actions, they are exactly that of an internal prefix
 pub internal_exactly : (new : FirstLabels) → HasExactly new (IsBare false true) → HasExactly new (IsOfAction None)
 internal_exactly new exact x = both_ways (exact x) (internal_alone x)
 
@@ -67,6 +72,7 @@ none_by_test labels false e f empty = from_key labels.gates.keys refl
     from_key [] same = absurd (let wrong : false ≡ true = empty.1 (ap length same) in cc)
     from_key (k ∷ ks) same = (action k.now, subst (λ ys. In k.now (map (λ k. k.now) ys)) (sym same) (inl refl))
 
+-- there is no label if there is neither termination nor the internal one nor a gate, and otherwise there is one
 pub none_at_all : (labels : FirstLabels) (none : Bool) → (none ≡ true) ↔ (length labels.gates.keys ≡ 0) →
     MatchBool (not (labels.terminates || labels.internal) && none) ((x : First) → Has labels x → ⊥) ((x : First) × Has labels x)
 none_at_all labels none empty = by_parts labels.terminates labels.internal refl refl
@@ -174,6 +180,7 @@ hidden_more gate rest inside (action n) = (
   (λ h. ((λ i. elim i [ inl e ↦ h.1.0 (inl e) | inr j ↦ h.0 j ]), h.1.1)),
 )
 
+-- if one property of labels implies another, so do the properties that hiding the gates makes of them
 hidden_as : (gates : List Name) (P Q : First → Type 0) → ((x : First) → P x → Q x) → (x : First) → IsHidden gates P x → IsHidden gates Q x
 hidden_as gates P Q same termination h = same termination h
 hidden_as gates P Q same internal h = elim h [ inl i ↦ inl (same internal i) | inr (n, i, j) ↦ inr (n, i, same (action n) j) ]
@@ -217,6 +224,7 @@ hides_exactly old new gate there e f lacks found (action n) = (
   (λ h. (lacks n).1 (h.1, λ same. h.0 (inl same))),
 )
 
+-- if the labels inside are those with a property, hiding the gates makes the same labels of them as of the property
 pub hidden_as_inside : (inside new : FirstLabels) (P : First → Type 0) (gates : List Name) → HasExactly inside P →
     HasExactly new (IsHidden gates (Has inside)) →
     HasExactly new (IsHidden gates P)
@@ -225,11 +233,13 @@ hidden_as_inside inside new P gates is_inside exact x = (
   (λ h. (exact x).1 (hidden_as gates P (Has inside) (λ y. (is_inside y).1) x h)),
 )
 
+-- if one property of labels implies another, so do the properties that `>>` makes of them
 enabled_by : (P Q : First → Type 0) → ((x : First) → P x → Q x) → (x : First) → IsEnabled P x → IsEnabled Q x
 enabled_by P Q same termination h = h
 enabled_by P Q same internal h = elim h [ inl i ↦ inl (same internal i) | inr i ↦ inr (same termination i) ]
 enabled_by P Q same (action n) h = same (action n) h
 
+-- if the labels of the left side are those with a property, `>>` makes the same labels of them as of the property
 pub enabled_as : (left new : FirstLabels) (P : First → Type 0) → HasExactly left P → HasExactly new (IsEnabled (Has left)) → HasExactly new (IsEnabled P)
 enabled_as left new P is_left exact x = (
   (λ h. enabled_by (Has left) P (λ y. (is_left y).0) x ((exact x).0 h)),

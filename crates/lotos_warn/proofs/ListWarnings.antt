@@ -119,6 +119,7 @@ module _ (gate : Placed) (side : Side) where
 abbrev AreBoth : BehaviourView → BehaviourView → BehaviourView → Type 0
 AreBoth l r whole = (g : Placed) (s : Side) → (IsUnofferedIn l g s ⊎ IsUnofferedIn r g s) ↔ IsUnofferedIn whole g s
 
+-- if a behaviour has the unoffered gates of two others and no more, it has their warnings about lists and no more
 both_lists : (l r whole : BehaviourView) → AreBoth l r whole → (w : Warning) → (IsListWarning l w ⊎ IsListWarning r w) ↔ IsListWarning whole w
 both_lists l r whole same (UncalledProcess p) = ((λ h. elim h [ inl i ↦ i | inr i ↦ i ]), (λ h. absurd h))
 both_lists l r whole same (UnreachedProcess p) = ((λ h. elim h [ inl i ↦ i | inr i ↦ i ]), (λ h. absurd h))
@@ -127,12 +128,14 @@ both_lists l r whole same (DeadStart p) = ((λ h. elim h [ inl i ↦ i | inr i �
 both_lists l r whole same (UnusedGate g d) = ((λ h. elim h [ inl i ↦ i | inr i ↦ i ]), (λ h. absurd h))
 both_lists l r whole same (UnofferedGate g s) = same g s
 
+-- a behaviour has the unoffered gates of two others and no more, if it does by its form
 by_both : (l r whole : BehaviourView) → ((g : Placed) (s : Side) → WarnsIn g s whole ↔ (WarnsIn g s l ⊎ WarnsIn g s r)) → AreBoth l r whole
 by_both l r whole form g s = (
   (λ h. (warns_by_form g s whole).1 ((form g s).1 (elim h [ inl i ↦ inl ((warns_by_form g s l).0 i) | inr i ↦ inr ((warns_by_form g s r).0 i) ]))),
   (λ h. elim ((form g s).0 ((warns_by_form g s whole).0 h)) [ inl i ↦ inl ((warns_by_form g s l).1 i) | inr i ↦ inr ((warns_by_form g s r).1 i) ]),
 )
 
+-- a behaviour has the warnings about lists that another has and no more, if it does by its form
 one_list : (b whole : BehaviourView) → ((g : Placed) (s : Side) → WarnsIn g s whole ↔ WarnsIn g s b) → (w : Warning) → IsListWarning b w ↔ IsListWarning whole w
 one_list b whole form (UncalledProcess p) = ((λ h. h), (λ h. h))
 one_list b whole form (UnreachedProcess p) = ((λ h. h), (λ h. h))
@@ -144,6 +147,7 @@ one_list b whole form (UnofferedGate g s) = (
   (λ h. (warns_by_form g s b).1 ((form g s).0 ((warns_by_form g s whole).0 h))),
 )
 
+-- a behaviour has no warnings about lists if it has none by its form
 no_list : (whole : BehaviourView) → ((g : Placed) (s : Side) → WarnsIn g s whole → ⊥) → (w : Warning) → IsListWarning whole w → ⊥
 no_list whole none (UncalledProcess p) h = h
 no_list whole none (UnreachedProcess p) h = h
@@ -152,18 +156,23 @@ no_list whole none (DeadStart p) h = h
 no_list whole none (UnusedGate g d) h = h
 no_list whole none (UnofferedGate g s) h = none g s ((warns_by_form g s whole).0 h)
 
+-- `stop` adds no warnings about lists
 pub lists_stop : (ws : List Warning) → Adds ws ws (IsListWarning stop)
 lists_stop ws = adds_nothing ws (IsListWarning stop) (no_list stop (λ g s h. h))
 
+-- `exit` adds no warnings about lists
 pub lists_exit : (ws : List Warning) → Adds ws ws (IsListWarning exit)
 lists_exit ws = adds_nothing ws (IsListWarning exit) (no_list exit (λ g s h. h))
 
+-- a call adds no warnings about lists
 pub lists_call : (ws : List Warning) (p : Placed) (gs : List Placed) → Adds ws ws (IsListWarning (call p gs))
 lists_call ws p gs = adds_nothing ws (IsListWarning (call p gs)) (no_list (call p gs) (λ g s h. h))
 
+-- a prefix adds the warnings about lists that the behaviour after its action has
 pub lists_prefix : (old new : List Warning) (a : Action) (b : BehaviourView) → Adds old new (IsListWarning b) → Adds old new (IsListWarning (prefix a b))
 lists_prefix old new a b = adds_as old new (IsListWarning b) (IsListWarning (prefix a b)) (one_list b (prefix a b) (λ g s. ((λ h. h), (λ h. h))))
 
+-- a hiding adds the warnings about lists that the behaviour inside it has
 pub lists_hide : (old new : List Warning) (gs : List Placed) (b : BehaviourView) → Adds old new (IsListWarning b) → Adds old new (IsListWarning (hide gs b))
 lists_hide old new gs b = adds_as old new (IsListWarning b) (IsListWarning (hide gs b)) (one_list b (hide gs b) (λ g s. ((λ h. h), (λ h. h))))
 
@@ -310,6 +319,7 @@ missing_sides by_left by_right seen g old mid new none first second =
     (λ w. ((λ h. (none, h)), (λ h. h.1)))
     (adds_both old mid new (IsMissingOn by_left Left g) (IsMissingOn by_right Right g) first second)
 
+-- there is no warning about a missing gate of an empty list
 pub missing_none : (by_left by_right seen : List Name) (w : Warning) → IsMissingGate by_left by_right seen [] w → ⊥
 missing_none by_left by_right seen (UncalledProcess p) h = h
 missing_none by_left by_right seen (UnreachedProcess p) h = h

@@ -38,12 +38,14 @@ pub record AreRankedTo (ranks : List ℕ) (list : List RankedProcess) (number : 
   pub all : (k rank : ℕ) → k < number → slice_get ranks k ≡ Some rank → In (record { rank = rank; number = k }) list
   pub only : (p : RankedProcess) → In p list → slice_get ranks p.number ≡ Some p.rank
 
+-- the empty list has the processes before number 0 with their ranks
 pub ranked_start : (ranks : List ℕ) (list : List RankedProcess) → list ≡ [] → AreRankedTo ranks list 0
 ranked_start ranks list none = record {
   all = λ k rank below at. absurd (omega arith);
   only = λ p i. absurd (subst (In p) none i);
 }
 
+-- if the process with the number is appended with its rank, the list has those before the next number with their ranks
 pub ranked_next : (ranks : List ℕ) (old new : List RankedProcess) (number rank : ℕ) → slice_get ranks number ≡ Some rank →
     new ≡ old ++ record { rank = rank; number = number } ∷ [] → AreRankedTo ranks old number → AreRankedTo ranks new (number + 1)
 ranked_next ranks old new number rank here grown before = record {
@@ -86,6 +88,7 @@ get_set [] p v h = absurd (omega arith)
 get_set (y ∷ xs) zero v h = refl
 get_set (y ∷ xs) (suc p) v h = get_set xs p v (omega arith)
 
+-- to set an item of a list changes no item at another index
 pub get_set_other : {X : Type 0} (xs : List X) (p k : ℕ) (v : X) → (k ≡ p → ⊥) → slice_get (slice_set xs p v) k ≡ slice_get xs k
 get_set_other [] p k v apart = refl
 get_set_other (y ∷ xs) zero zero v apart = absurd (apart refl)

@@ -13,6 +13,7 @@ becomes_termination : {pairs : List (Name × Name)} {x : First} → Becomes pair
 becomes_termination c.termination_stays = refl
 becomes_termination (c.later apart b) = absurd (let same : action _ ≡ termination = becomes_termination b in cc)
 
+-- only the internal action becomes the internal action
 becomes_internal : {pairs : List (Name × Name)} {x : First} → Becomes pairs x internal → x ≡ internal
 becomes_internal c.internal_stays = refl
 becomes_internal (c.later apart b) = absurd (let same : action _ ≡ internal = becomes_internal b in cc)
@@ -23,9 +24,11 @@ becomes_action (c.stays {g = g}) = (g, refl)
 becomes_action (c.at_first {g = g}) = (g, refl)
 becomes_action (c.later {g = g} apart b) = (g, refl)
 
+-- without pairs of gates a gate becomes only itself
 pub none_becomes : {g n : Name} → Becomes [] (action g) (action n) → g ≡ n
 none_becomes c.stays = refl
 
+-- a gate becomes a gate by the first pair if it is the formal one there, and otherwise by the other pairs
 pub first_becomes : {pairs : List (Name × Name)} {f a g n : Name} → Becomes ((f, a) ∷ pairs) (action g) (action n) →
     ((f ≡ g) × (a ≡ n)) ⊎ ((f ≢ g) × Becomes pairs (action g) (action n))
 first_becomes c.at_first = inl (refl, refl)

@@ -51,6 +51,7 @@ pub second_by_test : (first second : List Name) (name : Name) (there : Bool) →
 second_by_test first second name true i h = (i, h)
 second_by_test first second name false i h = inr h
 
+-- if the first list lacks the name, a test that is false says rightly that one of the two lists lacks it
 pub first_by_test : (first second : List Name) (name : Name) (there : Bool) → there ≡ false → (In name first → ⊥) →
     MatchBool there (In name first × In name second) ((In name first → ⊥) ⊎ (In name second → ⊥))
 first_by_test first second name true e out = let wrong : true ≡ false = e in cc
@@ -70,6 +71,7 @@ module _ (old new other : List Name) (n : Name) where
     )),
   )
 
+-- if the other set or the set itself lacks a name, to remove the name is to remove it if the other lacks it
 pub unshared_second : (old new other : List Name) (n : Name) → ((m : Name) → In m new ↔ (In m old × (n ≡ m → ⊥))) →
     (In n other → ⊥) ⊎ (In n old → ⊥) → KeepsShared old new other (λ m. n ≡ m)
 unshared_second old new other n lacks none = unshared old new other n lacks (elim none [ inl out ↦ inr out | inr out ↦ inl out ])
@@ -78,9 +80,12 @@ unshared_second old new other n lacks none = unshared old new other n lacks (eli
 abbrev pub KeepsRest : List Name → List Name → List Name → List Name → List Name → List Name → Type 0
 KeepsRest first now second others rest all = (m : Name) → (In m now × (In m rest → In m others)) ↔ (In m first × (In m all → In m second))
 
+-- at the start all of the list is to be removed
 pub rest_start : (first second all : List Name) → KeepsRest first first second second all all
 rest_start first second all m = ((λ h. h), (λ h. h))
 
+-- if the first name of the rest is removed from each set when the other lacks it, the other names of the rest are still
+-- to be removed
 pub rest_next : (first now new second others fewer rest left all : List Name) (n : Name) → rest ≡ n ∷ left →
     KeepsShared now new others (λ m. n ≡ m) → KeepsShared others fewer now (λ m. n ≡ m) →
     KeepsRest first now second others rest all → KeepsRest first new second fewer left all
@@ -94,6 +99,7 @@ rest_next first now new second others fewer rest left all n next keeps keeps_oth
       )),
     )
 
+-- if no name is left, the set is the first one without the names of the list that the second one lacks
 pub rest_end : (first now second others rest all : List Name) → rest ≡ [] → KeepsRest first now second others rest all →
     KeepsShared first now second (λ m. In m all)
 rest_end first now second others rest all none before m = (

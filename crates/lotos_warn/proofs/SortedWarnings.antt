@@ -27,6 +27,7 @@ first_equal Less s e = cc
 first_equal Equal s e = refl
 first_equal Greater s e = cc
 
+-- the second of two orderings is `Equal` if the two one after the other are
 second_equal : (r s : Ordering) → ordering_then r s ≡ Equal → s ≡ Equal
 second_equal Less s e = cc
 second_equal Equal s e = e
@@ -36,6 +37,7 @@ second_equal Greater s e = cc
 equal_numbers : (a b : ℕ) → nat_cmp a b ≡ Equal → a ≡ b
 equal_numbers a b e = ranked a b Equal (sym e)
 
+-- an ordering is `Equal` if `is_eq` is true of it
 is_equal : (r : Ordering) → is_eq r ≡ true → r ≡ Equal
 is_equal Less e = cc
 is_equal Equal e = refl
@@ -44,18 +46,21 @@ is_equal Greater e = cc
 abbrev the_placed : Name → ℕ → Placed
 the_placed n a = record { name = n; at = a }
 
+-- names are the same if their offsets and their texts are
 placed_same : (p q : Placed) → p.at ≡ q.at → p.name ≡ q.name → p ≡ q
 placed_same p q e f =
     let named : p ≡ record { name = q.name; at = p.at } = ap (λ (n : Name). the_placed n p.at) f in
     let there : record { name = q.name; at = p.at } ≡ q = ap (λ (a : ℕ). the_placed q.name a) e in
     named ∙ there
 
+-- sides with the same rank are the same
 side_same : (s r : Side) → side_rank s ≡ side_rank r → s ≡ r
 side_same Left Left e = refl
 side_same Left Right e = absurd (omega arith)
 side_same Right Left e = absurd (omega arith)
 side_same Right Right e = refl
 
+-- no side has a rank below 5
 not_side : (s : Side) (n : ℕ) → n < 5 → n ≡ side_rank s → ⊥
 not_side Left n h e = omega arith
 not_side Right n h e = omega arith

@@ -84,6 +84,7 @@ record IsWarnedFrom (called reached exiting : List ℕ) (first : ℕ) (vs : List
   counted : number ≡ first + index
   warned : IsProcessWarning called reached exiting number scoped.definition w
 
+-- a warning of any of the processes is one of that at some index, whose number is the first number plus the index
 warned_at : (called reached exiting : List ℕ) (w : Warning) (vs : List ScopedDefinition) (first : ℕ) →
     IsProcessWarningOfAny called reached exiting first (map (λ v. v.definition) vs) w → IsWarnedFrom called reached exiting first vs w
 warned_at called reached exiting w [] first h = absurd h
@@ -94,6 +95,7 @@ warned_at called reached exiting w (v ∷ vs) first (inr h) =
     let e = r.counted in
     record { index = suc r.index; scoped = r.scoped; located = r.located; number = r.number; counted = omega arith; warned = r.warned }
 
+-- a warning of the process at an index, whose number is the first number plus the index, is one of some process
 warned_from : (called reached exiting : List ℕ) (w : Warning) (vs : List ScopedDefinition) (first index : ℕ) (v : ScopedDefinition) (number : ℕ) →
     slice_get vs index ≡ Some v → number ≡ first + index → IsProcessWarning called reached exiting number v.definition w →
     IsProcessWarningOfAny called reached exiting first (map (λ v. v.definition) vs) w
