@@ -39,6 +39,7 @@ module _ (strong : Bool) (words : List Text) where
   abbrev pub AreNamed : ℕ → Type 0
   AreNamed n = (labels : List Label) × NamesEach strong (take n words) labels
 
+  -- if the first `n` words name labels, and so does the word after them, the first `n + 1` do
   pub named_more : (n : ℕ) (word : Text) → slice_get words n ≡ Some word → AreNamed n → (l : Label) → Names strong word l → AreNamed (n + 1)
   named_more n word at (labels, named) l names = (
     labels ++ l ∷ [],
@@ -46,6 +47,7 @@ module _ (strong : Bool) (words : List Text) where
         (names_more strong (take n words) labels word l named names),
   )
 
+  -- if the first `n` words name labels and there are no more than `n`, all words do
   pub named_all : (n : ℕ) → length words ≤ n → AreNamed n → (labels : List Label) × NamesEach strong words labels
   named_all n all (labels, named) = (labels, subst (λ ws. NamesEach strong ws labels) (take_all n words all) named)
 

@@ -22,11 +22,13 @@ module _ {A : Type 0} (lt : A → A → Type 0) (irrefl : (x : A) → lt x x →
   first_least x (z ∷ zs) (more b a) y (inl e) = subst (lt x) e b
   first_least x (z ∷ zs) (more b a) y (inr i) = trans x z y b (first_least z zs a y i)
 
+  -- two ascending lists have the same first item if each has the first item of the other
   same_first : (x y : A) (xs ys : List A) → IsAscendingBy lt (x ∷ xs) → IsAscendingBy lt (y ∷ ys) → (x ≡ y) ⊎ In y xs → (y ≡ x) ⊎ In x ys → x ≡ y
   same_first x y xs ys a b (inl e) j = e
   same_first x y xs ys a b (inr i) (inl e) = sym e
   same_first x y xs ys a b (inr i) (inr j) = absurd (irrefl x (trans x y x (first_least x xs a y i) (first_least y ys b x j)))
 
+  -- an item after the first of an ascending list is after the same first item of another list, if it is in that list
   in_rest : (x y n : A) (xs ys : List A) → IsAscendingBy lt (x ∷ xs) → x ≡ y → (In n (x ∷ xs) → In n (y ∷ ys)) → In n xs → In n ys
   in_rest x y n xs ys a e to i = elim (to (inr i)) [
     | inl f ↦ absurd (irrefl x (subst (lt x) (sym (e ∙ f)) (first_least x xs a n i)))

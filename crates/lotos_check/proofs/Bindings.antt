@@ -107,12 +107,14 @@ module _ {K S : Type 0} (now : K → Name) (n : Name) (outer : List (HashMap K B
       let same = (same_ends outer front last t cc).1 in
       nearest (tabulates.found n m (rw (← same) found))
 
+  -- a name is not bound if the nearest `where` does not declare it and the scope around it does not bind it
   unseen : (w : Where) (ws : Scope) → ((j : ℕ) (d : DefinitionView) → Declares w.defs w.first n j d → ⊥) →
       ((k : ℕ) (d : DefinitionView) → Binds ws n k d → ⊥) →
       (k : ℕ) (d : DefinitionView) → Binds (w ∷ ws) n k d → ⊥
   unseen w ws here_not out_not k d (nearest declares) = here_not k d declares
   unseen w ws here_not out_not k d (outward none means) = out_not k d means
 
+  -- if the nearest `where` does not declare the name, it is bound as the scope around it binds it, or not at all
   outside : (r : Option Binding) (w : Where) (ws : Scope) → ((j : ℕ) (d : DefinitionView) → Declares w.defs w.first n j d → ⊥) →
       MatchOption r ((k : ℕ) (d : DefinitionView) → Binds ws n k d → ⊥) (λ m. Binds ws n m.process (definition_view m.definition.now)) →
       MatchOption r ((k : ℕ) (d : DefinitionView) → Binds (w ∷ ws) n k d → ⊥)

@@ -90,6 +90,7 @@ shows_inside now of list first own outer all same tabulates pushed scope shows =
     (outer, own, pushed, subst (λ ds. BindsAll now ds first own) inner tabulates, shows)
 
 module _ {K : Type 0} (now : K → Name) where
+  -- if there are no keys, they have no names
   knows_none : (keys : List K) → keys ≡ [] → HasNames now keys []
   knows_none keys e = rw e (λ n. (λ h. h, λ h. h))
 

@@ -87,12 +87,15 @@ get_back (x ∷ xs) ys i (suc j) v at e = get_back xs ys i j v (omega arith) e
 
 -- a list of an item and two lists after it, at an index: the item is there, the one list follows it, and the other follows that
 module _ (all : List ScopedDefinition) (k : ℕ) (first : ScopedDefinition) (xs ys : List ScopedDefinition) (stands : StandsFrom all k (first ∷ xs ++ ys)) where
+  -- the item is in the whole list at the index
   stands_first : slice_get all k ≡ Some first
   stands_first = stands 0 k first (omega arith) refl
 
+  -- the first of the two lists is in the whole list from the next index on
   stands_front : StandsFrom all (k + 1) xs
   stands_front i j v at e = stands (suc i) j v (omega arith) (get_front xs ys i v e)
 
+  -- the second of the two lists is in the whole list from the index after the end of the first on
   stands_back : (n : ℕ) → n ≡ k + 1 + length xs → StandsFrom all n ys
   stands_back n after i j v at e = stands (suc (length xs + i)) j v (omega arith) (get_back xs ys i (length xs + i) v refl e)
 

@@ -22,6 +22,7 @@ module _ {K : Type 0} (now : K → Name) where
     pub from : (m : Name) → In m (map now new) → In m (map now old) ⊎ (n ≡ m)
     pub holds : (m : Name) → In m (map now old) ⊎ (n ≡ m) → In m (map now new)
 
+  -- if the key of a name is appended to the keys unless they have the name, they have it and the names that they had
   inserted : (n : Name) (old : List K) (key : K) → now key ≡ n → (there : Bool) → list_any (λ k. bytes_eq n (now k)) old ≡ there →
       Inserted n old (if there then old else old ++ key ∷ [])
   inserted n old key is_text true found = record {

@@ -36,12 +36,15 @@ passed_none now keys all none = record {
 module _ {K : Type 0} (now : K → Name) (old new : List K) (key : K) (all rest left : List Definition) (x : Definition) (n : Name)
     (passed : Passed now old all rest) (next : rest ≡ x ∷ left) (text : n ≡ (out-Definition x).name.name)
     (added : Bool) (says : added ≡ not (list_any (λ k. bytes_eq n (now k)) old)) where
+  -- the names that were left are that of `x` and those that are left after it
   names_next : declared_names (definitions_view rest) ≡ name_of (definition_view x) ∷ declared_names (definitions_view left)
   names_next = ap (λ ds. declared_names (definitions_view ds)) next
 
+  -- `n` is the text of the name of `x`
   text_seen : n ≡ (name_of (definition_view x)).name
   text_seen = text ∙ ap (λ p. p.name) (name_shown x)
 
+  -- `x` is one of all the definitions
   among_next : Among (definition_view x) (definitions_view all)
   among_next = passed.left (definition_view x) (subst (λ ds. Among (definition_view x) (definitions_view ds)) (sym next) (inl refl))
 

@@ -20,9 +20,11 @@ module _ {X : Type 0} where
   in_contains (y ∷ ys) x (inl e) = (0, omega arith, e)
   in_contains (y ∷ ys) x (inr h) = let r = in_contains ys x h in (suc r.0, omega arith, r.2)
 
+  -- an item that is read at an index of a list is in it
   pub get_in : (xs : List X) (k : ℕ) (x : X) → slice_get xs k ≡ Some x → In x xs
   get_in xs k x e = contains_in xs x (k, slice_get_within xs k x e, get_or_from_slice_get xs k x x e)
 
+  -- an item that is in a list is read at some index of it
   pub in_get : (xs : List X) (x : X) → In x xs → (k : ℕ) × (slice_get xs k ≡ Some x)
   in_get xs x h = let r = in_contains xs x h in (r.0, slice_get_read xs (length xs) r.0 x refl r.1 (sym r.2))
 

@@ -14,6 +14,7 @@ module _ {A : Type 0} (lt : A → A → Type 0) where
   lex_irrefl irr (x ∷ s) (inl h) = irr x h
   lex_irrefl irr (x ∷ s) (inr (e, h)) = lex_irrefl irr s h
 
+  -- the order of lists is transitive if that of their items is
   pub lex_trans : ((x y z : A) → lt x y → lt y z → lt x z) → (a b c : List A) → Lex lt a b → Lex lt b c → Lex lt a c
   lex_trans tr [] [] c h g = absurd h
   lex_trans tr [] (y ∷ b) [] h g = absurd g
@@ -36,6 +37,7 @@ one_of_three lt x y Equal h = inr (inl h)
 one_of_three lt x y Greater h = inr (inr h)
 
 module _ {A : Type 0} (lt : A → A → Type 0) (cmp : A → A → Ordering) (says : (x y : A) → Says lt x y (cmp x y)) where
+  -- the ordering of the first items, or if they are equal that of the rests, is the ordering of two lists
   then_says : (x y : A) (s t : List A) (o q : Ordering) → Says lt x y o → Says (Lex lt) s t q → Says (Lex lt) (x ∷ s) (y ∷ t) (ordering_then o q)
   then_says x y s t Less q h k = inl h
   then_says x y s t Equal Less h k = inr (h, k)

@@ -75,6 +75,7 @@ module _ (scope : Scope) (inner known : List Name) (operand body : BehaviourView
   }
 
 module _ (scope : Scope) (inner known : List Name) (left right body : BehaviourView) (has : HasOperands inner known left right body) where
+  -- if the gates that the behaviour itself and its operands use are in scope, so are those that each portion of it uses
   gates_at : ((gate : Placed) → UsesGate body gate → In gate.name known) → GatesDeclared inner left → GatesDeclared inner right →
       (there : List Name) (part : BehaviourView) (gate : Placed) → Portion inner known left right body there part → UsesGate part gate →
       In gate.name there
@@ -88,6 +89,7 @@ module _ (scope : Scope) (inner known : List Name) (left right body : BehaviourV
   gates_joined head first second there part gate stands uses =
       gates_at head first second there part gate (has.splits there part stands) uses
 
+  -- if the behaviour is no call and the calls of its operands fit, each portion of it that is a call fits
   calls_at : ((name : Placed) (actuals : List Placed) → body ≡ call name actuals → ⊥) → CallsFit scope inner left →
       CallsFit scope inner right → (there : List Name) (part : BehaviourView) (name : Placed) (actuals : List Placed) →
       Portion inner known left right body there part → part ≡ call name actuals →
@@ -104,6 +106,8 @@ module _ (scope : Scope) (inner known : List Name) (left right body : BehaviourV
   calls_joined head first second there name actuals stands =
       calls_at head first second there (call name actuals) name actuals (has.splits there (call name actuals) stands) refl
 
+  -- if each `>>` in the operands, and the behaviour itself if it is one, has a left operand with exit, so has each
+  -- portion of it that is a `>>`
   lefts_at : ((a b : BehaviourView) (at : ℕ) → body ≡ enable a at b → Func scope a f.Exit) → LeftsExit scope inner left →
       LeftsExit scope inner right → (there : List Name) (part a b : BehaviourView) (at : ℕ) →
       Portion inner known left right body there part → part ≡ enable a at b → Func scope a f.Exit

@@ -36,6 +36,7 @@ module _ (scope : Scope) (known : List Name) where
   misnamed_own body list uses (E27 name set) h = h
   misnamed_own body list uses (E99 e) h = h
 
+  -- a prefix uses each gate of the list whose one item is the gate of its action
   acts_on : (g gate : Placed) (body : BehaviourView) → In gate (g ∷ []) → UsesGate (prefix (Gate g) body) gate
   acts_on g gate body (inl e) = subst (λ x. UsesGate (prefix (Gate g) body) x) e acts
   acts_on g gate body (inr h) = absurd h

@@ -51,9 +51,11 @@ module _ (edges : List (List ℕ)) (ranks : List (Option ℕ)) (next p : ℕ) (g
   abbrev numbered : List (Option ℕ)
   numbered = slice_set ranks p (Some next)
 
+  -- a process that had a rank keeps it
   kept : (q s : ℕ) → slice_get ranks q ≡ Some (Some s) → slice_get numbered q ≡ Some (Some s)
   kept q s e = rw (get_set_other ranks p q (Some next) (λ h. let same : slice_get ranks p ≡ Some (Some s) = rw (← h) e in cc)) e
 
+  -- each of the new ranks is smaller than `next + 1`
   below_at : (k r : ℕ) → (k ≡ p) ⊎ (k ≡ p → ⊥) → slice_get numbered k ≡ Some (Some r) → r < next + 1
   below_at k r (inl h) e =
       let new = get_set ranks p (Some next) None waits in
@@ -66,6 +68,7 @@ module _ (edges : List (List ℕ)) (ranks : List (Option ℕ)) (next p : ℕ) (g
       let bound = given.below k r read in
       omega arith
 
+  -- by the new ranks, if a process that has a rank calls another, the other has a smaller rank
   falls_at : (k q r : ℕ) → (k ≡ p) ⊎ (k ≡ p → ⊥) → ListsCall edges k q → slice_get numbered k ≡ Some (Some r) →
       (s : ℕ) × (slice_get numbered q ≡ Some (Some s)) × (s < r)
   falls_at k q r (inl h) lists e =
@@ -82,6 +85,7 @@ module _ (edges : List (List ℕ)) (ranks : List (Option ℕ)) (next p : ℕ) (g
       let called = given.falls k q r lists read in
       (called.0, kept q called.0 called.1, called.2)
 
+  -- the new ranks are consistent, and the next one is `next + 1`
   pub ordered_set : AreConsistentRanks edges (slice_set ranks p (Some next)) (next + 1)
   ordered_set = record {
     sized = rw (length_set ranks p (Some next)) given.sized;

@@ -33,12 +33,15 @@ or_same None = refl
 or_same (Some at) = refl
 
 module _ (scope : Scope) (known : List Name) where
+  -- each gate that `stop` uses is in scope
   gates_stop : GatesDeclared known t.stop
   gates_stop there part gate whole uses = elim uses [ ]
 
+  -- each call in `stop` fits
   calls_stop : CallsFit scope known t.stop
   calls_stop there name actuals stands = elim stands [ ]
 
+  -- each left operand of `>>` in `stop` has exit
   lefts_stop : LeftsExit scope known t.stop
   lefts_stop there left right at stands = elim stands [ ]
 
@@ -53,12 +56,15 @@ module _ (scope : Scope) (known : List Name) where
     lefts = rw n lefts_stop;
   }
 
+  -- each gate that `exit` uses is in scope
   gates_exit : GatesDeclared known t.exit
   gates_exit there part gate whole uses = elim uses [ ]
 
+  -- each call in `exit` fits
   calls_exit : CallsFit scope known t.exit
   calls_exit there name actuals stands = elim stands [ ]
 
+  -- each left operand of `>>` in `exit` has exit
   lefts_exit : LeftsExit scope known t.exit
   lefts_exit there left right at stands = elim stands [ ]
 
@@ -88,6 +94,7 @@ module _ (scope : Scope) (known : List Name) where
       lefts = rw never (never_joined scope inner known left right body has exits first.never_exits second.never_exits h.lefts k.lefts);
     }
 
+  -- if the gate of an action is in scope, so is each gate that a prefix with this action itself uses
   uses_prefix : (action : Action) (body : BehaviourView) → IsActionDeclared known action → (gate : Placed) →
       UsesGate (t.prefix action body) gate → In gate.name known
   uses_prefix Internal body given gate uses = elim uses [ ]

@@ -57,6 +57,7 @@ walked whole found adds = subst (λ t. Pairwise IsResolvedBody (all_definitions 
 
 module _ (whole : DefinitionView) (found : List ResolvedBody) (distinct : IsDistinct whole) (bodies : Pairwise IsResolvedBody (all_definitions whole) found)
     (typed : Pairwise HasDeclaredFunctionality (definitions_in whole) found) where
+  -- each definition of the specification has a body that is resolved in its scope, with its declared functionality
   one_found : (scope : Scope) (d : DefinitionView) → IsDefinition whole scope d →
       (r : ResolvedBody) × (IsResolvedBody (record { scope = scope; definition = d }) r × HasDeclaredFunctionality d r)
   one_found scope d stands =
@@ -64,17 +65,20 @@ module _ (whole : DefinitionView) (found : List ResolvedBody) (distinct : IsDist
       (subst (λ t. Pairwise HasDeclaredFunctionality t found) (everywhere_in_order whole) typed) in
       paired both (record { scope = scope; definition = d }) stands
 
+  -- no gate is used where it is not in scope
   no_unknown_gate : (p : Placed) → IsE21 whole p → ⊥
   no_unknown_gate p h =
       let r = one_found h.scope h.occurs.definition h.occurs.located in
       h.unknown (r.1.0.gates h.in_scope h.part p h.occurs.inside h.uses)
 
+  -- no call names a process that is not visible
   no_unseen_process : (p : Placed) → IsE22 whole p → ⊥
   no_unseen_process p h =
       let r = one_found h.scope h.occurs.definition h.occurs.located in
       let c = r.1.0.calls h.in_scope p h.actuals h.occurs.inside in
       h.unknown c.0 c.1 c.2
 
+  -- no call has another number of gates than the definition that its name is bound to
   no_unfit_call : (p : Placed) (formal actual : ℕ) → IsE23 whole p formal actual → ⊥
   no_unfit_call p formal actual h =
       let r = one_found h.scope h.occurs.definition h.occurs.located in
@@ -83,17 +87,20 @@ module _ (whole : DefinitionView) (found : List ResolvedBody) (distinct : IsDist
       let same = one_meant h.scope scoped p.name h.process c.0 h.definition c.1 h.means c.2 in
       h.differ (h.declared ∙ ap (λ d. length (formals_of d)) same.1 ∙ c.3 ∙ sym h.given)
 
+  -- no body has another functionality than its definition declares
   no_other_functionality : (p : Placed) (f : Functionality) → IsE25 whole p f → ⊥
   no_other_functionality p f h =
       let r = one_found h.scope h.definition h.located in
       let scoped = visible_distinct whole distinct (record { scope = h.scope; definition = h.definition }) h.located in
       h.differ (one_functionality h.scope scoped (body_of h.definition) h.other r.0.functionality h.has r.1.0.has ∙ r.1.1.same ∙ sym h.declares)
 
+  -- if no `>>` was found whose left operand has noexit, each left operand of `>>` has exit
   all_exit : (scope : Scope) (known : List Name) (body : BehaviourView) (at : Option ℕ) → at ≡ None →
       MatchOption at (LeftsExit scope known body) (NeverExits scope known body) → LeftsExit scope known body
   all_exit scope known body None e h = h
   all_exit scope known body (Some at) e h = cc
 
+  -- no left operand of a `>>` has noexit
   no_stuck_enabling : (at : ℕ) → IsE26 whole at → ⊥
   no_stuck_enabling at h =
       let d = h.occurs.definition in

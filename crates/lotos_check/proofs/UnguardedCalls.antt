@@ -42,22 +42,27 @@ module _ (old mid new : List ℕ) (left right whole : Flat) (into_left : Adds ol
     (down : (q : ℕ) → CallsUnguarded whole q → CallsUnguarded left q ⊎ CallsUnguarded right q)
     (up_left : (q : ℕ) → CallsUnguarded left q → CallsUnguarded whole q)
     (up_right : (q : ℕ) → CallsUnguarded right q → CallsUnguarded whole q) where
+  -- a process in the old list or called unguarded by the left operand is in the old list or called so by the whole
   out_mid : (q : ℕ) → In q old ⊎ CallsUnguarded left q → In q old ⊎ CallsUnguarded whole q
   out_mid q (inl i) = inl i
   out_mid q (inr c) = inr (up_left q c)
 
+  -- a process in the middle list or called unguarded by the right operand is in the old list or called so by the whole
   out : (q : ℕ) → In q mid ⊎ CallsUnguarded right q → In q old ⊎ CallsUnguarded whole q
   out q (inl i) = out_mid q ((into_left q).0 i)
   out q (inr c) = inr (up_right q c)
 
+  -- a process that one of the operands calls unguarded is in the new list
   back_part : (q : ℕ) → CallsUnguarded left q ⊎ CallsUnguarded right q → In q new
   back_part q (inl c) = (into_right q).1 (inl ((into_left q).1 (inr c)))
   back_part q (inr c) = (into_right q).1 (inr c)
 
+  -- a process in the old list or called unguarded by the whole is in the new list
   back : (q : ℕ) → In q old ⊎ CallsUnguarded whole q → In q new
   back q (inl i) = (into_right q).1 (inl ((into_left q).1 (inl i)))
   back q (inr c) = back_part q (down q c)
 
+  -- the new list has the processes of the old one and those that the whole calls unguarded
   adds_both : Adds old new whole
   adds_both q = (λ i. out q ((into_right q).0 i), back q)
 
@@ -65,14 +70,17 @@ module _ (old mid new : List ℕ) (left right whole : Flat) (into_left : Adds ol
 module _ (old new : List ℕ) (part whole : Flat) (into : Adds old new part)
     (down : (q : ℕ) → CallsUnguarded whole q → CallsUnguarded part q)
     (up : (q : ℕ) → CallsUnguarded part q → CallsUnguarded whole q) where
+  -- a process in the old list or called unguarded by the part is in the old list or called so by the whole
   out_one : (q : ℕ) → In q old ⊎ CallsUnguarded part q → In q old ⊎ CallsUnguarded whole q
   out_one q (inl i) = inl i
   out_one q (inr c) = inr (up q c)
 
+  -- a process in the old list or called unguarded by the whole is in the new list
   back_one : (q : ℕ) → In q old ⊎ CallsUnguarded whole q → In q new
   back_one q (inl i) = (into q).1 (inl i)
   back_one q (inr c) = (into q).1 (inr (down q c))
 
+  -- the new list has the processes of the old one and those that the whole calls unguarded
   adds_one : Adds old new whole
   adds_one q = (λ i. out_one q ((into q).0 i), back_one q)
 

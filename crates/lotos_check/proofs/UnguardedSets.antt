@@ -28,6 +28,7 @@ unguarded_has_no_ranking processes set rank p unguarded stands falls =
 
 module _ (edges : List (List ℕ)) (processes : List FlatProcess) (ranks : List (Option ℕ))
     (all : Pairwise AreCalls edges processes) (given : AreMaximalRanks edges ranks) where
+  -- by these ranks, no process of an unguarded set has a rank below `n`, whatever `n` is
   descent : (other : List ℕ) → IsUnguardedSet processes other → (n p r : ℕ) → r < n → slice_get ranks p ≡ Some (Some r) → In p other → ⊥
   descent other unguarded zero p r below has stands = omega (arith, below)
   descent other unguarded (suc n) p r below has stands =
@@ -36,6 +37,7 @@ module _ (edges : List (List ℕ)) (processes : List FlatProcess) (ranks : List 
       let lower = next.2 in
       descent other unguarded n call.0 next.0 (omega arith) next.1 call.2
 
+  -- a process of an unguarded set has no rank, if it is in the list of ranks at all
   waits_at : (other : List ℕ) → IsUnguardedSet processes other → (p : ℕ) → In p other → (v : Option ℕ) →
       slice_get ranks p ≡ Some v → slice_get ranks p ≡ Some None
   waits_at other unguarded p stands None has = has
@@ -51,6 +53,7 @@ module _ (edges : List (List ℕ)) (processes : List FlatProcess) (ranks : List 
       let inside : p < length ranks = omega arith in
       waits_at other unguarded p stands _ (slice_get-get_or ranks p None inside)
 
+  -- the processes without a rank, ascending, are the largest unguarded set
   largest : (set : List ℕ) → AreUnranked set ranks → IsLargestUnguardedSet processes set
   largest set waiting = record {
     unguarded = λ p stands.
@@ -71,6 +74,7 @@ module _ (edges : List (List ℕ)) (processes : List FlatProcess) (ranks : List 
         (first ∷ others) waiting;
   }
 
+  -- if the ranks are these numbers, one for each process, the number at an index is the rank there
   number_read : (numbers : List ℕ) → map Some numbers ≡ ranks → (p r : ℕ) → slice_get numbers p ≡ Some r →
       slice_get ranks p ≡ Some (Some r)
   number_read numbers whole p r has =

@@ -23,9 +23,11 @@ in_unless_missing n names h = elim (in_or_not n names) [ inl i ↦ i | inr out �
 
 -- if each gate of a list is in scope, each of its names is
 module _ (known gates : List Name) (wider : AreNamesOf gates known) where
+  -- if each gate of a list is in scope, the names of the list are among `gates`
   names_used : (list : List Placed) → ((g : Placed) → In g list → In g.name known) → AreNamesOf gates (texts list)
   names_used list h n i = let g = in_map_from (λ (p : Placed). p.name) n list i in wider n (subst (λ m. In m known) g.2 (h g.0 g.1))
 
+  -- if a prefix uses gates in scope only, the gate of its action, if it has one, is among `gates`
   action_used : (a : Action) (b : BehaviourView) → GatesDeclared known (t.prefix a b) → IsActionOf gates (action_of a)
   action_used Internal b d = tt
   action_used (Gate g) b d = wider g.name (d known _ g whole acts)

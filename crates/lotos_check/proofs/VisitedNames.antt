@@ -49,6 +49,7 @@ seen_none all = record { before = []; joined = refl; keys_are = refl; distinct =
 module _ {K : Type 0} (now : K → Name) (old new : List K) (key : K) (all rest left : List Placed) (p : Placed) (n : Name)
     (seen : Seen (map now old) all rest) (next : rest ≡ p ∷ left) (text : n ≡ p.name)
     (added : Bool) (says : added ≡ not (list_any (λ k. bytes_eq n (now k)) old)) where
+  -- all names are those before, `p`, and those that are left after it
   here : all ≡ seen.before ++ p ∷ left
   here = seen.joined ∙ ap (λ t. seen.before ++ t) next
 

@@ -13,6 +13,7 @@ use Rattle.lotos_command.specs.Request.{number}
 -- `G` reads texts as numbers below `2 ^ k`, and the upper bound is below `2 ^ k`
 module _ (E : Type 0) (G : Text → Result ℕ E → Type 0) (k low high : ℕ)
     (parses : (t : Text) (r : Result ℕ E) → G t r → ParsesUnsigned k 10 t r) (fits : high < 2 ^ k) where
+  -- the text of a number within the bounds is read as this number
   text_reads : (t : Text) (r : Option ℕ) → ReadsOne G t r → IsNumberIn low high t → r ≡ Some (number t)
   text_reads t (Some n) reads within = ap Some (parses t (Ok n) reads).1
   text_reads t None reads within = absurd (parses t (Err reads.0) reads.1 (within.numeral, omega (arith, within.most)))

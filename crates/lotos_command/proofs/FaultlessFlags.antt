@@ -18,11 +18,13 @@ module _ (rules : List Rule) (again : Bool) (ordinary : Each (IsOrdinary rules) 
 
   -- ---- options and flags
 
+  -- an option, with a value attached or not, keeps the entries ready, if it has no fault
   option_keeps : (a : Rule) (given : Option Text) (h : Held) → IsOrdinary rules a → option_fault rules again a given h ≡ []
       → Ready h.rows → Ready (option_met rules a given h).0.rows
   option_keeps a (Some v) h mine e all = reacted_keeps rules again ordinary a (v ∷ []) h mine e all
   option_keeps a None h mine e all = settled_keeps rules again ordinary h e all
 
+  -- a long flag or option keeps the entries ready, if it has no fault
   long_keeps : (o : Option Rule) (given : Option Text) (h : Held) → ((a : Rule) → o ≡ Some a → IsOrdinary rules a)
       → long_fault rules again o given h ≡ [] → Ready h.rows → Ready (long_met rules o given h).0.rows
   long_keeps None given h mine e all = all
@@ -35,6 +37,7 @@ module _ (rules : List Rule) (again : Bool) (ordinary : Each (IsOrdinary rules) 
       go false (Some v) none = all
       go false None none = reacted_keeps rules again ordinary a [] h (mine a refl) none all
 
+  -- a short flag or option keeps the entries ready, if it has no fault, and if what comes after it in its word does so
   short_keeps : (o : Option Rule) (rest : Text) (h : Held) (later : Held → Held × Outcome) (later_fault : Held → Kinds)
       → ((k : Held) → Ready k.rows → later_fault k ≡ [] → Ready (later k).0.rows)
       → ((a : Rule) → o ≡ Some a → IsOrdinary rules a) → short_fault rules again o rest h later_fault ≡ [] → Ready h.rows
@@ -53,6 +56,7 @@ module _ (rules : List Rule) (again : Bool) (ordinary : Each (IsOrdinary rules) 
 
   -- ---- several short flags in one word
 
+  -- one more character of several short flags keeps the entries ready, if it has no fault, and if those after it do so
   step_keeps : (o : Option ℕ) (flags : Text) (skip : ℕ) (so_far : Outcome) (h : Held)
       (met : Text → ℕ → Outcome → Held → Held × Outcome) (fault : Text → ℕ → Held → Kinds)
       → ((t : Text) (n : ℕ) (x : Outcome) (k : Held) → Ready k.rows → fault t n k ≡ [] → Ready (met t n x k).0.rows)
@@ -64,6 +68,7 @@ module _ (rules : List Rule) (again : Bool) (ordinary : Each (IsOrdinary rules) 
       (λ k good none. after _ 0 done k good none) (λ a is. found_is_ordinary rules again ordinary _ a is) e all
   step_keeps (Some x) flags (suc skip) so_far h met fault after e all = after _ skip so_far h all e
 
+  -- several short flags in one word keep the entries ready, if they have no fault
   bundle_keeps : (k : ℕ) (flags : Text) (skip : ℕ) (so_far : Outcome) (h : Held) → Ready h.rows
       → flags_fault rules again k flags skip h ≡ [] → Ready (bundle_met rules k flags skip so_far h).0.rows
   unfolding bundle_met flags_fault
@@ -74,15 +79,18 @@ module _ (rules : List Rule) (again : Bool) (ordinary : Each (IsOrdinary rules) 
 
   -- ---- values
 
+  -- a word that is one more value of an option keeps the entries ready
   option_word_keeps : (o : Option Rule) (id word : Text) (h : Held) → Ready h.rows → Ready (option_word o id word h).0.rows
   option_word_keeps None id word h all = all
   option_word_keeps (Some a) id word h all = all
 
+  -- a word that is no flag keeps the entries ready
   plain_keeps : (waiting : Waiting) (word : Text) (h : Held) → Ready h.rows → Ready (plain_word rules waiting word h).0.rows
   plain_keeps (option id) word h all = option_word_keeps (arg_by_id rules id) id word h all
   plain_keeps idle word h all = all
   plain_keeps positional word h all = all
 
+  -- what is done with a word after it was read as a flag keeps the entries ready, whatever the outcome
   after_keeps : (waiting : Waiting) (word : Text) (h : Held) (o : Outcome) → Ready h.rows
       → Ready (after_flag rules waiting word h o).0.rows
   after_keeps waiting word h done all = all
@@ -92,6 +100,7 @@ module _ (rules : List Rule) (again : Bool) (ordinary : Each (IsOrdinary rules) 
 
   -- ---- a word that may be a flag
 
+  -- a word that may be a flag keeps the entries ready, if it has no fault
   pub flag_word_keeps : (long : Option (Text × Option Text)) (waiting : Waiting) (word : Text) (h : Held)
       → flag_word_fault rules again long word h ≡ [] → Ready h.rows → Ready (long_or_other rules waiting word long h).0.rows
   flag_word_keeps (Some p) waiting word h e all =

@@ -63,6 +63,7 @@ module _ (s : Shape) (names : Names) (ordinary : Each (IsOrdinary s.rules) s.rul
   abbrev MeetsWell : Held × Step → Type 0
   MeetsWell met = Ready met.0.rows × IfSome (name_in met.1) AsksNoHelp
 
+  -- a word that is not trailing keeps the entries ready and does not name clap's own `help`, if it has no fault
   other_keeps : (o : Option Text) (waiting : Waiting) (position : ℕ) (word : Text) (h : Held) → other_fault s o word h ≡ []
       → Ready h.rows → MeetsWell (subcommand_or_other s.rules o waiting position word h)
   other_keeps (Some name) waiting position word h e all = (all, go (bytes_eq name (codes "help") && not s.disable_help_subcommand) e)
@@ -80,6 +81,7 @@ module _ (s : Shape) (names : Names) (ordinary : Each (IsOrdinary s.rules) s.rul
         subst (λ o. IfSome o AsksNoHelp) (sym (flag_names_none s.rules (long_of word) waiting word h)) tt,
       )
 
+  -- a word keeps the entries ready and does not name clap's own `help`, if it has no fault
   word_keeps : (is_trailing : Bool) (waiting : Waiting) (position : ℕ) (word : Text) (h : Held)
       → word_fault s names is_trailing waiting word h ≡ [] → Ready h.rows
       → MeetsWell (word_met s.rules names is_trailing waiting position word h)
@@ -87,6 +89,7 @@ module _ (s : Shape) (names : Names) (ordinary : Each (IsOrdinary s.rules) s.rul
   word_keeps false waiting position word h e all =
       other_keeps (subcommand_met names waiting word) waiting position word h e all
 
+  -- a word that goes to a positional keeps the entries ready, if it has no fault
   positional_keeps : (a : Rule) (word : Text) (h : Held) → positional_fault s.rules s.args_override_self a h ≡ [] → Ready h.rows
       → Ready (positional_held s.rules a word h).rows
   positional_keeps a word h e all = go (is_pending a h.pending && takes_several a) e
@@ -99,12 +102,14 @@ module _ (s : Shape) (names : Names) (ordinary : Each (IsOrdinary s.rules) s.rul
   abbrev WalksWell : Walk → Type 0
   WalksWell w = Ready w.held.rows × StopsWell w.stopped
 
+  -- if the entries of a walk are ready, and it has not stopped at `help`, so it is after a value without a fault
   value_keeps : (o : Option Rule) (word : Text) (w : Walk) (h : Held)
       → option_map_or (λ a. positional_fault s.rules s.args_override_self a h) o (stray_fault s) ≡ [] → Ready h.rows
       → StopsWell w.stopped → WalksWell (to_positional s.rules o word w h)
   value_keeps None word w h e all stop = (all, stop)
   value_keeps (Some a) word w h e all stop = (positional_keeps a word h e all, tt)
 
+  -- so it is after a step without a fault that does not name clap's own `help`
   after_step_keeps : (step : Step) (word : Text) (w : Walk) (h : Held) → step_fault s w.position h step ≡ [] → Ready h.rows
       → IfSome (name_in step) AsksNoHelp → StopsWell w.stopped → WalksWell (after_step s.rules word w h step)
   after_step_keeps (next waiting) word w h e all name stop = (all, stop)
@@ -112,6 +117,7 @@ module _ (s : Shape) (names : Names) (ordinary : Each (IsOrdinary s.rules) s.rul
   after_step_keeps (subcommand n) word w h e all name stop = (all, name)
   after_step_keeps value word w h e all name stop = value_keeps (arg_by_index s.rules w.position) word w h e all stop
 
+  -- so it is after a word without a fault
   walked_keeps : (w : Walk) (word : Text) → turn_fault s names w word ≡ [] → WalksWell w → WalksWell (walked s.rules names w word)
   unfolding walked
   walked_keeps w word e well = go w.stopped e well.1
@@ -130,6 +136,7 @@ module _ (s : Shape) (names : Names) (ordinary : Each (IsOrdinary s.rules) s.rul
           let kept = word_keeps w.is_trailing w.waiting w.position word w.held parts.0 well.0 in
           after_step_keeps _ word w _ parts.1 kept.0 kept.1 well.1
 
+  -- so it is after any words without a fault
   walk_keeps : (words : List Text) (w : Walk) → walk_fault s names w words ≡ [] → WalksWell w
       → WalksWell (fold (walked s.rules names) w words)
   unfolding walk_fault
@@ -140,6 +147,7 @@ module _ (s : Shape) (names : Names) (ordinary : Each (IsOrdinary s.rules) s.rul
 
   -- ---- defaults
 
+  -- the default values of an ordinary argument keep the entries ready, if they have no fault
   given_default_keeps : (a : Rule) (values : List Text) (rows : List Row) → IsOrdinary s.rules a
       → cond (is_empty values) [] (or_else (request_kinds (action_of a)) (values_fault a values)) ≡ []
       → Ready rows → Ready (default_rows a.id (reading_by a) values rows)
@@ -149,6 +157,7 @@ module _ (s : Shape) (names : Names) (ordinary : Each (IsOrdinary s.rules) s.rul
       let parts = both_empty (request_kinds (action_of a)) _ (rw some at e) in
       values_keep s.rules a DefaultValue (v ∷ vs) rows mine.own parts.1 (λ wanted. omega arith) all
 
+  -- the default values that an ordinary argument without an entry gets keep the entries ready, if they have no fault
   default_keeps : (a : Rule) (rows : List Row) → IsOrdinary s.rules a → default_fault rows a ≡ [] → Ready rows
       → Ready (with_default rows a)
   default_keeps a rows mine e all = go (has_row a.id rows) e
@@ -159,6 +168,7 @@ module _ (s : Shape) (names : Names) (ordinary : Each (IsOrdinary s.rules) s.rul
       go true none = all
       go false none = given_default_keeps a a.defaults rows mine none all
 
+  -- ordinary arguments that get their default values in turn keep the entries ready, if there is no fault
   defaults_keep : (more : List Rule) (rows : List Row) → Each (IsOrdinary s.rules) more → defaults_fault rows more ≡ []
       → Ready rows → Ready (fold with_default rows more)
   unfolding defaults_fault
@@ -177,6 +187,8 @@ module _ (s : Shape) (names : Names) (ordinary : Each (IsOrdinary s.rules) s.rul
     pub no_fault_below : below ≡ []
     pub checked : check_fault s (finished s.rules (walk s.rules names nothing_held words).held) has_subcommand ≡ []
 
+  -- if a level has no fault, its entries are ready, it does not stop at `help`, and there is no fault below nor in the
+  -- checks at the end
   pub level_leaves : (words : List Text) (has_subcommand : Bool) (below : Kinds)
       → level_fault s names nothing_held words has_subcommand below ≡ [] → Leaves words has_subcommand below
   level_leaves words has_subcommand below e =

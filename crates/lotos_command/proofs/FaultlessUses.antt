@@ -23,6 +23,7 @@ module _ (rules : List Rule) (again : Bool) (ordinary : Each (IsOrdinary rules) 
   abbrev Ready : List Row → Type 0
   Ready = Each (IsReady rules)
 
+  -- new values of an argument, without a fault and with one if one is required, keep the entries ready
   set_keeps : (a : Rule) (values : List Text) (rows : List Row) → arg_by_id rules a.id ≡ Some a
       → or_else (repeat_fault again a.id rows) (values_fault a values) ≡ [] → IsFilled a values → Ready rows
       → Ready (with_values a.id (reading_by a) CommandLine values (without a.id rows))
@@ -30,6 +31,7 @@ module _ (rules : List Rule) (again : Bool) (ordinary : Each (IsOrdinary rules) 
       let parts = both_empty (repeat_fault again a.id rows) _ e in
       values_keep rules a CommandLine values _ own parts.1 filled (without_keeps rules a.id rows all)
 
+  -- an action that does not count uses keeps the entries ready, if it has no fault, and a value if one is required
   action_keeps : (x : ArgAction) (a : Rule) (values : List Text) (rows : List Row) → arg_by_id rules a.id ≡ Some a
       → counts x ≡ false → action_fault x again a values rows ≡ [] → IsFilled a values → Ready rows
       → Ready (used_as x a.id (reading_by a) values rows)
@@ -43,6 +45,7 @@ module _ (rules : List Rule) (again : Bool) (ordinary : Each (IsOrdinary rules) 
   action_keeps action.HelpLong a values rows own plain e filled all = all
   action_keeps action.Version a values rows own plain e filled all = all
 
+  -- a use of an ordinary argument keeps the entries ready, if it has no fault
   use_keeps : (a : Rule) (values : List Text) (rows : List Row) → IsOrdinary rules a → use_fault again a values rows ≡ []
       → Ready rows → Ready (used a values rows)
   use_keeps a values rows mine e all =
@@ -55,6 +58,7 @@ module _ (rules : List Rule) (again : Bool) (ordinary : Each (IsOrdinary rules) 
   pub found_is_ordinary : (test : Rule → Bool) (a : Rule) → find test rules ≡ Some a → IsOrdinary rules a
   found_is_ordinary test a e = (each_found (IsOrdinary rules) test rules a ordinary e).0
 
+  -- the use of the pending argument, if there is one, keeps the entries ready, if it has no fault
   settled_rows_keep : (pending : Option (Text × List Text)) (rows : List Row)
       → option_map_or (λ p. option_map_or (λ a. use_fault again a p.1 rows) (arg_by_id rules p.0) []) pending [] ≡ []
       → Ready rows → Ready (settled_rows rules pending rows)

@@ -77,12 +77,14 @@ module _ (rules : List Rule) where
   abbrev Ready : List Row → Type 0
   Ready = Each (IsReady rules)
 
+  -- the new entry of an argument is ready, if its values passed, and it has one if one is required
   new_row : (a : Rule) (source : ValueSource) (values : List Text) → arg_by_id rules a.id ≡ Some a → values_fault a values ≡ []
       → IsFilled a values
       → Ready (record { id = a.id; values = values; count = None; source = Some source; reading = reading_by a } ∷ [])
   new_row a source values own passed filled =
       (record { rule = a; is = own; read = refl; passed = passed; filled = filled }, tt)
 
+  -- a ready entry of an argument with more values is ready, if these passed
   grown_row : (a : Rule) (source : ValueSource) (values : List Text) (r : Row) → arg_by_id rules a.id ≡ Some a
       → values_fault a values ≡ [] → bytes_eq r.id a.id ≡ true → IsReady rules r → Ready (more_values source values r)
   grown_row a source values r own passed same ready =

@@ -43,6 +43,7 @@ passed_is_accepted a v e =
     go false none = absurd (not_empty _ _ none)
 
 module _ (rules : List Rule) (rows : List Row) (all : Each (IsReady rules) rows) (id : Text) (a : Rule) (is : arg_by_id rules id ≡ Some a) where
+  -- a ready entry that has the id is that of `a`
   rule_is : (r : Row) (ready : IsReady rules r) → bytes_eq r.id id ≡ true → ready.rule ≡ a
   rule_is r ready same =
       let here : r.id ≡ id = (bytes_eq-Decides r.id id).0 same in
@@ -59,6 +60,7 @@ module _ (rules : List Rule) (rows : List Row) (all : Each (IsReady rules) rows)
       subst (λ (x : Rule). Accepts x.ignore_case (parser_of_value x.parser) v) same (passed_is_accepted ready.rule v first.0) in
       record { value = v; is = ap (λ x. read_as x v) how; accepted = taken }
 
+  -- the text of an entry of `a`, if there is one, is read of a value that the parser of `a` accepts
   row_reads : (r : Row) (ready : IsReady rules r) → ready.rule ≡ a → IfSome (row_text r) (IsReadFrom a)
   row_reads r ready same = go r.values ready.passed
     where

@@ -27,6 +27,7 @@ pub continues_all : (scope : Scope) (first : ℕ) (all rest : DefinitionListView
 continues_all scope first all rest e = (first, λ v h. subst (λ ds. In v (definitions_in_scope scope first ds)) e h)
 
 module _ (items : List Definition) (index : ℕ) (item : Definition) (below : index < length items) (is : item ≡ get_or items index item) where
+  -- the definitions from the index on are the one at the index, and then those from the next index on
   pub rest_at : definitions_view (drop index items) ≡ more_defs (definition_view item) (definitions_view (drop (index + 1) items))
   rest_at = ap definitions_view (drop_at items index item item below is)
 

@@ -18,9 +18,11 @@ use Rattle.lotos_explain.proofs.DefinitionScopes.{declared_placed}
 use Rattle.lotos_explain.proofs.SimilarNames.{some_weaker}
 
 module _ (items : List Definition) (i : ℕ) (item : Definition) (below : i < length items) (is : item ≡ get_or items i item) where
+  -- if the name of one of the definitions has an offset, one of the names that they declare has it
   pub declared_at : (at : ℕ) → (out-Definition item).name.at ≡ at → IsAmongAt (declared_names (definitions_view items)) at
   declared_at at e = record { gate = (out-Definition item).name; located = declared_placed items i item below is; offset = e }
 
+  -- if one of the definitions has the name of `p`, they declare this name at the offset that it has there
   pub declared_named : (p : Placed) → (out-Definition item).name.name ≡ p.name →
       IsNamedAt (declared_names (definitions_view items)) p.name (out-Definition item).name.at
   declared_named p e =
@@ -33,6 +35,8 @@ module _ (whole : DefinitionView) (list : List (Bor Definition)) (all : map (λ 
   listed = subst (λ ds. In (definition_view of.now) ds) all
       (in_map (λ (d : Bor Definition). definition_view d.now) of list (contains_in list of (i, below, sym is)))
 
+  -- if a formal gate of the definition has the offset of `p`, and `found`, if there is one, is that of a formal
+  -- gate with the name of `p`, then `found` is that of a first gate of this name
   pub gate_in_list : IsAmongAt (out-Definition of.now).formals.items p.at → IfSome found (IsNamedAt (out-Definition of.now).formals.items p.name) →
       IfSome found (IsFirstGate whole p)
   gate_in_list among named =
@@ -44,6 +48,8 @@ module _ (whole : DefinitionView) (list : List (Bor Definition)) (all : map (λ 
         first = subst (λ gs. IsNamedAt gs p.name at) (formals_shown of.now) h;
       }) named
 
+  -- if an inner process of the definition has the offset of `p`, and `found`, if there is one, is that of an
+  -- inner one with the name of `p`, then `found` is that of a first process of this name
   pub process_in_list : IsAmongAt (declared_names (definitions_view (out-Definition of.now).inner.items)) p.at →
       IfSome found (IsNamedAt (declared_names (definitions_view (out-Definition of.now).inner.items)) p.name) → IfSome found (IsFirstProcess whole p)
   process_in_list among named =

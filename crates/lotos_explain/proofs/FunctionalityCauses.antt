@@ -34,6 +34,7 @@ module _ (scope : Scope) where
   func_reached f b t (right_par h r) = h
   func_reached f b t (right_enable h r) = h
 
+  -- a behaviour has the functionality of its cause
   func_caused : (b : BehaviourView) (c : Cause) → HasCause scope b c → Func scope b c.functionality
   func_caused b c h = func_reached c.functionality b h.part h.reached
 
@@ -65,12 +66,15 @@ module _ (scope : Scope) where
     pub par_other : (s : SyncView) → c.functionality ≡ Exit → HasCause scope (par l s r) d
     par_other s e = record { part = k.part; is = k.is; reached = right_par (of_par (left_func Exit e) (func_caused r d k)) k.reached }
 
+  -- a prefix has each cause of the behaviour after its action
   pub prefix_caused : (a : Action) (b : BehaviourView) (c : Cause) → HasCause scope b c → HasCause scope (prefix a b) c
   prefix_caused a b c h = record { part = h.part; is = h.is; reached = under_prefix (of_prefix (func_caused b c h)) h.reached }
 
+  -- a hiding has each cause of the behaviour in it
   pub hide_caused : (gs : List Placed) (b : BehaviourView) (c : Cause) → HasCause scope b c → HasCause scope (hide gs b) c
   hide_caused gs b c h = record { part = h.part; is = h.is; reached = under_hide (of_hide (func_caused b c h)) h.reached }
 
+  -- an enabling has each cause of its right operand
   pub enable_caused : (l : BehaviourView) (at : ℕ) (r : BehaviourView) (c : Cause) → HasCause scope r c → HasCause scope (enable l at r) c
   enable_caused l at r c h = record { part = h.part; is = h.is; reached = right_enable (of_enable (func_caused r c h)) h.reached }
 
@@ -86,6 +90,7 @@ same_all all first n = record { number = first; left = λ j d h. h; only = λ j 
 
 module _ (all : DefinitionListView) (first : ℕ) (n : Name) (one : DefinitionView) (rest : DefinitionListView)
     (same : SameDeclared all first n (more_defs one rest)) where
+  -- if the first definition of the rest has the name, all the definitions declare it as this one
   pub same_here : (name_of one).name ≡ n → IsDeclared all first n one
   same_here e = record {
     process = same.number;
@@ -93,11 +98,13 @@ module _ (all : DefinitionListView) (first : ℕ) (n : Name) (one : DefinitionVi
         (subst (λ m. Declares (more_defs one rest) same.number m same.number one) e here);
   }
 
+  -- what the definitions declare by a name that the first of them does not have, those after it declare
   not_first : (k j : ℕ) (m : Name) (d : DefinitionView) → ((name_of one).name ≡ m → ⊥) → Declares (more_defs one rest) k m j d →
       Declares rest (k + 1 + count (inner_of one)) m j d
   not_first k j m d other here = absurd (other refl)
   not_first k j m d other (later h) = h
 
+  -- if the first definition of the rest does not have the name, those after it declare it just if all do
   pub same_next : ((name_of one).name ≡ n → ⊥) → SameDeclared all first n rest
   same_next other = record {
     number = same.number + 1 + count (inner_of one);
@@ -112,9 +119,11 @@ same_none all first n same k d h = elim (same.only k d h) [ ]
 
 -- what a test of the name of a definition says
 module _ (of : Definition) (n : Name) (b : Bool) (tested : b ≡ bytes_eq (out-Definition of).name.name n) where
+  -- if the test is true, the definition has the name
   pub is_named : b ≡ true → (name_of (definition_view of)).name ≡ n
   is_named e = ap (λ p. p.name) (sym (name_shown of)) ∙ (bytes_eq-Decides (out-Definition of).name.name n).0 (sym tested ∙ e)
 
+  -- if the test is false, the definition does not have the name
   pub is_not_named : b ≡ false → (name_of (definition_view of)).name ≡ n → ⊥
   is_not_named e same =
       let t = (bytes_eq-Decides (out-Definition of).name.name n).1 (ap (λ p. p.name) (name_shown of) ∙ same) in

@@ -27,6 +27,7 @@ module _ (around : List Name) (n : Name) (at : ℕ) where
     listed = h.listed;
   }
 
+  -- a hiding hides each gate of its list
   pub hides_itself : (gs : List Placed) (b : BehaviourView) → IsNamedAt gs n at → HidesAt around (hide gs b) n at
   hides_itself gs b h = record { there = around; gates = gs; part = b; inside = whole; listed = h }
 

@@ -21,6 +21,7 @@ among_at found i at d inside offset = record {
 }
 
 module _ (text : List ℕ) (at : ℕ) where
+  -- if the text lexes as a list that has the token at the offset, the text has the token there
   pub token_is : (found : List Token) (token : Token) → Lexes text found → IsAmongAt found at token → IsTokenAt text at token
   token_is found token lexes among = record {
     before = among.before;
@@ -29,6 +30,7 @@ module _ (text : List ℕ) (at : ℕ) where
     offset = among.offset;
   }
 
+  -- if the text lexes, no token of it is at the offset, and the text does not end there, then nothing is there
   pub nothing_in_tokens : (found : List Token) → ((t : List ℕ) (ts us : List Token) → Lexes t ts → Lexes t us → ts ≡ us)
       → ((t : List ℕ) (ts : List Token) (n : ℕ) → Lexes t ts → LexingFailsAt t n → ⊥) → Lexes text found → IsNoneAt found at → at ≢ length text
       → HasNothingAt text at
@@ -40,6 +42,7 @@ module _ (text : List ℕ) (at : ℕ) where
     no_end = no_end;
   }
 
+  -- if lexing fails elsewhere, and the text does not end at the offset, then nothing is there
   pub nothing_elsewhere : ((t : List ℕ) (n m : ℕ) → LexingFailsAt t n → LexingFailsAt t m → n ≡ m)
       → ((t : List ℕ) (ts : List Token) (n : ℕ) → Lexes t ts → LexingFailsAt t n → ⊥) → FailsElsewhere text at → at ≢ length text
       → HasNothingAt text at

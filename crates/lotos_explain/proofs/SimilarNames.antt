@@ -103,6 +103,7 @@ module _ (around : List Name) (place : Occurrence) where
   at_once b uses n visible = record { there = around; part = b; inside = whole; uses = uses; visible = visible }
 
 module _ (around : List Name) (at : ℕ) where
+  -- a call inside an operand is one inside the whole, at the same offset
   pub calls_deeper : (inside : List Name) (b c : BehaviourView) → ((there : List Name) (t : BehaviourView) → IsSubexpression inside b there t →
       IsSubexpression around c there t) → CallsAt inside b at → CallsAt around c at
   calls_deeper inside b c f h = record {
@@ -113,11 +114,13 @@ module _ (around : List Name) (at : ℕ) where
     offset = h.offset;
   }
 
+  -- a call contains a call at the offset of its name: itself
   pub calls_itself : (p : Placed) (gs : List Placed) → p.at ≡ at → CallsAt around (call p gs) at
   calls_itself p gs e = record { there = around; called = p; actuals = gs; inside = whole; offset = e }
 
 -- an operand's parts are parts of a behaviour with two operands
 module _ (around there : List Name) (t : BehaviourView) where
+  -- a part of the left operand is a part of the whole
   pub in_left_operand : (b : Behaviour) (left right : Box Behaviour Global) →
       ((s : SyncSet) × (b ≡ code.Par left s right)) ⊎ HasOperands b left right →
       IsSubexpression around (behaviour_view left.value) there t → IsSubexpression around (behaviour_view b) there t
@@ -126,6 +129,7 @@ module _ (around there : List Name) (t : BehaviourView) where
       by_operands (λ v. IsSubexpression around v there t) b left right
       (in_choice_left h) (λ at. in_enable_left h) (in_disable_left h) has
 
+  -- a part of the right operand is a part of the whole
   pub in_right_operand : (b : Behaviour) (left right : Box Behaviour Global) →
       ((s : SyncSet) × (b ≡ code.Par left s right)) ⊎ HasOperands b left right →
       IsSubexpression around (behaviour_view right.value) there t → IsSubexpression around (behaviour_view b) there t

@@ -11,6 +11,7 @@ use Rattle.lotos_explain.specs.UnguardedRings.{CallsUnguarded, left_choice, righ
 
 module _ (b : Behaviour) (left right : Box Behaviour Global) (p : Placed)
     (is : (b ≡ code.Choice left right) ⊎ ((s : SyncSet) × (b ≡ code.Par left s right)) ⊎ (b ≡ code.Disable left right)) where
+  -- a choice, a parallel composition or a disabling has the unguarded calls of its left operand
   pub left_unguarded : CallsUnguarded (behaviour_view left.value) p → CallsUnguarded (behaviour_view b) p
   left_unguarded h = elim is [
     | inl e ↦ rw e (left_choice h)
@@ -18,6 +19,7 @@ module _ (b : Behaviour) (left right : Box Behaviour Global) (p : Placed)
     | inr (inr e) ↦ rw e (left_disable h)
   ]
 
+  -- a choice, a parallel composition or a disabling has the unguarded calls of its right operand
   pub right_unguarded : CallsUnguarded (behaviour_view right.value) p → CallsUnguarded (behaviour_view b) p
   right_unguarded h = elim is [
     | inl e ↦ rw e (right_choice h)

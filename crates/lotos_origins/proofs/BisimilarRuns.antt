@@ -39,6 +39,8 @@ module _ (system : List Process) (forward : KeepsForward system) (backward : Kee
       let (v', last, alike) = alike_forward u v u' k rest further in
       (v', last, back like alike)
 
+  -- for each step of the second of two strongly bisimilar terms the first has one by its label, to a term that is
+  -- bisimilar to its target
   pub alike_backward : (t u u' : Term) (k : Label) → AreAlike system t u → Step system u k u' →
       (t' : Term) × Step system t k t' × AreAlike system t' u'
   alike_backward t _ u' k same step = (u', step, same)

@@ -31,6 +31,7 @@ module _ (v : TableView) (sound : IsSoundView v) (n m : ℕ) (u : Term) (there :
       let to : leads.to ≡ y = one_item v.terms b leads.to y leads.leads last in
       subst (λ z. Step v.processes x k z) to (subst (λ z. Step v.processes z k leads.to) from leads.step)
 
+  -- a step between terms is one between their numbers
   leads_as : (k : Label) (a b : ℕ) (x y : Term) → At a x → At b y → Step v.processes x k y → LeadsBy v k a b
   leads_as k a b x y first last step = record { from = x; to = y; located = first; leads = last; step = step }
 
@@ -38,9 +39,11 @@ module _ (v : TableView) (sound : IsSoundView v) (n m : ℕ) (u : Term) (there :
   part_below : (a : ℕ) → a < n → (bound : ℕ) → HasBodiesBelow v bound → n < bound → a < bound
   part_below a less bound bodies below = omega (arith, less, below)
 
+  -- the origin of an internal step from the term with the number `n` to `u` is one of a step from `n` to `m`
   made : (t : Term) (o : Origin) → At n t → InternalStep v.processes t o u → IsOriginIn v n m o
   made t o at step = record { from = t; to = u; located = at; leads = there; step = step }
 
+  -- an internal step from `a` to `b` is inside one from `n` to `m` if its origins are passed on and its numbers fall
   inner : (t x y : Term) (a b : ℕ) → At n t → At a x → At b y → Goes v.processes x y →
       ((o : Origin) → InternalStep v.processes x o y → InternalStep v.processes t o u) → (b < m) ⊎ ((b ≡ m) × (a < n)) →
       ((bound : ℕ) → HasBodiesBelow v bound → n < bound → a < bound) → IsInner v n m a b
@@ -58,9 +61,11 @@ module _ (v : TableView) (sound : IsSoundView v) (n m : ℕ) (u : Term) (there :
   is_inner : (a b : ℕ) (found : Finding) → found ≡ finding.Inner a b → IsInner v n m a b → IsFinding v n m found
   is_inner a b found is h = subst (IsFinding v n m) (sym is) h
 
+  -- a finding that is an origin of an internal step from `n` to `m` is right
   is_made : (o : Origin) (found : Finding) → found ≡ finding.Made o → IsOriginIn v n m o → IsFinding v n m found
   is_made o found is h = subst (IsFinding v n m) (sym is) h
 
+  -- an internal step of a prefix has the text as its origin
   pub prefix_found : (a : Option ℕ) (b : Term) → At n (prefix a b) → Goes v.processes (prefix a b) u → IsFinding v n m (finding.Made origin.Text)
   prefix_found a b at step =
       let (text, to) = of_prefix v.processes step in
@@ -173,6 +178,7 @@ module _ (v : TableView) (sound : IsSoundView v) (n m : ℕ) (u : Term) (there :
       let (k, less, located) = bodies p q listed in
       subst (λ j. j < bound) (sound.distinct k body q.body located at) less
 
+  -- inside an internal step of a call is one from the body of its process to the part of the target
   pub call_found : (p : ℕ) (gates : List ℕ) (body target : ℕ) → At n (call p gates) → Goes v.processes (call p gates) u → IsBodyIn v p body →
       ((pairs : List (ℕ × ℕ)) (t : Term) → u ≡ relabel pairs t → IsPart v.terms m t target) → IsFinding v n m (finding.Inner body target)
   call_found p gates body target at step is_body part =

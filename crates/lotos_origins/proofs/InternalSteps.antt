@@ -16,6 +16,7 @@ relabels_internal s.internal_stays = refl
 relabels_internal (s.later apart r) = absurd (let same : l.Gate _ ≡ l.Internal = relabels_internal r in cc)
 
 module _ (system : List Process) where
+  -- an internal step with an origin is a step by the internal action
   pub is_step : {t u : Term} {o : Origin} → InternalStep system t o u → Step system t l.Internal u
   is_step i.acts_inside = s.acts_inside
   is_step (i.chooses_left r) = s.chooses_left (is_step r)
@@ -31,6 +32,7 @@ module _ (system : List Process) where
   is_step (i.calls at r) = s.calls at (is_step r)
   is_step (i.relabels r) = s.relabels s.internal_stays (is_step r)
 
+  -- each step by the internal action is an internal step with some origin
   pub has_origin : {t u : Term} {k : Label} → Step system t k u → k ≡ l.Internal → (o : Origin) × InternalStep system t o u
   has_origin s.terminates e = absurd cc
   has_origin s.acts e = absurd cc
@@ -51,16 +53,19 @@ module _ (system : List Process) where
   has_origin (s.relabels {m = m} {k = k} changes r) e =
       let (o, inner) = has_origin r (relabels_internal (subst (Relabels m k) e changes)) in (o, i.relabels inner)
 
+  -- a derivation with origins is a derivation by the same run
   pub derives : {t u : Term} {run : List Label} {origins : List Origin} → DerivesBy system t run origins u → DerivesByNumber system t run u
   derives i.ends = refl
   derives (i.observably {u = v} other step rest) = (v, step, derives rest)
   derives (i.internally {u = v} step rest) = (v, is_step step, derives rest)
 
+  -- a label is the internal action or not
   internal_or_not : (k : Label) → (k ≡ l.Internal) ⊎ (k ≢ l.Internal)
   internal_or_not l.Internal = inl refl
   internal_or_not l.Exit = inr (λ e. cc)
   internal_or_not (l.Gate g) = inr (λ e. cc)
 
+  -- each derivation by a run is one with some origins
   pub has_origins : (t u : Term) (run : List Label) → DerivesByNumber system t run u → (origins : List Origin) × DerivesBy system t run origins u
   has_origins t u [] same = ([], subst (DerivesBy system t [] []) same i.ends)
   has_origins t u (k ∷ run) (v, step, rest) =

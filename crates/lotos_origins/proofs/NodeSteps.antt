@@ -18,6 +18,7 @@ if_ok P Q (Ok x) follows says = follows x says
 if_ok P Q (Err e) follows says = tt
 
 module _ (old new : TableView) (grows : Grows old new) (store : StoreView) (same : store.terms ≡ old.terms) (n m : ℕ) (leads : LeadsInternally old n m) where
+  -- a term of the store has its number in the new table
   stored : (k : ℕ) (t : Term) → slice_get store.terms k ≡ Some t → slice_get new.terms k ≡ Some t
   stored k t at = grows.terms k t (subst (λ ts. slice_get ts k ≡ Some t) same at)
 

@@ -25,11 +25,13 @@ end_before old new grows set n known (t, at, none) =
     (s, was, subst (λ v. HasNoStepWith old.processes set v) same (subst (λ (ps : List Process). HasNoStepWith ps set t) grows.processes none))
 
 module _ (v : TableView) (n : ℕ) (known : n < length v.terms) (list : List (Label × ℕ)) (steps : AreSuccessors v n list) (set : LabelFlags) where
+  -- a term is an end if none of its listed steps has a label of the set
   no_listed : (HasStepWith set list → ⊥) → IsEndAt v set n
   no_listed none =
       let (t, at) = get_some v.terms n known in
       (t, at, λ k u step has. let (m, there, listed) = steps.all t at k u step in none ((k, m), listed, has))
 
+  -- a term is no end if one of its listed steps has a label of the set
   some_listed : HasStepWith set list → IsEndAt v set n → ⊥
   some_listed ((k, m), listed, has) (t, at, none) =
       let (u, there, step) = steps.only t at k m listed in
@@ -46,6 +48,7 @@ abbrev pub HasNoEndBelow : TableView → LabelFlags → List ℕ → ℕ → Typ
 HasNoEndBelow v set terms n = (j x : ℕ) → j < n → slice_get terms j ≡ Some x → IsEndAt v set x → ⊥
 
 module _ (first now : TableView) (set : LabelFlags) (terms : List ℕ) where
+  -- if neither the first `n` terms of the list are ends nor the next one is, the first `n + 1` are none
   pub no_end_more : (n y : ℕ) → Grows first now → slice_get terms n ≡ Some y → (IsEndAt now set y → ⊥) → HasNoEndBelow first set terms n →
       HasNoEndBelow first set terms (n + 1)
   no_end_more n y grows at none so_far = λ j x less there is. elim (cases_eq j n) [
@@ -55,6 +58,7 @@ module _ (first now : TableView) (set : LabelFlags) (terms : List ℕ) where
     | inr apart ↦ so_far j x (omega (arith, less, apart)) there is
   ]
 
+  -- if no term at an index below the length of the list is an end, no term of the list is
   pub no_end_at_all : (n : ℕ) → n ≡ length terms → HasNoEndBelow first set terms n → (x : ℕ) × In x terms × IsEndAt first set x → ⊥
   no_end_at_all n end so_far (x, there, is) =
       let (j, at) = in_get terms x there in

@@ -15,9 +15,11 @@ pub record AreTargetsTo (list : List (Label × ℕ)) (label : Label) (n : ℕ) (
   pub all : (j m : ℕ) → j < n → slice_get list j ≡ Some (label, m) → In m targets
 
 module _ (list : List (Label × ℕ)) (label : Label) where
+  -- the empty list has the targets of the first 0 steps
   pub no_targets : AreTargetsTo list label 0 []
   no_targets = record { only = λ m none. absurd none; all = λ j m less at. absurd (omega arith) }
 
+  -- the targets and that of the next step, which has the label, are those of one step more
   pub target_more : (n : ℕ) (targets more : List ℕ) (k : Label) (x : ℕ) → slice_get list n ≡ Some (k, x) → k ≡ label → more ≡ targets ++ x ∷ [] →
       AreTargetsTo list label n targets → AreTargetsTo list label (n + 1) more
   target_more n targets more k x at same longer so_far = record {
@@ -33,6 +35,7 @@ module _ (list : List (Label × ℕ)) (label : Label) where
     ];
   }
 
+  -- the targets are those of one step more, if the next step has another label
   pub target_skipped : (n : ℕ) (targets : List ℕ) (k : Label) (x : ℕ) → slice_get list n ≡ Some (k, x) → (k ≡ label → ⊥) →
       AreTargetsTo list label n targets → AreTargetsTo list label (n + 1) targets
   target_skipped n targets k x at other so_far = record {
@@ -44,6 +47,7 @@ module _ (list : List (Label × ℕ)) (label : Label) where
     ];
   }
 
+  -- if the targets are those of as many steps as the list has, each target of a step with the label is among them
   pub all_targets : (n : ℕ) (targets : List ℕ) → n ≡ length list → AreTargetsTo list label n targets → (m : ℕ) →
       In {X = Label × ℕ} (label, m) list → In m targets
   all_targets n targets end so_far m there =

@@ -75,6 +75,7 @@ demands refused (l ∷ []) = demands_after refused l
 demands refused (l ∷ m ∷ s) = demands refused (m ∷ s)
 
 module _ (strong : Bool) (refused : Option LabelSet) where
+  -- each of the elements after the last label can occur
   end_occurs : (d : Option LabelSet) → All (CanOccur strong) (end_elements d)
   end_occurs None = All-nil (CanOccur strong)
   end_occurs (Some set) = All-cons (CanOccur strong) (refuses set) [] ([], refl, All-nil (IsObservable strong)) (All-nil (CanOccur strong))
@@ -87,6 +88,7 @@ module _ (strong : Bool) (refused : Option LabelSet) where
       All-cons (CanOccur strong) (label_element l) (exact_elements refused s) (l ∷ [], (l, own_contained l, refl), alone)
       (all_occur s (All-tail (IsObservable strong) l s seen))
 
+  -- there is at most one element after the last label
   end_short : (d : Option LabelSet) → length (end_elements d) ≤ 1
   end_short None = omega arith
   end_short (Some set) = omega arith

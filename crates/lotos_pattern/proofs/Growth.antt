@@ -67,12 +67,14 @@ module _ (strong : Bool) where
       subst (IsSpelledAt (SetSpelling strong set) words index) same
       (spelled_by_two words index at.first at.first_at (SetSpelling strong set) at.second at.second_at at.spelling)
 
+  -- if words spell elements, and more words one element more, then all the words spell all the elements
   joined_more : (p : List Element) (e : Element) (words own : List Text) → IsJoin (Spelling strong) p words → Spelling strong e own →
       IsJoin (Spelling strong) (p ++ e ∷ []) (words ++ own)
   joined_more [] e words own none spelling = (own, [], spelling, refl, ap (λ front. front ++ own) none ∙ sym (append-nil own))
   joined_more (f ∷ p) e words own (front, rest, first, others, cut) spelling =
       (front, rest ++ own, first, joined_more p e rest own others spelling, ap (λ l. l ++ own) cut ∙ append_assoc front rest own)
 
+  -- if no element demands that the end refuses a set, and one is appended, then no element but the last demands it
   ends_last_more : (p : List Element) (e : Element) → OnlyLastDemandsRefusal p → (IsDemanded (last_refusal p) → ⊥) → OnlyLastDemandsRefusal (p ++ e ∷ [])
   ends_last_more [] e last goes_on = tt
   ends_last_more (f ∷ []) e last goes_on = (goes_on, tt)
@@ -93,6 +95,7 @@ module _ (strong : Bool) where
     ends_last = ends_last_more p e spelled.ends_last has.goes_on;
   }
 
+  -- each of the elements that words spell can occur
   all_occur : (p : List Element) (words : List Text) → IsJoin (Spelling strong) p words → All (CanOccur strong) p
   all_occur [] words none = All-nil (CanOccur strong)
   all_occur (e ∷ p) words (front, rest, spelling, others, cut) = All-cons (CanOccur strong) e p (can_occur strong e front spelling) (all_occur p rest others)

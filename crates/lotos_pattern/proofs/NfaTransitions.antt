@@ -117,9 +117,11 @@ module _ (strong : Bool) (p : List Element) (from : Place) (l : Label) (k : ℕ)
   ]
   gains Reject old new takes marks n has = inl ((marks n).0 has)
 
+  -- if the transition is `Advance`, the new place has the state after `k`
   to_next : (t : Transition) (old new : Place) → HasTransition t k old new → t ≡ Advance → HasState new (k + 1)
   to_next t old new marks is = let own = subst (λ u. HasTransition u k old new) is marks in (own (k + 1)).1 (inr refl)
 
+  -- if the transition is `Stay`, the new place has the state `k`
   to_same : (t : Transition) (old new : Place) → HasTransition t k old new → t ≡ Stay → HasState new k
   to_same t old new marks is = let own = subst (λ u. HasTransition u k old new) is marks in (own k).1 (inr refl)
 
@@ -191,6 +193,7 @@ states_begin p none place bare has k = (
 )
 
 module _ (p : Pattern) (r : List Label) (l : Label) (place onward : Place) (stands : HasStatesAfter p r place) where
+  -- to each state after `r` and then the label, the label leads from some state of the place of `r`
   last_led : (k : ℕ) → Ended p.elements (r ++ l ∷ []) k → LeadsFrom p.elements place l k
   last_led k (at_start none first) = absurd (not_empty r l none)
   last_led k (after_label q m j cut before lead) =

@@ -36,6 +36,7 @@ same_bit a b small too same = elim (cases_eq a 1) [
 ]
 
 module _ (a b : Place) (own : IsPlaceValue a) (other : IsPlaceValue b) (same : (k : ℕ) → HasState a k ↔ HasState b k) where
+  -- at each index of the words of `a`, both places have the same word
   same_word : (i : ℕ) → i < length a.bits → get_or a.bits i 0 ≡ get_or b.bits i 0
   same_word i within =
       let count = own.count in

@@ -70,9 +70,11 @@ module _ (place : Place) (n : ℕ) where
       let cut : word / 2 ^ (n % 64) / 2 ^ (k - n) ≡ word / 2 ^ (k % 64) = shr-shr word (n % 64) (k - n) ∙ ap (λ i. word / 2 ^ i) further in
       ap (λ x. bit_at x (k % 64)) at ∙ ap (λ x. x % 2) (sym cut)
 
+  -- if no bit of the word of state `n` is set from that of `n` on, the place has no state from `n` on in this word
   pub no_more : get_or place.bits (n / 64) 0 / 2 ^ (n % 64) ≡ 0 → (k : ℕ) → n ≤ k → k / 64 ≡ n / 64 → HasState place k → ⊥
   no_more none k from same has = let off = shifted k from same ∙ ap (λ word. bit_at word (k - n)) none ∙ bit_at-zero (k - n) in omega (arith, off, has)
 
+  -- if a bit of the word of state `n` is set from that of `n` on, the lowest of these is the first state from `n` on
   pub first_here : get_or place.bits (n / 64) 0 < 2 ^ 64 → 0 < get_or place.bits (n / 64) 0 / 2 ^ (n % 64) →
       IsFirstState place n (n + trailing_zeros w64 (get_or place.bits (n / 64) 0 / 2 ^ (n % 64)))
   first_here small some =

@@ -15,23 +15,28 @@ abbrev IsOutside : LabelSet → Label → Type 0
 IsOutside set l = IsIn l set → ⊥
 
 module _ (set : LabelSet) (l : Label) where
+  -- a label of the set has the transition `Advance` at the element `one set`
   pub one_passes : IsIn l set → IsTransition (one set) l Advance
   unfolding IsTransition
   one_passes has s = (λ (x, is, e). let none : s ≡ [] = cc in none, λ e. (l, has, ap (λ rest. l ∷ rest) e))
 
+  -- a label outside of the set has the transition `Reject` at the element `one set`
   pub one_fails : (IsIn l set → ⊥) → IsTransition (one set) l Reject
   unfolding IsTransition
   one_fails none s (x, is, e) = let same : x ≡ l = cc in none (subst (λ v. IsIn v set) same is)
 
+  -- if the first label of a sequence is in the set, and all but the last are outside of it, no label follows the first
   until_ends : (s before : List Label) (x : Label) → IsIn l set → All (IsOutside set) before → l ∷ s ≡ before ++ x ∷ [] → s ≡ []
   until_ends s [] x has h e = cc
   until_ends s (y ∷ before) x has h e = absurd (let same : l ≡ y = cc in All-head (IsOutside set) y before h (subst (λ v. IsIn v set) same has))
 
+  -- if a segment of `until set` begins with a label outside of the set, the rest of it is a segment too
   until_goes_on : (s before : List Label) (x : Label) → (IsIn l set → ⊥) → All (IsOutside set) before → IsIn x set → l ∷ s ≡ before ++ x ∷ [] →
       Segment (until set) s
   until_goes_on s [] x none h is e = absurd (let same : x ≡ l = cc in none (subst (λ v. IsIn v set) same is))
   until_goes_on s (y ∷ before) x none h is e = (before, x, All-tail (IsOutside set) y before h, is, let rest : s ≡ before ++ x ∷ [] = cc in rest)
 
+  -- a label of the set has the transition `Advance` at the element `until set`
   pub until_passes : IsIn l set → IsTransition (until set) l Advance
   unfolding IsTransition
   until_passes has s = (
@@ -39,6 +44,7 @@ module _ (set : LabelSet) (l : Label) where
     λ e. ([], l, All-nil (IsOutside set), has, ap (λ rest. l ∷ rest) e),
   )
 
+  -- a label outside of the set has the transition `Stay` at the element `until set`
   pub until_stays : (IsIn l set → ⊥) → IsTransition (until set) l Stay
   unfolding IsTransition
   until_stays none s = (
@@ -46,10 +52,12 @@ module _ (set : LabelSet) (l : Label) where
     λ (before, x, h, is, e). (l ∷ before, x, All-cons (IsOutside set) l before none h, is, ap (λ rest. l ∷ rest) e),
   )
 
+  -- a label of the set has the transition `Stay` at the element `while set`
   pub while_stays : IsIn l set → IsTransition (while set) l Stay
   unfolding IsTransition
   while_stays has s = (λ h. All-tail (λ v. IsIn v set) l s h, λ h. All-cons (λ v. IsIn v set) l s has h)
 
+  -- a label outside of the set has the transition `Reject` at the element `while set`
   pub while_fails : (IsIn l set → ⊥) → IsTransition (while set) l Reject
   unfolding IsTransition
   while_fails none s h = none (All-head (λ v. IsIn v set) l s h)
@@ -65,6 +73,7 @@ unfolding IsTransition
 until_refuses_stays set l s = (λ h. tt, λ h. tt)
 
 module _ (strong : Bool) where
+  -- if a label can be observed, all labels of the sequence of this label alone can be observed
   alone : (l : Label) → IsObservable strong l → All (IsObservable strong) (l ∷ [])
   alone l h = All-cons (IsObservable strong) l [] h (All-nil (IsObservable strong))
 
@@ -72,9 +81,11 @@ module _ (strong : Bool) where
   one_occurs : (set : LabelSet) → (l : Label) × IsIn l set × IsObservable strong l → CanOccur strong (one set)
   one_occurs set (l, has, seen) = (l ∷ [], (l, has, refl), alone l seen)
 
+  -- with a label of the set that can be observed, the element `until set` can occur
   until_occurs : (set : LabelSet) → (l : Label) × IsIn l set × IsObservable strong l → CanOccur strong (until set)
   until_occurs set (l, has, seen) = (l ∷ [], ([], l, All-nil (IsOutside set), has, refl), alone l seen)
 
+  -- the element `while set` can occur, whatever the set
   while_occurs : (set : LabelSet) → CanOccur strong (while set)
   while_occurs set = ([], All-nil (λ x. IsIn x set), All-nil (IsObservable strong))
 

@@ -62,18 +62,22 @@ module _ (strong : Bool) where
     while_head : {first : Text} {rest : List Text} → IsWhile first → WideSetHead rest → ElementHead (first ∷ rest)
     end_head : {words : List Text} → RefusalHead words → ElementHead words
 
+  -- the spelling of a set, with any words after it, begins with the words of a set
   set_begins : (set : LabelSet) (own rest : List Text) → SetSpelling strong set own → SetHead (own ++ rest)
   set_begins _ _ rest (named {labels = labels} n) = names_head (labels, n)
   set_begins _ _ rest (complement {labels = labels} i n) = not_head i (labels, n)
 
+  -- the spelling of a set, even of that of all labels, with any words after it, begins with the words of such a set
   wide_set_begins : (set : LabelSet) (own rest : List Text) → WideSetSpelling strong set own → WideSetHead (own ++ rest)
   wide_set_begins set own rest (some h) = some_head (set_begins set own rest h)
   wide_set_begins _ _ rest (all i) = all_head i
 
+  -- the spelling of a demand on the end, with any words after it, begins with the words of such a demand
   refusal_begins : (set : LabelSet) (own rest : List Text) → RefusalSpelling strong set own → RefusalHead (own ++ rest)
   refusal_begins _ _ rest (deadlock i) = deadlock_head i
   refusal_begins set _ rest (refused {rest = own} i h) = refuses_head i (wide_set_begins set own rest h)
 
+  -- the spelling of an element, with any words after it, begins with the words of an element
   element_begins : (e : Element) (own rest : List Text) → Spelling strong e own → ElementHead (own ++ rest)
   element_begins _ own rest (one_of {set = set} h) = set_head (wide_set_begins set own rest h)
   element_begins _ _ rest (until_set {set = set} {rest = own} i h) = until_head i (set_begins set own rest h)
@@ -81,6 +85,7 @@ module _ (strong : Bool) where
   element_begins _ own rest (end {set = set} h) = end_head (refusal_begins set own rest h)
   element_begins _ _ rest (until_end {set = set} {rest = own} i h) = until_end_head i (refusal_begins set own rest h)
 
+  -- a list of words does not begin with those of an element if its first word begins none
   no_beginning : (word : Text) (tail : List Text) → BeginsNoElement strong word → ElementHead (word ∷ tail) → ⊥
   no_beginning word tail none (set_head (some_head (names_head n))) = none.labels n
   no_beginning word _ none (set_head (some_head (not_head i n))) = none.complement i
@@ -91,6 +96,7 @@ module _ (strong : Bool) where
   no_beginning word tail none (end_head (deadlock_head i)) = none.deadlock i
   no_beginning word tail none (end_head (refuses_head i h)) = none.refuses i
 
+  -- if internal steps are not observed, no element begins with a word that names the internal action
   no_internal : (word : Text) (tail : List Text) → strong ≡ false → NamesInternal word → ElementHead (word ∷ tail) → ⊥
   no_internal word tail hidden is (set_head (some_head (names_head n))) = internal_no_labels strong word hidden is n
   no_internal word _ hidden is (set_head (some_head (not_head i n))) = internal_no_angle word _ is i
@@ -112,6 +118,7 @@ module _ (strong : Bool) where
   no_angle word tail more is differ (end_head (deadlock_head i)) = apart word _ _ i is differ.deadlock
   no_angle word tail more is differ (end_head (refuses_head i h)) = apart word _ _ i is differ.refuses
 
+  -- no element begins with a demand on what can come after the end
   no_future : (word : Text) (more : List Text) → IsFuture word → ElementHead (word ∷ more) → ⊥
   no_future word more (inl is) = no_angle word _ more is
       (record { complement = refl; any = refl; until = refl; while = refl; deadlock = refl; refuses = refl })
@@ -128,6 +135,7 @@ module _ (strong : Bool) where
   data NotTail : List Text → Type 0 where
     not_ends : {word : Text} {more : List Text} → IsLabels strong word → NotTail (word ∷ more)
 
+  -- if an element begins with `<until>`, the next words begin with those of a set or of a demand on the end
   until_tail : (word : Text) (tail : List Text) → IsUntil word → ElementHead (word ∷ tail) → UntilTail tail
   until_tail word tail is (set_head (some_head (names_head n))) = absurd (labels_no_angle strong word _ n is)
   until_tail word _ is (set_head (some_head (not_head i n))) = absurd (apart word _ _ is i refl)
@@ -138,6 +146,7 @@ module _ (strong : Bool) where
   until_tail word tail is (end_head (deadlock_head i)) = absurd (apart word _ _ is i refl)
   until_tail word tail is (end_head (refuses_head i h)) = absurd (apart word _ _ is i refl)
 
+  -- if an element begins with `<while>`, the next words begin with those of a set, which may be that of all labels
   while_tail : (word : Text) (tail : List Text) → IsWhile word → ElementHead (word ∷ tail) → WideSetHead tail
   while_tail word tail is (set_head (some_head (names_head n))) = absurd (labels_no_angle strong word _ n is)
   while_tail word _ is (set_head (some_head (not_head i n))) = absurd (apart word _ _ is i refl)
@@ -148,6 +157,7 @@ module _ (strong : Bool) where
   while_tail word tail is (end_head (deadlock_head i)) = absurd (apart word _ _ is i refl)
   while_tail word tail is (end_head (refuses_head i h)) = absurd (apart word _ _ is i refl)
 
+  -- if an element begins with `<refuses>`, the next words begin with those of a set, which may be that of all labels
   refuses_tail : (word : Text) (tail : List Text) → IsRefuses word → ElementHead (word ∷ tail) → WideSetHead tail
   refuses_tail word tail is (set_head (some_head (names_head n))) = absurd (labels_no_angle strong word _ n is)
   refuses_tail word _ is (set_head (some_head (not_head i n))) = absurd (apart word _ _ is i refl)
@@ -158,6 +168,7 @@ module _ (strong : Bool) where
   refuses_tail word tail is (end_head (deadlock_head i)) = absurd (apart word _ _ is i refl)
   refuses_tail word tail is (end_head (refuses_head i h)) = h
 
+  -- if an element begins with `<not>`, the next word names labels
   not_tail : (word : Text) (tail : List Text) → IsNot word → ElementHead (word ∷ tail) → NotTail tail
   not_tail word tail is (set_head (some_head (names_head n))) = absurd (labels_no_angle strong word _ n is)
   not_tail word _ is (set_head (some_head (not_head i n))) = not_ends n
@@ -172,30 +183,37 @@ module _ (strong : Bool) where
   no_set_head : SetHead [] → ⊥
   no_set_head h = elim h [ ]
 
+  -- the empty list does not begin with the words of a set, not even with those of the set of all labels
   no_wide_set_head : WideSetHead [] → ⊥
   no_wide_set_head (some_head h) = no_set_head h
 
+  -- the empty list does not begin with the words of a demand on the end
   no_refusal_head : RefusalHead [] → ⊥
   no_refusal_head h = elim h [ ]
 
+  -- if there is no word after `<until>`, no element goes on
   until_stops : UntilTail [] → ⊥
   until_stops (until_goes_on h) = no_set_head h
   until_stops (until_ends h) = no_refusal_head h
 
+  -- if there is no word after `<not>`, no set goes on
   not_stops : NotTail [] → ⊥
   not_stops h = elim h [ ]
 
+  -- no element goes on after `<until>` if the next word goes on none that `<until>` begins
   until_fails : (word : Text) (tail : List Text) → EndsNoUntil strong word → UntilTail (word ∷ tail) → ⊥
   until_fails word tail none (until_goes_on (names_head n)) = none.labels n
   until_fails word _ none (until_goes_on (not_head i n)) = none.complement i
   until_fails word tail none (until_ends (deadlock_head i)) = none.deadlock i
   until_fails word tail none (until_ends (refuses_head i h)) = none.refuses i
 
+  -- a list of words does not begin with those of a set, be it that of all labels, if its first word begins none
   wide_set_fails : (word : Text) (tail : List Text) → BeginsNoSet strong word → WideSetHead (word ∷ tail) → ⊥
   wide_set_fails word tail none (some_head (names_head n)) = none.labels n
   wide_set_fails word _ none (some_head (not_head i n)) = none.complement i
   wide_set_fails word tail none (all_head i) = none.any i
 
+  -- no set goes on after `<not>` if the next word does not name labels
   not_fails : (word : Text) (tail : List Text) → (IsLabels strong word → ⊥) → NotTail (word ∷ tail) → ⊥
   not_fails word tail none (not_ends n) = none n
 
@@ -214,6 +232,7 @@ module _ (strong : Bool) where
     spelling : Spelling strong element front
     cut : drop index words ≡ front ++ rest
 
+  -- if the words from the index on, one at least, spell the elements of `q` after `p`, the first of these begins there
   next_of : (words : List Text) (index : ℕ) (p q more : List Element) → index < length words → q ≡ p ++ more →
       IsJoin (Spelling strong) more (drop index words) → Next words index p q
   next_of words index p q [] there whole none = let long = length-drop index words in let empty = ap length none in absurd (omega arith)
@@ -420,6 +439,8 @@ module _ (strong : Bool) where
 
 -- a word in angle brackets goes on with no element that another one does
 module _ (strong : Bool) (word rest : Text) (is : EqualsIgnoringCase word (60 ∷ rest)) where
+  -- a word in angle brackets goes on no element that `<until>` begins, if it differs from `<not>`, `<deadlock>` and
+  -- `<refuses>` and is no demand on what can come after the end
   pub angle_ends_none : Differ (codes "<not>") (60 ∷ rest) → Differ (codes "<deadlock>") (60 ∷ rest) → Differ (codes "<refuses>") (60 ∷ rest) →
       (IsFuture word → ⊥) → EndsNoUntil strong word
   angle_ends_none no_not no_deadlock no_refuses no_future = record {
@@ -438,6 +459,7 @@ module _ (strong : Bool) (word rest : Text) (is : EqualsIgnoringCase word (60 �
   angle_no_future no_livelock no_forever no_never (inr (inl h)) = apart word (codes "<forever>") (60 ∷ rest) h is no_forever
   angle_no_future no_livelock no_forever no_never (inr (inr h)) = apart word (codes "<never>") (60 ∷ rest) h is no_never
 
+  -- a word in angle brackets begins no set, if it differs from `<not>` and `<any>`
   pub angle_begins_no_set : Differ (codes "<not>") (60 ∷ rest) → Differ (codes "<any>") (60 ∷ rest) → BeginsNoSet strong word
   angle_begins_no_set no_not no_any = record {
     labels = λ n. labels_no_angle strong word rest n is;
@@ -446,6 +468,7 @@ module _ (strong : Bool) (word rest : Text) (is : EqualsIgnoringCase word (60 �
     any = λ h. apart word (codes "<any>") (60 ∷ rest) h is no_any;
   }
 
+  -- a word in angle brackets ends no set that `<not>` begins
   pub angle_names_none : EndsNoComplement strong word
   angle_names_none = record { labels = λ n. labels_no_angle strong word rest n is; internal = λ n. internal_no_angle word rest n is }
 

@@ -16,6 +16,7 @@ module _ (strong : Bool) where
     labels : IsLabels strong word → Marks word []
     angle : {rest : Text} → EqualsIgnoringCase word (60 ∷ rest) → Marks word (60 ∷ rest)
 
+  -- a word has at most one mark
   one_mark : (word text other : Text) → Marks word text → Marks word other → text ≡ other
   one_mark word _ _ (labels h) (labels k) = refl
   one_mark word _ _ (labels h) (angle {rest = rest} k) = absurd (labels_no_angle strong word rest h k)
@@ -49,18 +50,22 @@ module _ (strong : Bool) where
     begins : words ≡ word ∷ rest
     marks : Marks word text
 
+  -- the spelling of a set has a first word, with the mark of the spelling
   first_of_set : (set : LabelSet) (words : List Text) (h : SetSpelling strong set words) → First words (set_mark h)
   first_of_set _ _ (named {word = w} {labels = ls} n) = record { word = w; rest = []; begins = refl; marks = labels (ls, n) }
   first_of_set _ _ (complement {first = w} {second = t} i n) = record { word = w; rest = t ∷ []; begins = refl; marks = angle i }
 
+  -- the spelling of a set that may be that of all labels has a first word, with the mark of the spelling
   first_of_wide_set : (set : LabelSet) (words : List Text) (h : WideSetSpelling strong set words) → First words (wide_mark h)
   first_of_wide_set set words (some h) = first_of_set set words h
   first_of_wide_set _ _ (all {word = w} i) = record { word = w; rest = []; begins = refl; marks = angle i }
 
+  -- the spelling of a demand on the end has a first word, with the mark of the spelling
   first_of_refusal : (set : LabelSet) (words : List Text) (h : RefusalSpelling strong set words) → First words (refusal_mark h)
   first_of_refusal _ _ (deadlock {word = w} i) = record { word = w; rest = []; begins = refl; marks = angle i }
   first_of_refusal _ _ (refused {first = w} {rest = rest} i h) = record { word = w; rest = rest; begins = refl; marks = angle i }
 
+  -- the spelling of an element has a first word, with the mark of the spelling
   first : (e : Element) (words : List Text) (h : Spelling strong e words) → First words (mark h)
   first _ words (one_of {set = set} h) = first_of_wide_set set words h
   first _ _ (until_set {first = w} {rest = rest} i h) = record { word = w; rest = rest; begins = refl; marks = angle i }
@@ -68,6 +73,7 @@ module _ (strong : Bool) where
   first _ words (end {set = set} h) = first_of_refusal set words h
   first _ _ (until_end {first = w} {rest = rest} i h) = record { word = w; rest = rest; begins = refl; marks = angle i }
 
+  -- if two lists of words with more words after them are the same list, their first words are the same
   same_first : (a b x y r s : List Text) (w v : Text) → a ≡ w ∷ r → b ≡ v ∷ s → a ++ x ≡ b ++ y → w ≡ v
   same_first a b x y r s w v i j e = let joined : w ∷ (r ++ x) ≡ v ∷ (s ++ y) = sym (ap (λ l. l ++ x) i) ∙ e ∙ ap (λ l. l ++ y) j in cc
 
@@ -84,12 +90,15 @@ module _ (strong : Bool) where
     set : s ≡ t
     rest : x ≡ y
 
+  -- one word names at most one list of labels
   labels_of_one : (w v : Text) (l m : List Label) → w ≡ v → NamesLabels strong w l → NamesLabels strong v m → l ≡ m
   labels_of_one w v l m same n k = same_labels strong (parts_of w) l m n (subst (λ u. NamesLabels strong u m) (sym same) k)
 
+  -- a word that names labels is none in angle brackets
   labels_no_word : (w v tail : Text) (l : List Label) → w ≡ v → NamesLabels strong w l → EqualsIgnoringCase v (60 ∷ tail) → ⊥
   labels_no_word w v tail l same n i = labels_no_angle strong v tail (l, subst (λ u. NamesLabels strong u l) same n) i
 
+  -- if the same words begin with spellings of two sets, these are the same set, and the same words follow them
   one_set : (s t : LabelSet) (a b x y : List Text) → SetSpelling strong s a → SetSpelling strong t b → a ++ x ≡ b ++ y → OneSet s t x y
   one_set _ _ _ _ x y (named {word = w} {labels = l} n) (named {word = v} {labels = m} k) e =
       let same : w ≡ v = cc in record { set = ap these (labels_of_one w v l m same n k); rest = cc }
@@ -143,6 +152,7 @@ module _ (strong : Bool) where
   abbrev kind_of_letter : ℕ → ℕ
   kind_of_letter n = choose (n == 117) 1 (choose (n == 119) 2 (choose ((n == 100) || (n == 114)) 3 0))
 
+  -- the second letter of the mark of a spelling tells the kind of the element
   kind_of_mark : (e : Element) (words : List Text) (h : Spelling strong e words) → kind_of_letter (get_or (mark h) 1 0) ≡ kind h
   kind_of_mark _ _ (one_of (some (named n))) = refl
   kind_of_mark _ _ (one_of (some (complement i n))) = refl
@@ -153,6 +163,7 @@ module _ (strong : Bool) where
   kind_of_mark _ _ (end (refused i h)) = refl
   kind_of_mark _ _ (until_end i h) = refl
 
+  -- if the same words begin with spellings of two elements, these are of the same kind
   same_kind : (e f : Element) (a b x y : List Text) (h : Spelling strong e a) (k : Spelling strong f b) → a ++ x ≡ b ++ y → kind h ≡ kind k
   same_kind e f a b x y h k both =
       sym (kind_of_mark e a h) ∙ ap (λ text. kind_of_letter (get_or text 1 0)) (same_mark e f a b x y h k both) ∙ kind_of_mark f b k
@@ -162,6 +173,7 @@ module _ (strong : Bool) where
     element : e ≡ f
     rest : x ≡ y
 
+  -- if the same words begin with spellings of two elements, these are the same, and the same words follow them
   once : (e f : Element) (a b x y : List Text) → Spelling strong e a → Spelling strong f b → a ++ x ≡ b ++ y → Once e f x y
   once _ _ a b x y (one_of {set = s} h) (one_of {set = t} k) e =
       let o = one_wide_set s t a b x y h k e in record { element = ap one o.set; rest = o.rest }
@@ -195,6 +207,7 @@ module _ (strong : Bool) where
     pub whole : q ≡ p ++ more
     pub spelled : IsJoin (Spelling strong) more rest
 
+  -- if words spell `q`, and a front of them spells `p`, then `q` begins with `p`, and the rest of them spells its rest
   pub goes_on : (p q : List Element) (own rest words : List Text) → words ≡ own ++ rest → IsJoin (Spelling strong) p own → IsJoin (Spelling strong) q words →
       GoesOn p q rest
   goes_on [] q own rest words cut none spelled =
@@ -214,13 +227,16 @@ module _ (strong : Bool) where
         spelled = further.spelled;
       }
 
+  -- the empty list of words spells no element
   no_more : (more : List Element) → IsJoin (Spelling strong) more [] → more ≡ []
   no_more [] j = refl
   no_more (e ∷ more) (front, rest, spelling, j, cut) = absurd (spelled_some e front rest spelling (sym cut))
 
+  -- patterns that have the same elements, and both or neither of which observe internal steps, are the same
   same_pattern : (p q : Pattern) → p.elements ≡ q.elements → p.strong ≡ q.strong → p ≡ q
   same_pattern p q e s = let both : record { elements = p.elements; strong = p.strong } ≡ q = rw (e, s) refl in both
 
+  -- words spell at most one pattern
   pub one_pattern : (words : List Text) (p q : Pattern) → PatternOf strong words p → PatternOf strong words q → p ≡ q
   one_pattern words p q h k =
       let further = goes_on p.elements q.elements words [] words (sym (append-nil words)) h.spelled k.spelled in

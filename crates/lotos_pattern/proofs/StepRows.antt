@@ -44,6 +44,7 @@ same_known entry other to next same says meant = let both : known_by other ≡ S
 -- an entry that is set adds what it says
 module _ (rows : List (List ℕ)) (place : ℕ) (row : List ℕ) (label entry : ℕ) (next : Option ℕ)
     (here : slice_get rows place ≡ Some row) (meant : known_by entry ≡ Some next) where
+  -- once the entry of the place and the label is set, only it may say anything new: `next`
   entry_adds_only : AddsOnly rows (set rows place (set row label entry)) place label next
   entry_adds_only n k to has = elim (get_set rows place (set row label entry) n has.row has.row_at) [
     | inl other ↦ inl (record { row = has.row; row_at = other; entry = has.entry; entry_at = has.entry_at; known = has.known })

@@ -60,9 +60,11 @@ module _ (text : List ℕ) where
     pub joined : own ≡ word ∷ others
     pub is : IsOfKind word (Reserved w.ProcessWord)
 
+  -- a definition of a process begins with the keyword `process`
   process_begins : {n : ℕ} {own : List Token} {d : DefinitionView} → SpellsDefinition text a_process n own d → Begins own
   process_begins (definition {word = word} i j g c f k s l z) = record { word = word; others = _; joined = refl; is = i }
 
+  -- a list of definitions begins with the keyword `process`
   row_begins : {n : ℕ} {own : List Token} {ds : DefinitionListView} → SpellsDefinitions text n own ds → Begins own
   row_begins (last d) = process_begins d
   row_begins (another {others = others} d ds) =
@@ -81,6 +83,7 @@ module _ (text : List ℕ) where
         (record { joined = refl; is = b.is });
   }
 
+  -- if no process within the limit inside begins the tokens, no list of definitions within the limit does
   never_first : {n : ℕ} {own : List Token} {ds : DefinitionListView} (inner limit : NestingLimit) (front more remainder : List Token) →
       ((n : ℕ) → IsNestingWithin limit (n + 1) → IsNestingWithin inner n) →
       ((a b : List Token) (d : DefinitionView) → front ++ more ≡ a ++ b → CompleteDefinition text a_process inner a d b → ⊥) →
@@ -116,6 +119,7 @@ module _ (text : List ℕ) where
     crowds = (let j = one_opening n (ap opens_construct i.same) in omega (arith, h, j));
   }
 
+  -- if a process begins the tokens and `process` follows, but no list up to the rest, no list up to it begins them
   never_more : {n : ℕ} {own : List Token} {ds : DefinitionListView} (inner : ℕ) (limit : NestingLimit) (front remainder more rest : List Token)
       (m : Token) (d : DefinitionView) →
       CompleteDefinition text a_process (Some inner) front d remainder → StartsAlike remainder more → IsOfKind m (Reserved w.ProcessWord) →
@@ -174,6 +178,7 @@ module _ (text : List ℕ) where
     crowds = omega arith;
   }
 
+  -- a list of definitions has a nesting of at least 1
   never_shallow : {n : ℕ} {own : List Token} {ds : DefinitionListView} → SpellsDefinitions text n own ds → n ≤ 0 → ⊥
   never_shallow (last d) h = omega (arith, h)
   never_shallow (another d ds) h = omega (arith, h)
@@ -209,6 +214,7 @@ module _ (text : List ℕ) where
     whole = some_inner i f.whole;
   }
 
+  -- if no list of definitions follows `where` up to the rest, no inner definitions begin with `where` and go up to it
   never_inner : {own remainder : List Token} {said : DefinitionListView} (limit : NestingLimit) (n : Token) (front more : List Token) →
       IsOfKind n (Reserved w.WhereWord) →
       ((a : List Token) → front ++ more ≡ a ++ remainder → DefinitionList text limit a said remainder → ⊥) →

@@ -24,10 +24,12 @@ module _ (text : List ℕ) (what : DefinitionKind) where
   abbrev Open : NestingLimit → Phrase DefinitionView
   Open limit = Sequence make_definition (Outer limit) (WherePhrase text limit)
 
+  -- the header and the body are unique within each limit
   firm_outer : FirmWithin Outer
   firm_outer = firm_then_within bodied (λ _. HeaderPhrase text) (BodyPhrase text what) (firm_always (HeaderPhrase text) (firm_header text))
       (firm_preceded_within (defining_sign what) (BehaviourPhrase text enabling) (firm_expression text enabling))
 
+  -- the header, the body and the inner definitions are unique within each limit
   firm_open : FirmWithin Open
   firm_open = firm_then_within make_definition Outer (WherePhrase text) firm_outer (firm_inner text)
 
@@ -38,11 +40,13 @@ module _ (text : List ℕ) (what : DefinitionKind) where
   found_body limit ts between rest n x e i f =
       found_preceded (defining_sign what) (BehaviourPhrase text enabling limit) ts between rest n x e i f
 
+  -- if the header and then the body parse, so do both together
   found_outer : (limit : NestingLimit) (ts r q : List Token) (heading : HeaderValue) (x : BehaviourView) → Parses (HeaderPhrase text) ts heading r →
       Parses (BodyPhrase text what limit) r x q → Parses (Outer limit) ts (heading, x) q
   found_outer limit ts r q heading x f g =
       found_then bodied (HeaderPhrase text) (BodyPhrase text what limit) ts r q heading x (heading, x) f g refl
 
+  -- if the header, the body and then the inner definitions parse, so do the three together
   found_open : (limit : NestingLimit) (ts r q p : List Token) (heading : HeaderValue) (x : BehaviourView) (inner : DefinitionListView) →
       Parses (HeaderPhrase text) ts heading r →
       Parses (BodyPhrase text what limit) r x q → Parses (WherePhrase text limit) q inner p →
@@ -58,6 +62,7 @@ module _ (text : List ℕ) (what : DefinitionKind) where
   found_contents limit ts r q p rest n heading x inner f g h e i = found_before (Open limit) (closing_word what) ts p rest n
       (make_definition (heading, x) inner) (found_open limit ts r q p heading x inner f g h) e i
 
+  -- if the header and the body together fail, so does the definition
   lost_outer : (limit : NestingLimit) (ts rest : List Token) → Fails (Outer limit) ts rest → Fails (DefinitionRest text what limit) ts rest
   lost_outer limit ts rest l = lost_within (Open limit) (closing_word what) ts rest
       (lost_first make_definition (Outer limit) (WherePhrase text limit) ts rest l)
@@ -66,6 +71,7 @@ module _ (text : List ℕ) (what : DefinitionKind) where
   pub lost_header : (limit : NestingLimit) (ts rest : List Token) → Fails (HeaderPhrase text) ts rest → Fails (DefinitionRest text what limit) ts rest
   lost_header limit ts rest l = lost_outer limit ts rest (lost_first bodied (HeaderPhrase text) (BodyPhrase text what limit) ts rest l)
 
+  -- if the body after the header fails, so does the definition
   lost_body : (limit : NestingLimit) (ts r rest : List Token) (heading : HeaderValue) → Parses (HeaderPhrase text) ts heading r →
       Fails (BodyPhrase text what limit) r rest → Fails (DefinitionRest text what limit) ts rest
   lost_body limit ts r rest heading f l = lost_outer limit ts rest

@@ -77,6 +77,7 @@ module _ (text : List ℕ) where
       DoesNotStartWith (Reserved w.ProcessWord) (own ++ remainder) → ⊥
   process_first remainder (definition i j g c f k s l e) h = h i
 
+  -- a list of definitions begins with the word `process`
   several_first : {n : ℕ} {own : List Token} {ds : DefinitionListView} (remainder : List Token) → SpellsDefinitions text n own ds →
       DoesNotStartWith (Reserved w.ProcessWord) (own ++ remainder) → ⊥
   several_first remainder (last d) h = process_first remainder d h
@@ -184,11 +185,13 @@ module _ (text : List ℕ) where
       let h = firm_row l m a b r more q x y p st o (tail_same e) in
       record { tokens = (let a = head_same e in let b = h.tokens in cc); said = h.said; rest = h.rest }
 
+  -- the header with the body is unique
   firm_headed : (what : DefinitionKind) → FirmWithin (Headed what)
   firm_headed what = firm_then_within (λ heading body. (heading, body)) (λ _. HeaderPhrase text) (BodyPhrase text what)
       (firm_always (HeaderPhrase text) (firm_header text))
       (firm_preceded_within (defining_sign what) (BehaviourPhrase text enabling) (firm_expression text enabling))
 
+  -- the header with the body and the inner definitions is unique
   firm_header_body_where : (what : DefinitionKind) → FirmWithin (HeaderBodyWhere what)
   firm_header_body_where what = firm_then_within make_definition (Headed what) (WherePhrase text) (firm_headed what) firm_inner
 
@@ -217,6 +220,7 @@ module _ (text : List ℕ) where
     pub declares : IsFunctionality returns func
     pub same : said ≡ (located_name text name, formals, func)
 
+  -- a name, a gate list, a colon and a functionality are the part that is a header
   as_header : {name colon returns : Token} {gates : List Token} {formals : List Placed} {func : Functionality}
       (remainder : List Token) → IsOfKind name Identifier → GateList text gates formals → IsOfKind colon (Sign s.Colon) → IsFunctionality returns func →
       HeaderPhrase text ((name ∷ gates) ++ colon ∷ returns ∷ []) (located_name text name, formals, func) remainder
@@ -240,6 +244,7 @@ module _ (text : List ℕ) where
     same = refl;
   }
 
+  -- the part that is a header is a name, a gate list, a colon and a functionality
   from_header : (own remainder : List Token) (said : HeaderValue) → HeaderPhrase text own said remainder → HeaderTokens own said
   from_header own remainder said h =
       let f = h.first in
@@ -263,6 +268,7 @@ module _ (text : List ℕ) where
 
   -- inner definitions as parts
 
+  -- inner definitions nested within the limit, which neither `where` nor `process` follows, are the part
   as_inner : {m : ℕ} {own : List Token} {ds : DefinitionListView} (limit : NestingLimit) (remainder : List Token) → SpellsWhere text m own ds →
       IsNestingWithin limit m →
       DoesNotStartWith (Reserved w.WhereWord) remainder → DoesNotStartWith (Reserved w.ProcessWord) remainder → WherePhrase text limit own ds remainder
@@ -270,6 +276,7 @@ module _ (text : List ℕ) where
   as_inner limit remainder (definitions {n = n} i d) h row one =
       some_inner i (record { nesting = n; several = d; ends = one; within = h })
 
+  -- the part is inner definitions whose nesting is within the limit
   from_inner : (limit : NestingLimit) (own remainder : List Token) (ds : DefinitionListView) → WherePhrase text limit own ds remainder →
       (n : ℕ) × SpellsWhere text n own ds × IsNestingWithin limit n
   from_inner None _ remainder _ (no_inner h) = (0, nothing, tt)

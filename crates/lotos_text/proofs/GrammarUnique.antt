@@ -40,6 +40,7 @@ module _ (text : List ℕ) where
   One l o n a x r = (q b : List Token) (p : Bool) (m : ℕ)
       (y : BehaviourView) → Spells text l p m b y → a ++ r ≡ b ++ q → precedence q < bound l p → SameSpelling a b o p n m x y r q
 
+  -- another spelling that is the same one token alone is the same spelling
   same_leaf : {n : Token} {z y : BehaviourView} {p : Bool} {m : ℕ} {b : List Token} (r q : List Token) → Leaf n z p m b y →
       n ∷ r ≡ b ++ q → SameSpelling (n ∷ []) b false p 0 m z y r q
   same_leaf r q f e = record {
@@ -50,6 +51,7 @@ module _ (text : List ℕ) where
     rest = same_rest (sym f.tokens) e;
   }
 
+  -- another call or prefix that begins with the name of a call is that call, if nothing continues either
   same_call : {n : Token} {p : Bool} {m : ℕ} {ts b : List Token} {names : List Placed} {y : BehaviourView} (r q : List Token) →
       GateList text ts names →
       Called text n p m b y q (ts ++ r) ⊎ Prefixed text n (Gate (located_name text n)) p m b y q (ts ++ r) → precedence r < 5 →
@@ -65,6 +67,7 @@ module _ (text : List ℕ) where
       }
   same_call r q g (inr f) hr hq = absurd (not_listed text r (f.body ++ q) g (sym f.rest) f.separates hr)
 
+  -- another prefix with the same action is the same prefix, if the operand after the semicolon is unique
   same_prefix : {act c : Token} {o p : Bool} {n m : ℕ} {ts b : List Token} {a : Action} {x y : BehaviourView} (r q : List Token) →
       One prefixing o n ts x r →
       Prefixed text act a p m b y q (c ∷ ts ++ r) → precedence q < bound prefixing p → SameSpelling (act ∷ c ∷ ts) b o p (n + 1) m
@@ -79,6 +82,7 @@ module _ (text : List ℕ) where
         rest = h.rest;
       }
 
+  -- another call or prefix that begins with the gate of a prefix is that prefix, if the operand in it is unique
   same_gate : {n c : Token} {o p : Bool} {k m : ℕ} {ts b : List Token} {x y : BehaviourView} (r q : List Token) →
       IsOfKind c (Sign s.Semicolon) → One prefixing o k ts x r →
       Called text n p m b y q (c ∷ ts ++ r) ⊎ Prefixed text n (Gate (located_name text n)) p m b y q (c ∷ ts ++ r) →
@@ -86,6 +90,7 @@ module _ (text : List ℕ) where
   same_gate {p = p} {ts = ts} r q i one (inl f) hq = absurd (not_listed text q (ts ++ r) f.gates f.rest i (below_calls p q hq))
   same_gate r q i one (inr f) hq = same_prefix r q one f hq
 
+  -- another spelling of the looser level is the same as a unique one of the tighter level, if nothing continues either
   same_alone : {l m : Level} {o p : Bool} {n k : ℕ} {a b : List Token} {x y : BehaviourView} (r q : List Token) → BindsTighter l m →
       One m o n a x r → Levelled text l m p k b y →
       a ++ r ≡ b ++ q → precedence r < bound l o → precedence q < bound l p → SameSpelling a b o p n k x y r q
@@ -97,6 +102,7 @@ module _ (text : List ℕ) where
       absurd (let f = operator_rank text (right ++ q) i in let g = ap precedence h.rest in let k = bound_most l o in omega
       (arith, f, g, k, hr))
 
+  -- another spelling of the level, which nothing continues, is the same as an operation with unique operands
   same_operated : {l m : Level} {o p : Bool} {nl nr k : ℕ} {left op right b : List Token} {x y z : BehaviourView} {how : Operator}
       (r q : List Token) → BindsTighter l m →
       One m false nl left x (op ++ (right ++ r)) → IsOperator text l op how → One l o nr right y r → Levelled text l m p k b z →

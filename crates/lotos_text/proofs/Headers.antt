@@ -20,6 +20,7 @@ module _ (text : List ℕ) where
   abbrev Front : Phrase (Placed × List Placed)
   Front = Sequence named (OneName text) (OptionalGates text)
 
+  -- the name and the formal gates are unique
   firm_front : Firm Front
   firm_front = firm_then named (OneName text) (OptionalGates text) (firm_name text) (firm_gates text)
 
@@ -27,6 +28,7 @@ module _ (text : List ℕ) where
   pub firm_header : Firm (HeaderPhrase text)
   firm_header = firm_then headed Front FunctionalityPhrase firm_front (firm_preceded _ OneFunctionality firm_declared)
 
+  -- if the name and then the formal gates parse, so do both together
   found_front : (ts r q : List Token) (name : Placed) (formals : List Placed) → Parses (OneName text) ts name r →
       Parses (OptionalGates text) r formals q → Parses Front ts (name, formals) q
   found_front ts r q name formals f g = found_then named (OneName text) (OptionalGates text) ts r q name formals (name, formals) f g refl

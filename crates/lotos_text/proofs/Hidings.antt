@@ -40,9 +40,11 @@ module _ (text : List ℕ) where
   abbrev HideForm : NestingLimit → Phrase BehaviourView
   HideForm limit = Sequence t.hide Hiding (BehaviourPhrase text enabling limit)
 
+  -- the keyword `hide`, the names and `in` are unique
   firm_hiding : Firm Hiding
   firm_hiding = firm_before Opened _ (firm_preceded _ (NameList text) (firm_names text))
 
+  -- if some nesting is left, a hide form whose body has one less left is a behaviour expression of each level
   found_form : (l : Level) (nesting_left : ℕ) (ts rest : List Token) (x : BehaviourView) → 0 < nesting_left →
       Parses (HideForm (Some (nesting_left - 1))) ts x rest →
       Parses (BehaviourPhrase text l (Some nesting_left)) ts x rest
@@ -65,6 +67,7 @@ module _ (text : List ℕ) where
         };
       }
 
+  -- if the parts of a hide form fail within the limit inside, so does the behaviour expression that begins with `hide`
   lost_form : (l : Level) (limit : NestingLimit) (n : Token) (ts rest : List Token) → IsOfKind n (Reserved w.HideWord) →
       Fails (HideForm (inside limit)) (n ∷ ts) rest → Fails (BehaviourPhrase text l limit) (n ∷ ts) rest
   lost_form l limit n ts rest i lost = lost_as (BehaviourPhrase text l limit) (HideForm (inside limit)) n (n ∷ ts) ts rest refl
@@ -91,10 +94,12 @@ module _ (text : List ℕ) where
       ))
       lost
 
+  -- if names parse, so do `hide` and the names
   opened : (n : Token) (ts between : List Token) (names : List Placed) → IsOfKind n (Reserved w.HideWord) →
       Parses (NameList text) ts names between → Parses Opened (n ∷ ts) names between
   opened n ts between names i f = found_preceded _ (NameList text) (n ∷ ts) ts between n names refl i f
 
+  -- if names parse and `in` follows them, `hide`, the names and `in` parse
   hiding : (n word : Token) (ts between after : List Token) (names : List Placed) → IsOfKind n (Reserved w.HideWord) →
       Parses (NameList text) ts names between → between ≡ word ∷ after → IsOfKind word (Reserved w.InWord) →
       Parses Hiding (n ∷ ts) names after
@@ -128,6 +133,7 @@ module _ (text : List ℕ) where
       (lost_unclosed Opened _ (firm_preceded _ (NameList text) (firm_names text)) (n ∷ ts) between rest names
       (opened n ts between names i f) lost))
 
+  -- if the behaviour expression after `in` fails within the limit inside, so does the hide form
   lost_body : (l : Level) (limit : NestingLimit) (n word : Token) (ts between after rest : List Token) (names : List Placed) →
       IsOfKind n (Reserved w.HideWord) → Parses (NameList text) ts names between → between ≡ word ∷ after → IsOfKind word (Reserved w.InWord) →
       Fails (BehaviourPhrase text enabling (inside limit)) after rest → Fails (BehaviourPhrase text l limit) (n ∷ ts) rest

@@ -72,10 +72,12 @@ module _ (text : List ℕ) where
     pub operator : how ≡ ways
     pub rest : r ≡ q
 
+  -- two equal operators of one token each, which begin one list, have the same token and the same rest
   one_sign : {n m : Token} {how ways : Operator} (r q : List Token) → n ∷ r ≡ m ∷ q → how ≡ ways →
       SameOperator (n ∷ []) (m ∷ []) how ways r q
   one_sign r q e h = record { tokens = ap (λ n. n ∷ []) (head_same e); operator = h; rest = tail_same e }
 
+  -- two operators of a sign and a list of gates, which begin one list, are the same with the same rest
   one_sync : {n m : Token} {ts us : List Token} {ns ms : List Placed} (r q : List Token) → SyncList text ts ns r →
       SyncList text us ms q → (n ∷ ts) ++ r ≡ (m ∷ us) ++ q →
       SameOperator (n ∷ ts) (m ∷ us) (synchronizes (t.gates ns)) (synchronizes (t.gates ms)) r q
@@ -117,6 +119,7 @@ module _ (text : List ℕ) where
         Spells text m false nl left x → IsOperator text l op how → Spells text l o nr right y →
         Levelled l m o (max nl (nr + 1)) (left ++ op ++ right) (apply how x y)
 
+  -- a level has one next tighter level only
   below_same : {l m k : Level} → BindsTighter l m → BindsTighter l k → m ≡ k
   below_same tighter_than_enabling tighter_than_enabling = refl
   below_same tighter_than_disabling tighter_than_disabling = refl

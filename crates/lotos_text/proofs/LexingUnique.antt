@@ -93,6 +93,7 @@ module _ (end : ℕ) (last : List ℕ) (k : Halts last) where
   past_blank f (comment_first n g d) = absurd (cc (one_front f g))
   past_blank f (token_first n kind us g e d) = absurd (cc (one_front f g))
 
+  -- such a lexing goes on after the comment at the start
   past_comment : {at n : ℕ} {text : List ℕ} {ts : List Token} → IsNextLexeme text (Comment n) → Next at text ts end last →
       LexesTo (at + n) (drop n text) ts end last
   past_comment {n = n} f (ended e g p) = absurd (k.no_comment n (subst (λ t. IsNextLexeme t (Comment n)) e f))
@@ -103,6 +104,7 @@ module _ (end : ℕ) (last : List ℕ) (k : Halts last) where
       subst (λ l. LexesTo (at + l) (drop l text) ts end last) length_same d
   past_comment f (token_first m kind us g e d) = absurd (cc (one_front f g))
 
+  -- such a lexing has the token at the start, and goes on after it
   past_token : {at n : ℕ} {kind : TokenKind} {text : List ℕ} {ts : List Token} → IsNextLexeme text (a_token n kind) → Next at text ts end last →
       Past at n kind text ts end last
   past_token {n = n} {kind} f (ended e g p) = absurd (k.no_token n kind (subst (λ t. IsNextLexeme t (a_token n kind)) e f))

@@ -130,9 +130,11 @@ module _ (text : List ℕ) where
 
   -- so each of these phrases is unique
 
+  -- a list of names is unique
   pub firm_names : Firm (NameList text)
   firm_names a b r more q x y p st o e = unique_names more q p.names o.names e (starts_not _ r more st p.quits) o.quits
 
+  -- names in brackets, or none, are unique
   pub firm_gates : Firm (OptionalGates text)
   firm_gates a b r more q x y p st o e = unique_gates more q p.gates o.gates e (λ h. starts_not _ r more st (p.quits h)) o.quits
 
@@ -148,6 +150,7 @@ module _ (text : List ℕ) where
   pub found_no_gates : (ts : List Token) → DoesNotStartWith (Sign s.LeftBracket) ts → Parses (OptionalGates text) ts [] ts
   found_no_gates ts h = record { front = []; joined = refl; whole = record { gates = no_gates; quits = λ e. h } }
 
+  -- if names in brackets parse, so does the gate list
   found_gates : (ts rest : List Token) (names : List Placed) → Parses InBrackets ts names rest → Parses (OptionalGates text) ts names rest
   found_gates ts rest names f =
       let b = between _ _ (NameList text) f.front rest names f.whole in
@@ -160,6 +163,7 @@ module _ (text : List ℕ) where
         };
       }
 
+  -- a gate list is names in brackets, if the tokens begin with a left bracket
   down_gates : (n : Token) → IsOfKind n (Sign s.LeftBracket) → (own remainder more : List Token) (names : List Placed) →
       own ++ remainder ≡ n ∷ more → GateList text own names →
       (own ≡ [] → DoesNotStartWith (Sign s.LeftBracket) remainder) → (said : List Placed) × InBrackets own said remainder
@@ -167,6 +171,7 @@ module _ (text : List ℕ) where
   down_gates n i _ remainder more _ e (gates {left = left} {right = right} {ts = ts} {names = names} j d k) h =
       (names, as_between _ _ (NameList text) left right ts remainder names j (record { names = d; quits = is_first k (λ e. cc) }) k)
 
+  -- if names in brackets fail and the next token is a left bracket, the gate list fails
   lost_gates : (ts others rest : List Token) (n : Token) → ts ≡ n ∷ others → IsOfKind n (Sign s.LeftBracket) → Fails InBrackets ts rest →
       Fails (OptionalGates text) ts rest
   lost_gates ts others rest n e i l = lost_as (OptionalGates text) InBrackets n ts others rest e

@@ -17,22 +17,27 @@ use Rattle.lotos_text.proofs.TokensInText.{all_stand}
 -- ---- tokens in a text
 
 module _ (text : List ℕ) where
+  -- if the tokens of two lists together are in the text, so are those of the first
   pub stand_front : (front rest : List Token) → AreTokensIn text (front ++ rest) → AreTokensIn text front
   stand_front [] rest h = tt
   stand_front (t ∷ ts) rest h = (h.0, stand_front ts rest h.1)
 
+  -- if the tokens of two lists together are in the text, so are those of the second
   pub stand_rest : (front rest : List Token) → AreTokensIn text (front ++ rest) → AreTokensIn text rest
   stand_rest [] rest h = h
   stand_rest (t ∷ ts) rest h = stand_rest ts rest h.1
 
+  -- the offset of a token in the text is at most the length of the text
   pub token_inside : (t : Token) → IsTokenIn text t → t.at ≤ length text
   token_inside t h = let a = h.ordered in let b = h.inside in omega (arith, a, b)
 
+  -- the offsets of names are inside the text, if their tokens are in it
   names_inside : {ts : List Token} {names : List Placed} → Names text ts names → AreTokensIn text ts →
       AllByRecursion (λ g. g.at ≤ length text) names
   names_inside (one_name {n = n} i) h = (token_inside n h.0, tt)
   names_inside (more_names {n = n} i c d) h = (token_inside n h.0, names_inside d h.1.1)
 
+  -- the offsets of the names of a gate list are inside the text, if its tokens are in it
   gates_inside : {ts : List Token} {names : List Placed} → GateList text ts names → AreTokensIn text ts →
       AllByRecursion (λ g. g.at ≤ length text) names
   gates_inside no_gates h = tt
@@ -50,6 +55,7 @@ module _ (text : List ℕ) where
       (x, names_inside d (stand_front ts (right ∷ bar ∷ []) h.1), y)
   join_inside l r (choice_sign i) h x y = (x, y)
 
+  -- the offsets in a behaviour expression are inside the text, if its tokens are in it
   ast_inside : {l : Level} {o : Bool} {n : ℕ} {ts : List Token} {x : BehaviourView} → Spells text l o n ts x → AreTokensIn text ts →
       IsBehaviourInside (length text) x
   ast_inside (stop i) h = tt
@@ -94,6 +100,7 @@ module _ (text : List ℕ) where
 -- ---- faults
 
 module _ (text : List ℕ) where
+  -- an offset at which the text has a token is at most the length of the text
   placed_within : (at : ℕ) (before : List Token) (t : Token) → IsOffsetOfToken text at before t → at ≤ length text
   placed_within at before t s =
       let stand = all_stand text (before ++ t ∷ s.after) s.lexes in

@@ -117,6 +117,7 @@ module _ {A : Type 0} (k : TokenKind) (P : Phrase A) where
   lost_preceded ts between rest n e i l = lost_second (λ token said. said) (OneToken k) P (firm_one k) ts between rest n
       (found_one k ts between n e i) l
 
+  -- a token with a phrase after it is unique, if the phrase is
   pub firm_preceded : Firm P → Firm (Preceded k P)
   firm_preceded firm = firm_then (λ token said. said) (OneToken k) P (firm_one k) firm
 
@@ -141,6 +142,7 @@ module _ {A : Type 0} (k : TokenKind) (P : Phrase A) where
     pub is : IsOfKind token k
     pub within : P inner x rest
 
+  -- a phrase after a token has a token of the kind first, and then the tokens of the phrase
   pub uncover : (own rest : List Token) (x : A) → Preceded k P own x rest → Uncovered own x rest
   uncover own rest x t = record {
     token = t.one;
@@ -168,10 +170,12 @@ module _ {A : Type 0} (P : Phrase A) (k : TokenKind) where
   pub lost_within : (ts rest : List Token) → Fails P ts rest → Fails (Followed P k) ts rest
   lost_within ts rest l = lost_first (λ said token. said) P (OneToken k) ts rest l
 
+  -- a phrase with a token after it is unique, if the phrase is
   pub firm_before : Firm P → Firm (Followed P k)
   firm_before firm = firm_then (λ said token. said) P (OneToken k) firm (firm_one k)
 
 module _ (text : List ℕ) where
+  -- a list that begins with an identifier parses as its name
   pub found_name : (ts rest : List Token) (n : Token) (x : Placed) → ts ≡ n ∷ rest → IsOfKind n Identifier → x ≡ located_name text n →
       Parses (OneName text) ts x rest
   found_name ts rest n x e i h = record { front = n ∷ []; joined = e; whole = record { token = n; joined = refl; is = i; same = h } }
@@ -184,6 +188,7 @@ module _ (text : List ℕ) where
     never = λ more own remainder said st e p. l.never more own remainder p.token st e (record { joined = p.joined; is = p.is });
   }
 
+  -- a name is the only one
   pub firm_name : Firm (OneName text)
   firm_name a b r more q x y p st o e =
       let h = same_token a b more q p.token o.token p.joined o.joined e in

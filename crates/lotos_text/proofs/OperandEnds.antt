@@ -52,6 +52,7 @@ module _ (text : List ℕ) where
   unended nesting_left ts us to r e h l =
       missed_free Ended (BehaviourPhrase text prefixing) nesting_left ts us to r e h (missed_end ts e l.0 l.1)
 
+  -- if a token begins no operand but itself alone, and the end of the operand fails after it, so does the operand
   lost_leaf : (n : Token) (ts rest : List Token) (z : BehaviourView) →
       ((ends : Bool) (nesting : ℕ) (own remainder more : List Token) (x : BehaviourView) → Spells text prefixing ends nesting own x →
       own ++ remainder ≡ n ∷ more → Leaf n z ends nesting own x) → Fails Ended ts rest →
@@ -95,9 +96,11 @@ module _ (text : List ℕ) where
 
   -- no operand
 
+  -- a token that begins no operand is not of a kind that begins one
   other_begins : {n m : Token} {k : TokenKind} → operand_start n.kind ≡ o.Nothing → n ≡ m → IsOfKind m k → (operand_start k ≡ o.Nothing → ⊥) → ⊥
   other_begins h e i other = other (sym (ap operand_start (ap (λ (x : Token). x.kind) e ∙ i.same)) ∙ h)
 
+  -- a token that begins no operand and is not `hide` begins no spelling of an operand
   never_begun : (n : Token) (ends : Bool) (nesting : ℕ) (own remainder more : List Token) (x : BehaviourView) → operand_start n.kind ≡ o.Nothing →
       (IsOfKind n (Reserved w.HideWord) → ⊥) → n ∷ more ≡ own ++ remainder → Spells text prefixing ends nesting own x → ⊥
   never_begun n ends nesting own remainder more x h without e (stop i) = other_begins h (head_same e) i (λ e. cc)

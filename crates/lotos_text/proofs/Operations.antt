@@ -126,6 +126,7 @@ module _ (text : List ℕ) where
 
   -- the left operand
 
+  -- if no expression of the tighter level within the limit begins the tokens, none of the looser level does
   never_left : {l m : Level} (limit : NestingLimit) (ts own remainder : List Token) (ends : Bool) (nesting : ℕ) (x : BehaviourView) → BindsTighter l m →
       ((a r : List Token) (y : BehaviourView) → ts ≡ a ++ r → BehaviourPhrase text m limit a y r → ⊥) →
       ts ≡ own ++ remainder → Levelled text l m ends nesting own x → precedence remainder < bound l ends → IsNestingWithin limit nesting → ⊥
@@ -147,6 +148,7 @@ module _ (text : List ℕ) where
         within = left_within limit nl nr u;
       })
 
+  -- if the expression of the tighter level fails, so does that of the looser one
   lost_left : {l m : Level} (limit : NestingLimit) (ts rest : List Token) → BindsTighter l m → Fails (BehaviourPhrase text m limit) ts rest →
       Fails (BehaviourPhrase text l limit) ts rest
   lost_left limit ts rest b l = record {
@@ -177,6 +179,8 @@ module _ (text : List ℕ) where
   abbrev Behind : Level → NestingLimit → Phrase (Operator × BehaviourView)
   Behind l limit = Sequence paired (OneOperator text l) (BehaviourPhrase text l limit)
 
+  -- if a token of the level's precedence follows a left operand, but no operator with a right operand does, the tokens
+  -- begin with no expression of the level
   never_preceded : {l m : Level} (limit : NestingLimit) (front more own remainder : List Token) (o ends : Bool) (n nesting : ℕ) (x z : BehaviourView) →
       BindsTighter l m → Spells text m o n front x → precedence more ≡ level_precedence l → precedence more < bound m o →
       ((a r : List Token) (said : Operator × BehaviourView) → more ≡ a ++ r → Behind l (inside limit) a said r → ⊥) →
@@ -238,6 +242,7 @@ module _ (text : List ℕ) where
       lost_preceded None within ts between rest x b f ranks
       (lost_first paired (OneOperator text l) (BehaviourPhrase text l None) between rest lost)
 
+  -- if the right operand fails within the limit inside, so does the operation
   lost_right : {l m : Level} (limit within : NestingLimit) (ts between after rest : List Token) (how : Operator) (x : BehaviourView) → BindsTighter l m →
       Parses (BehaviourPhrase text m within) ts x between → precedence between ≡ level_precedence l → Parses (OneOperator text l) between how after →
       Fails (BehaviourPhrase text l (inside limit)) after rest → Fails (BehaviourPhrase text l limit) ts rest
@@ -246,6 +251,7 @@ module _ (text : List ℕ) where
       (lost_second paired (OneOperator text l) (BehaviourPhrase text l (inside limit)) (firm_operation text l) between after rest how o
       lost)
 
+  -- of tokens that end with an operator, one at least opens a construct
   operator_opens : {l : Level} (front op : List Token) (how : Operator) → IsOperator text l op how → 1 ≤ count_openings (front ++ op)
   operator_opens front _ how (enable_sign {o = o} i) = opens_among front [] o (opens_is i refl)
   operator_opens front _ how (disable_sign {o = o} i) = opens_among front [] o (opens_is i refl)

@@ -31,12 +31,15 @@ module _ (text : List ℕ) where
   abbrev Closed : NestingLimit → Phrase BehaviourView
   Closed limit = Sequence alone (InBrackets limit) Ended
 
+  -- a left parenthesis with a behaviour expression after it is unique within each limit
   firm_opened : FirmWithin Opened
   firm_opened = firm_preceded_within _ (BehaviourPhrase text enabling) (firm_expression text enabling)
 
+  -- a behaviour expression in parentheses is unique within each limit
   firm_brackets : FirmWithin InBrackets
   firm_brackets = firm_before_within Opened _ firm_opened
 
+  -- if the parentheses and the end after them fail within the limit inside, so does the operand that begins with `(`
   lost_closed : (limit : NestingLimit) (n : Token) (ts rest : List Token) → IsOfKind n (Sign s.LeftParenthesis) →
       Fails (Closed (inside limit)) (n ∷ ts) rest → Fails (BehaviourPhrase text prefixing limit) (n ∷ ts) rest
   lost_closed limit n ts rest i lost = lost_as (BehaviourPhrase text prefixing limit) (Closed (inside limit)) n (n ∷ ts) ts rest refl
@@ -63,10 +66,12 @@ module _ (text : List ℕ) where
       ))
       lost
 
+  -- if a behaviour expression parses, so does a left parenthesis with it
   opened : (limit : NestingLimit) (n : Token) (ts between : List Token) (x : BehaviourView) → IsOfKind n (Sign s.LeftParenthesis) →
       Parses (BehaviourPhrase text enabling limit) ts x between → Parses (Opened limit) (n ∷ ts) x between
   opened limit n ts between x i f = found_preceded _ (BehaviourPhrase text enabling limit) (n ∷ ts) ts between n x refl i f
 
+  -- if a behaviour expression parses and a right parenthesis follows it, the expression in parentheses parses
   closed : (limit : NestingLimit) (n right : Token) (ts between rest : List Token) (x : BehaviourView) → IsOfKind n (Sign s.LeftParenthesis) →
       Parses (BehaviourPhrase text enabling limit) ts x between → between ≡ right ∷ rest → IsOfKind right (Sign s.RightParenthesis) →
       Parses (InBrackets limit) (n ∷ ts) x rest
@@ -93,6 +98,7 @@ module _ (text : List ℕ) where
         };
       }
 
+  -- if the behaviour expression in parentheses fails within the limit inside, so does the operand
   lost_inside : (limit : NestingLimit) (n : Token) (ts rest : List Token) → IsOfKind n (Sign s.LeftParenthesis) →
       Fails (BehaviourPhrase text enabling (inside limit)) ts rest → Fails (BehaviourPhrase text prefixing limit) (n ∷ ts) rest
   lost_inside limit n ts rest i lost =

@@ -32,6 +32,7 @@ stuck_spells_nothing text (E07 at) h = absurd h
 stuck_spells_nothing text (E99 e) h = tt
 
 module _ (text : List ℕ) (ts : List Token) (short : length text ≤ max_text_length) (cut : Lexes text ts) where
+  -- if all tokens parse as a specification, they spell it with a nesting of at most `max_nesting`
   found_specifies : (whole : DefinitionView) → Parses (SpecificationPhrase text (Some max_nesting)) ts whole [] →
       (n : ℕ) × SpellsSpecification text n ts whole × (n ≤ max_nesting)
   found_specifies whole f = from_whole text (Some max_nesting) ts whole
@@ -57,6 +58,7 @@ module _ (text : List ℕ) (ts : List Token) (short : length text ≤ max_text_l
       l.never more (l.front ++ more) [] whole st (sym (append-nil (l.front ++ more)))
       (as_whole text limit (l.front ++ more) whole s h)
 
+  -- if the parser fails within a limit that allows each nesting up to the greatest, the text spells nothing
   never_spelled : (limit : NestingLimit) (rest : List Token) (whole : DefinitionView) → Fails (SpecificationPhrase text limit) ts rest →
       ((n : ℕ) → n ≤ max_nesting → IsNestingWithin limit n) → Spelled text whole → ⊥
   never_spelled limit rest whole l to s =
@@ -68,6 +70,7 @@ module _ (text : List ℕ) (ts : List Token) (short : length text ≤ max_text_l
   stands : (before after : List Token) (t : Token) → ts ≡ before ++ t ∷ after → IsOffsetOfToken text t.at before t
   stands before after t e = record { after = after; short = short; lexes = subst (λ m. Lexes text m) e cut; offset = refl }
 
+  -- if the parser fails at a token, the text has the fault E07 or E04 there, as the token is of full LOTOS or not
   token_refused : (after : List Token) (t : Token) → Fails (SpecificationPhrase text None) ts (t ∷ after) → (full : Bool) →
       is_full_lotos t.kind ≡ full → IsFaultOfText text (if full then E07 t.at else E04 t.at)
   token_refused after t l true e = record {
@@ -87,11 +90,13 @@ module _ (text : List ℕ) (ts : List Token) (short : length text ≤ max_text_l
     basic = e;
   }
 
+  -- if the parser fails at a token, with the fault E07 or E04 there, the text spells nothing
   token_nothing : (after : List Token) (t : Token) → Fails (SpecificationPhrase text None) ts (t ∷ after) → (full : Bool) →
       SpellsNoSpecification text (if full then E07 t.at else E04 t.at)
   token_nothing after t l true = λ whole s. never_spelled None (t ∷ after) whole l (λ n h. tt) s
   token_nothing after t l false = λ whole s. never_spelled None (t ∷ after) whole l (λ n h. tt) s
 
+  -- if the parser fails, the text has the fault at the first token of the rest, or at its end
   at_refused : (rest : List Token) → Fails (SpecificationPhrase text None) ts rest → IsFaultOfText text (fault_at rest (length text))
   at_refused [] l = record {
     tokens = ts;
@@ -102,10 +107,12 @@ module _ (text : List ℕ) (ts : List Token) (short : length text ≤ max_text_l
   }
   at_refused (t ∷ after) l = token_refused after t l (is_full_lotos t.kind) refl
 
+  -- if the parser fails at a token or at the end, the text spells nothing
   at_nothing : (rest : List Token) → Fails (SpecificationPhrase text None) ts rest → SpellsNoSpecification text (fault_at rest (length text))
   at_nothing [] l = λ whole s. never_spelled None [] whole l (λ n h. tt) s
   at_nothing (t ∷ after) l = token_nothing after t l (is_full_lotos t.kind)
 
+  -- if a token is too deep, the text has the fault E05 there
   deep_refused : (t : Token) → IsTooDeepAt (SpecificationPhrase text) max_nesting ts t → IsE05 text t.at
   deep_refused t d =
       let l = d.fails in
@@ -121,6 +128,7 @@ module _ (text : List ℕ) (ts : List Token) (short : length text ≤ max_text_l
         many = (let i = d.too_many_open.many in let j = ap (λ m. count_openings (m ++ t ∷ [])) fronts in omega (arith, i, j));
       }
 
+  -- if a token is too deep, the text spells nothing
   deep_nothing : (t : Token) → IsTooDeepAt (SpecificationPhrase text) max_nesting ts t → (whole : DefinitionView) → Spelled text whole → ⊥
   deep_nothing t d whole s = never_spelled (Some max_nesting) (t ∷ d.after) whole d.fails (λ n h. h) s
 

@@ -53,6 +53,7 @@ module _ (text : List ℕ) where
         (record { joined = refl; is = b.separates });
   }
 
+  -- if the operand after the semicolon fails within the limit inside, so does the prefix
   lost_body : (limit : NestingLimit) (n semicolon : Token) (act : Action) (ts after rest : List Token) → IsAction text n act →
       ts ≡ semicolon ∷ after → IsOfKind semicolon (Sign s.Semicolon) → Fails (BehaviourPhrase text prefixing (inside limit)) after rest →
       Fails (BehaviourPhrase text prefixing limit) (n ∷ ts) rest

@@ -77,6 +77,7 @@ module _ (text : List ℕ) where
     pub joined : more ≡ own ++ remainder
     pub list : SyncList text own names remainder
 
+  -- an operator that begins with `|[` goes on with names or none, `]` and `|`
   listed : {n : Token} {own more : List Token} {how : Operator} (remainder : List Token) → IsOfKind n (Sign s.LeftSync) →
       IsOperator text parallel own how → n ∷ more ≡ own ++ remainder → Listed more remainder
   listed remainder i (interleave_sign j) e = absurd (apart i j (head_same e) (λ e. cc))
@@ -126,6 +127,7 @@ module _ (text : List ℕ) where
     whole = some_sync f.whole.names i j;
   }
 
+  -- no list of names begins with `]`
   names_begin : {n : Token} {own more : List Token} {names : List Placed} (remainder : List Token) → Names text own names →
       IsOfKind n (Sign s.RightBracket) → n ∷ more ≡ own ++ remainder → ⊥
   names_begin remainder (one_name j) i e = apart i j (head_same e) (λ e. cc)
@@ -158,6 +160,7 @@ module _ (text : List ℕ) where
   abbrev Barred : Phrase (List Placed)
   Barred = Followed Closed (Sign s.Bar)
 
+  -- if names, `]` and `|` fail and the next token is not `]`, so does the list
   lost_barred : (ts rest : List Token) → DoesNotStartWith (Sign s.RightBracket) ts → Fails Barred ts rest → Fails (SyncList text) ts rest
   lost_barred ts rest without l = record {
     front = l.front;

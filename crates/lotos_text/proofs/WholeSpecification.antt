@@ -35,6 +35,7 @@ module _ (text : List ℕ) where
   lost_opening limit ts rest l = lost_first closed (Specification limit) EndOfInput ts rest
       (lost_before _ (DefinitionRest text a_specification limit) ts rest l)
 
+  -- if the definition after its first keyword fails, so does the specification
   lost_contents : (limit : NestingLimit) (ts after rest : List Token) (n : Token) → ts ≡ n ∷ after →
       IsOfKind n (Reserved w.SpecificationWord) →
       Fails (DefinitionRest text a_specification limit) after rest → Fails (SpecificationPhrase text limit) ts rest

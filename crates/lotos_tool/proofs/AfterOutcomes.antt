@@ -86,6 +86,7 @@ pub too_many_told : (request : AfterRequest) (system : System) (s : List Label) 
 too_many_told request system s labels got (b, asked, over) = (b, asked, record { too_many = over; kept = Keeps-refl got })
 
 module _ (request : AfterRequest) (left left' : Option (List ℕ)) (system : System) (s : List Label) (parts : AreAfterParts request left left' system s) where
+  -- a behaviour that the request wants of the system is, with the sequence, the question asked of the text
   asks_after : (b : Behaviour) → IsAfterQuestionFor request system b → IsAfterQuestionOfText request left left' (b, s)
   asks_after b asked = record { system = system; parts = parts; behaviour = asked.behaviour; strong = asked.strong }
 

@@ -53,6 +53,7 @@ no_match_told request system p got got' (Stopped why.Write) has h = absurd h
 no_match_told request system p got got' (Stopped why.Flush) has h = (has.0, has.1, record { never = has.2; kept = h })
 
 module _ (request : EverRequest) (left left' : Option (List ℕ)) (system : System) (p : EverPattern) (parts : AreEverParts request left left' system p) where
+  -- a question about the system and the pattern is one that the request asks of the text
   asks_ever : (q : EverQuestion) → IsEverQuestionFor system p q → IsEverQuestionOfText request left left' q
   asks_ever q asked = record {
     system = system;

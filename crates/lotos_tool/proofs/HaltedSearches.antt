@@ -22,10 +22,13 @@ own_result (Err cause) = Err (halt_of cause)
 -- if no sequence leads to one set too many, and each complete listing is whole, a call returns what it says of oversized
 -- prefixes alone
 module _ (q : ListingQuestion) (never : (r : List Label) → IsOneSetTooMany q r → ⊥) (whole : IsWhole q) where
+  -- each sequence at which the listing stops is an oversized prefix
   is_oversized : (r : List Label) → IsStopAt q r → IsOversizedPrefix q r
   is_oversized r (inl over) = over
   is_oversized r (inr sets) = absurd (never r sets)
 
+  -- what a call returns as a search that stops at oversized prefixes alone, it returns as a search for the items of the
+  -- listing
   pub returned : (cursor : Option (List Label)) (stage : Stage) (res : Result (Option Found) Halt) (cursor' : Option (List Label)) (stage' : Stage) →
       steps.NextReturnsAt (IsMember q) (IsLeastRunOf q) (IsOversizedPrefix q) (names_of q) cursor stage res cursor' stage' →
       NextReturnsAt q cursor stage (own_result res) cursor' stage'

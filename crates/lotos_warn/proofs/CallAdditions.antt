@@ -76,21 +76,26 @@ calls_hide old new hidden b = adds_as old new (ContainsCallOf b) (ContainsCallOf
     (λ k. ((λ c. (c.0, under_hide c.1)), (λ c. (c.0, hide_part c.1))))
 
 module _ (old mid new : List ℕ) (l r : Flat) (first : Adds old mid (ContainsCallOf l)) (second : Adds mid new (ContainsCallOf r)) where
+  -- `new` has the processes of `old` and those that one of the two behaviours calls, and no others
   both : Adds old new (λ k. ContainsCallOf l k ⊎ ContainsCallOf r k)
   both = adds_both old mid new (ContainsCallOf l) (ContainsCallOf r) first second
 
+  -- a choice adds the processes that its sides call
   pub calls_choice : Adds old new (ContainsCallOf (choice l r))
   calls_choice = adds_as old new (λ k. ContainsCallOf l k ⊎ ContainsCallOf r k) (ContainsCallOf (choice l r))
       (λ k. both_parts (choice l r) l r k (λ gs h. choice_parts h) (λ gs h. left_choice h) (λ gs h. right_choice h)) both
 
+  -- a parallel composition adds the processes that its sides call
   pub calls_par : (s : Option (List Name)) → Adds old new (ContainsCallOf (par l s r))
   calls_par s = adds_as old new (λ k. ContainsCallOf l k ⊎ ContainsCallOf r k) (ContainsCallOf (par l s r))
       (λ k. both_parts (par l s r) l r k (λ gs h. par_parts h) (λ gs h. left_par h) (λ gs h. right_par h)) both
 
+  -- a `>>` adds the processes that its sides call
   pub calls_enable : Adds old new (ContainsCallOf (enable l r))
   calls_enable = adds_as old new (λ k. ContainsCallOf l k ⊎ ContainsCallOf r k) (ContainsCallOf (enable l r))
       (λ k. both_parts (enable l r) l r k (λ gs h. enable_parts h) (λ gs h. left_enable h) (λ gs h. right_enable h)) both
 
+  -- a `[>` adds the processes that its sides call
   pub calls_disable : Adds old new (ContainsCallOf (disable l r))
   calls_disable = adds_as old new (λ k. ContainsCallOf l k ⊎ ContainsCallOf r k) (ContainsCallOf (disable l r))
       (λ k. both_parts (disable l r) l r k (λ gs h. disable_parts h) (λ gs h. left_disable h) (λ gs h. right_disable h)) both

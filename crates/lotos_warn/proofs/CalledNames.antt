@@ -106,6 +106,7 @@ module _ (one : (scope : Scope) → IsDistinctScope scope → BindsOnce scope)
       number_called v.scope (one v.scope (visible_distinct spec a.typed.distinct v i)) (texts (formals_of v.definition)) (body_of v.definition) b
       h.in_scope h.callee h.actuals k h.definition r h.inside h.means
 
+  -- if a call in the body of a definition is bound to a process, the process is called by name
   occurrence : (k : ℕ) (v : ScopedDefinition) → In v (all_definitions spec) → IsCalledIn v k → IsCalled spec k
   occurrence k v i h = record {
     scope = v.scope;
@@ -117,12 +118,14 @@ module _ (one : (scope : Scope) → IsDistinctScope scope → BindsOnce scope)
     means = h.means;
   }
 
+  -- if a behaviour of the system contains a call of a process, the process is called by name
   process_by_name : (k : ℕ) (b : Flat) → IsBodyOf s b → ContainsCallOf b k → IsCalled spec k
   process_by_name k b of_whole c = occurrence k (scoped_whole spec) (inl refl) (named_call k (scoped_whole spec) (inl refl) s.start a.flat.start c)
   process_by_name k b (of_process p process e) c =
       let at = paired_at (processes_of spec) s.processes a.flat.processes p process e in
       occurrence k at.0 (inr at.1) (named_call k at.0 (inr at.1) process.body at.2.body c)
 
+  -- if a call in the body of a definition is bound to a process, some behaviour of the system calls the process
   by_number : (k : ℕ) (v : ScopedDefinition) → In v (all_definitions spec) → IsCalledIn v k → ContainsCallOf s.start k ⊎ IsCalledByAny s.processes k
   by_number k v i h =
       let numbered = (λ (b : Flat) (r : Resolves v.scope (body_of v.definition) b). numbered_call k v i b r h) in
@@ -145,12 +148,14 @@ module _ (one : (scope : Scope) → IsDistinctScope scope → BindsOnce scope)
     }))),
   )
 
+  -- a process that is reached in the system is reached by calls by name
   reached_name : (k : ℕ) → IsReachedIn s k → IsReached spec k
   reached_name k (by_start c) = at_once (named_call k (scoped_whole spec) (inl refl) s.start a.flat.start c)
   reached_name k (by_process {caller = p} r h) =
       let at = pair_of_second (processes_of spec) s.processes a.flat.processes p h.process h.located in
       later (reached_name p r) at.1 (named_call k at.0 (inr (get_in (processes_of spec) p at.0 at.1)) h.process.body at.2.body h.calls)
 
+  -- a process that is reached by calls by name is reached in the system
   reached_number : (k : ℕ) → IsReached spec k → IsReachedIn s k
   reached_number k (at_once h) = by_start (numbered_call k (scoped_whole spec) (inl refl) s.start a.flat.start h)
   reached_number k (later {caller = p} {scoped = v} r e h) =

@@ -56,9 +56,11 @@ action_becomes (c.at_first {h = h}) = (h, refl)
 action_becomes (c.later apart b) = action_becomes b
 
 module _ (names : List Name) (a : IsAscendingNames names) where
+  -- two names with the same number are equal
   one_name : (m o : Name) (g : ℕ) → IsNumberOf names m g → IsNumberOf names o g → m ≡ o
   one_name m o g h j = one_item names g m o h j
 
+  -- two numbers of the same name are equal
   one_number : (m : Name) (g h : ℕ) → IsNumberOf names m g → IsNumberOf names m h → g ≡ h
   one_number m g h i j = one_place names a g h m i j
 
@@ -68,20 +70,25 @@ module _ (names : List Name) (a : IsAscendingNames names) where
   one_first x y k moves moves = refl
   one_first x y k (acts {m = m} {g = g} i) (acts {m = o} j) = let same = one_name m o g i j in cc
 
+  -- a label by name has one label by number at most
   one_label : (x : First) (k j : Label) → IsLabelOf names x k → IsLabelOf names x j → k ≡ j
   one_label x k j exits exits = refl
   one_label x k j moves moves = refl
   one_label x k j (acts {m = m} {g = g} i) (acts {g = h} e) = let same = one_number m g h i e in cc
 
+  -- a label by name whose label by number is `Exit` is termination
   named_exit : (x : First) → IsLabelOf names x l.Exit → x ≡ termination
   named_exit x exits = refl
 
+  -- a label by name whose label by number is a gate is an action of a name with the number of that gate
   named_gate : (x : First) (g : ℕ) → IsLabelOf names x (l.Gate g) → (m : Name) × (x ≡ action m) × IsNumberOf names m g
   named_gate x g (acts {m = m} i) = (m, refl, i)
 
+  -- termination has no label by number but `Exit`
   numbered_exit : (k : Label) → IsLabelOf names termination k → k ≡ l.Exit
   numbered_exit k exits = refl
 
+  -- a label by number of an action is a gate with the number of its name
   numbered_gate : (m : Name) (k : Label) → IsLabelOf names (action m) k → (g : ℕ) × (k ≡ l.Gate g) × IsNumberOf names m g
   numbered_gate m k (acts {g = g} i) = (g, refl, i)
 
@@ -93,6 +100,7 @@ module _ (names : List Name) (a : IsAscendingNames names) where
   name_in [] (j ∷ ks) h m g is i = elim h [ ]
   name_in (x ∷ gs) [] h m g is i = elim h [ ]
 
+  -- if a name is in a list of names, its number is in the list of their numbers
   number_in : (gs : List Name) (ks : List ℕ) → AreNumbersOf names gs ks → (m : Name) (g : ℕ) → IsNumberOf names m g → In m gs → In g ks
   number_in [] [] no_pair m g is i = absurd i
   number_in (x ∷ gs) (j ∷ ks) (one_pair h hs) m g is (inl e) = inl (one_number m j g (subst (λ y. IsNumberOf names y j) e h) is)
@@ -123,21 +131,25 @@ module _ (names : List Name) (a : IsAscendingNames names) where
     not_in x k moves h = tt
     not_in x k (acts {m = m} {g = g} i) h = λ j. h (name_in gs ks are m g i j)
 
+  -- in a composition on all gates, both sides do a label together by name if they synchronize on it by number
   together_on_all : (x : First) (k : Label) → IsLabelOf names x k → Synchronizes None k → IsTogether None x
   together_on_all x k exits h = tt
   together_on_all x k moves h = h
   together_on_all x k (acts i) h = tt
 
+  -- in a composition on all gates, both sides synchronize on a label by number if they do it together by name
   synchronized_on_all : (x : First) (k : Label) → IsLabelOf names x k → IsTogether None x → Synchronizes None k
   synchronized_on_all x k exits h = tt
   synchronized_on_all x k moves h = h
   synchronized_on_all x k (acts i) h = tt
 
+  -- a label is not termination by name if it is not by number
   not_termination : (x : First) (k : Label) → IsLabelOf names x k → IsNotTermination k → x ≢ termination
   not_termination x k exits h = absurd h
   not_termination x k moves h = λ e. cc
   not_termination x k (acts i) h = λ e. cc
 
+  -- a label is not termination by number if it is not by name
   is_not_termination : (x : First) (k : Label) → IsLabelOf names x k → x ≢ termination → IsNotTermination k
   is_not_termination x k exits h = absurd (h refl)
   is_not_termination x k moves h = tt
@@ -164,6 +176,7 @@ module _ (names : List Name) (a : IsAscendingNames names) where
   relabelled_gate (f ∷ fs) (i ∷ is) h [] (k ∷ ks) actuals m g j at r = elim actuals [ ]
   relabelled_gate (f ∷ fs) (i ∷ is) h (b ∷ gs) [] actuals m g j at r = elim actuals [ ]
 
+  -- what a call makes of the name of a gate is what relabelling makes of its number
   renamed_gate : (fs : List Name) (is : List ℕ) → AreNumbersOf names fs is → (gs : List Name) (ks : List ℕ) → AreNumbersOf names gs ks →
       (m o : Name) (g : ℕ) → IsNumberOf names m g → Becomes (zip fs gs) (action m) (action o) →
       (j : Label) × Relabels (zip is ks) (l.Gate g) j × IsLabelOf names (action o) j

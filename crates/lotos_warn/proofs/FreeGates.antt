@@ -40,6 +40,8 @@ module _ (has : BehaviourView → Placed → Type 0) (listed : SyncView → Name
     (acts : (g : Placed) (b : BehaviourView) → has (prefix (Gate g) b) g)
     (passes : (g p : Placed) (gs : List Placed) → In g gs → has (call p gs) g)
     (lists : (l : BehaviourView) (s : SyncView) (r : BehaviourView) (n : Name) → listed s n → (g : Placed) × has (par l s r) g × (g.name ≡ n)) where
+  -- if a part of a behaviour has a gate that is not hidden there, the gate is not hidden around the behaviour, and the
+  -- behaviour has it free by its form
   in_part : (start : List Name) (b : BehaviourView) (hidden : List Name) (part : BehaviourView) (g : Placed) →
       IsSubexpression start b hidden part → has part g → (In g.name hidden → ⊥) → (In g.name start → ⊥) × HasIn listed b g.name
   in_part start b hidden part g parts.whole h v = (v, by_itself b g h)
@@ -56,6 +58,8 @@ module _ (has : BehaviourView → Placed → Type 0) (listed : SyncView → Name
   in_part start b hidden part g (in_disable_left i) h v = let r = in_part start _ hidden part g i h v in (r.0, inl r.1)
   in_part start b hidden part g (in_disable_right i) h v = let r = in_part start _ hidden part g i h v in (r.0, inr r.1)
 
+  -- if each part of a behaviour is a part of another, with the same gates hidden around it, the other has each gate
+  -- that the first has
   lifted : (start more : List Name) (t u : BehaviourView) (n : Name) →
       ((there : List Name) (part : BehaviourView) → IsSubexpression more t there part → IsSubexpression start u there part) →
       HasFrom has more t n → HasFrom has start u n
@@ -69,13 +73,16 @@ module _ (has : BehaviourView → Placed → Type 0) (listed : SyncView → Name
     visible = h.visible;
   }
 
+  -- a behaviour has a gate, with these gates hidden around it, if it has the gate itself and the gate is none of them
   itself : (start : List Name) (b : BehaviourView) (n : Name) (g : Placed) → has b g → g.name ≡ n → (In n start → ⊥) → HasFrom has start b n
   itself start b n g h e v = record { hidden = start; part = b; gate = g; inside = parts.whole; with_gate = h; named = e; visible = v }
 
+  -- a prefix has the gate of its action, unless that is hidden around it
   by_action : (start : List Name) (a : Action) (b : BehaviourView) (n : Name) → (In n start → ⊥) → IsActionNamed a n → HasFrom has start (prefix a b) n
   by_action start Internal b n v h = absurd h
   by_action start (Gate g) b n v h = itself start (prefix (Gate g) b) n g (acts g b) h v
 
+  -- a behaviour has each gate that it has free by its form, unless that is hidden around it
   from_form : (start : List Name) (b : BehaviourView) (n : Name) → (In n start → ⊥) → HasIn listed b n → HasFrom has start b n
   from_form start stop n v h = absurd h
   from_form start exit n v h = absurd h
@@ -95,10 +102,12 @@ module _ (has : BehaviourView → Placed → Type 0) (listed : SyncView → Name
   from_form start (disable l r) n v (inr h) = lifted start start r (disable l r) n (λ there part i. in_disable_right i) (from_form start r n v h)
   from_form start (call p gs) n v h = let g = in_map_from (λ (g : Placed). g.name) n gs h in itself start (call p gs) n g.0 (passes g.0 p gs g.1) g.2 v
 
+  -- if a behaviour has a gate free, it has the gate free by its form
   to_form : (b : BehaviourView) (n : Name) → HasFree has b n → HasIn listed b n
   to_form b n h = subst (HasIn listed b) h.named
       (in_part [] b h.hidden h.part h.gate h.inside h.with_gate (λ i. h.visible (subst (λ m. In m h.hidden) h.named i))).1
 
+  -- if a behaviour has a gate, with no gates hidden around it, it has the gate free
   free_of : (b : BehaviourView) (n : Name) → HasFrom has [] b n → HasFree has b n
   free_of b n h = record {
     hidden = h.hidden;

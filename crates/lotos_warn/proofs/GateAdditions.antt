@@ -15,15 +15,19 @@ flip h = (h.1, h.0)
 
 module _ (free : BehaviourView → Name → Type 0) (listed : SyncView → Name → Type 0)
     (same : (b : BehaviourView) (n : Name) → free b n ↔ HasIn listed b n) where
+  -- if the free gates of a behaviour are added, the gates that it has free by its form are
   shown : (old new : List Name) (b : BehaviourView) → Adds old new (free b) → Adds old new (HasIn listed b)
   shown old new b = adds_as old new (free b) (HasIn listed b) (same b)
 
+  -- if the gates that a behaviour has free by its form are added, its free gates are
   made : (old new : List Name) (b : BehaviourView) → Adds old new (HasIn listed b) → Adds old new (free b)
   made old new b = adds_as old new (HasIn listed b) (free b) (λ n. flip (same b n))
 
+  -- `stop` adds no gate to those that are free
   pub form_stop : (names : List Name) → Adds names names (free stop)
   form_stop names = made names names stop (adds_nothing names (HasIn listed stop) (λ n h. h))
 
+  -- `exit` adds no gate to those that are free
   pub form_exit : (names : List Name) → Adds names names (free exit)
   form_exit names = made names names exit (adds_nothing names (HasIn listed exit) (λ n h. h))
 
@@ -40,6 +44,7 @@ module _ (free : BehaviourView → Name → Type 0) (listed : SyncView → Name 
     pub form_disable : (l r : BehaviourView) → Adds old mid (free l) → Adds mid new (free r) → Adds old new (free (disable l r))
     form_disable l r h k = made old new (disable l r) (adds_both old mid new (HasIn listed l) (HasIn listed r) (shown old mid l h) (shown mid new r k))
 
+  -- a parallel composition adds the free gates of its sides, and those that its list has by `listed`
   pub form_par : (old mid more new : List Name) (l : BehaviourView) (s : SyncView) (r : BehaviourView) →
       Adds old mid (free l) → Adds mid more (listed s) → Adds more new (free r) → Adds old new (free (par l s r))
   form_par old mid more new l s r h k m =
@@ -47,6 +52,7 @@ module _ (free : BehaviourView → Name → Type 0) (listed : SyncView → Name 
       (adds_both old mid new (HasIn listed l) (λ n. listed s n ⊎ HasIn listed r n) (shown old mid l h)
       (adds_both mid more new (listed s) (HasIn listed r) k (shown more new r m)))
 
+  -- a hiding adds the free gates of the behaviour inside it, which were found apart, without those that it hides
   pub form_hide : (old new empty inside : List Name) (gs : List Placed) (b : BehaviourView) → empty ≡ [] → Adds empty inside (free b) →
       Adds old new (IsVisible (texts gs) inside) → Adds old new (free (hide gs b))
   form_hide old new empty inside gs b none h k =
@@ -54,6 +60,7 @@ module _ (free : BehaviourView → Name → Type 0) (listed : SyncView → Name 
       made old new (hide gs b) (adds_as old new (IsVisible (texts gs) inside) (HasIn listed (hide gs b))
       (λ n. ((λ v. (v.0, (alone n).0 v.1)), (λ v. (v.0, (alone n).1 v.1)))) k)
 
+  -- a call adds its actual gates to those that are free
   pub form_call : (old new : List Name) (p : Placed) (gs : List Placed) → Adds old new (λ n. In n (texts gs)) → Adds old new (free (call p gs))
   form_call old new p gs h = made old new (call p gs) h
 

@@ -28,6 +28,7 @@ module _ (processes : List FlatProcess) (known : List FirstLabels) where
   abbrev pub AreCallsKnown : Flat → Type 0
   AreCallsKnown b = (k : ℕ) → CallsUnguarded b k → IsKnown processes known k
 
+  -- by the labels of the processes that it calls unguarded a behaviour begins with each label that it can begin with
   begins : (b : Flat) → AreCallsKnown b → (x : First) → CanBegin processes b x → BeginsBy processes known b x
   begins b calls x c.terminates = refl
   begins b calls x c.acts = refl
@@ -49,6 +50,7 @@ module _ (processes : List FlatProcess) (known : List FirstLabels) where
       let (labels, kept, same) = calls k g.itself process at in
       record { process = process; located = at; labels = labels; kept = kept; x = x; has = (same x).1 h; becomes = becomes }
 
+  -- a behaviour can begin with each label that it begins with by the labels of the processes that it calls unguarded
   can_begin : (b : Flat) → AreCallsKnown b → (x : First) → BeginsBy processes known b x → CanBegin processes b x
   can_begin stop calls x h = absurd h
   can_begin exit calls x h = subst (CanBegin processes exit) (sym h) c.terminates

@@ -85,12 +85,14 @@ none_at_all labels none empty = by_parts labels.terminates labels.internal refl 
 
 -- the labels by what those of the parts are
 module _ (left right new : FirstLabels) (P Q : First → Type 0) (is_left : HasExactly left P) (is_right : HasExactly right Q) where
+  -- if the new labels are those of the left part and those of the right, they are those with `P` and those with `Q`
   pub either_as : HasExactly new (λ x. Has left x ⊎ Has right x) → HasExactly new (λ x. P x ⊎ Q x)
   either_as exact x = (
     (λ h. elim ((exact x).0 h) [ inl i ↦ inl ((is_left x).0 i) | inr i ↦ inr ((is_right x).0 i) ]),
     (λ h. (exact x).1 (elim h [ inl p ↦ inl ((is_left x).1 p) | inr q ↦ inr ((is_right x).1 q) ])),
   )
 
+  -- if the new labels are those of a composition of the parts' labels, they are those of a composition of `P` and `Q`
   pub composed_as : (sync : Option (List Name)) → HasExactly new (IsComposed sync (Has left) (Has right)) → HasExactly new (IsComposed sync P Q)
   composed_as sync exact x = (
     (λ h. elim ((exact x).0 h) [

@@ -42,6 +42,8 @@ module _ (gate : Placed) (side : Side) where
     pub listed : IsFirstOfName gate list
     pub unoffered : OffersFree (operand side left right) gate.name → ⊥
 
+  -- if the gate is the first of its name in the list of a parallel composition in a behaviour, and that side does not
+  -- offer it, the behaviour has the warning by its form
   pub to_form : (start hidden : List Name) (b l r : BehaviourView) (gs : List Placed) → IsSubexpression start b hidden (par l (gates gs) r) →
       IsFirstOfName gate gs → (OffersFree (operand side l r) gate.name → ⊥) → WarnsIn b
   to_form start hidden b l r gs parts.whole i u = inr (inr (i, u))
@@ -56,6 +58,8 @@ module _ (gate : Placed) (side : Side) where
   to_form start hidden b l r gs (in_disable_left x) i u = inl (to_form start hidden _ l r gs x i u)
   to_form start hidden b l r gs (in_disable_right x) i u = inr (to_form start hidden _ l r gs x i u)
 
+  -- if each part of a behaviour is a part of another, with the same gates hidden around it, the other has the warning
+  -- if the first has it
   lifted : (start more : List Name) (t u : BehaviourView) →
       ((there : List Name) (part : BehaviourView) → IsSubexpression more t there part → IsSubexpression start u there part) →
       WarnsFrom more t → WarnsFrom start u
@@ -69,6 +73,7 @@ module _ (gate : Placed) (side : Side) where
     unoffered = h.unoffered;
   }
 
+  -- a parallel composition has the warning if it is about its own list
   itself : (start : List Name) (l : BehaviourView) (s : SyncView) (r : BehaviourView) → ListWarns l s r → WarnsFrom start (par l s r)
   itself start l (gates gs) r h = record {
     hidden = start;
@@ -81,6 +86,7 @@ module _ (gate : Placed) (side : Side) where
   }
   itself start l all r h = absurd h
 
+  -- a behaviour that has the warning by its form has it, whatever gates are hidden around it
   pub from_form : (start : List Name) (b : BehaviourView) → WarnsIn b → WarnsFrom start b
   from_form start stop h = absurd h
   from_form start exit h = absurd h
@@ -97,6 +103,7 @@ module _ (gate : Placed) (side : Side) where
   from_form start (disable l r) (inr h) = lifted start start r (disable l r) (λ there part i. in_disable_right i) (from_form start r h)
   from_form start (call p gs) h = absurd h
 
+  -- if a behaviour has the warning with no gates hidden around it, the gate is unoffered in it on that side
   unoffered_of : (b : BehaviourView) → WarnsFrom [] b → IsUnofferedIn b gate side
   unoffered_of b h = record {
     hidden = h.hidden;
@@ -177,17 +184,21 @@ pub lists_hide : (old new : List Warning) (gs : List Placed) (b : BehaviourView)
 lists_hide old new gs b = adds_as old new (IsListWarning b) (IsListWarning (hide gs b)) (one_list b (hide gs b) (λ g s. ((λ h. h), (λ h. h))))
 
 module _ (old mid new : List Warning) (l r : BehaviourView) (first : Adds old mid (IsListWarning l)) (second : Adds mid new (IsListWarning r)) where
+  -- `new` has the warnings of `old` and those about lists of one of the two behaviours, and no others
   both : Adds old new (λ w. IsListWarning l w ⊎ IsListWarning r w)
   both = adds_both old mid new (IsListWarning l) (IsListWarning r) first second
 
+  -- a choice adds the warnings about lists that its sides have
   pub lists_choice : Adds old new (IsListWarning (choice l r))
   lists_choice = adds_as old new (λ w. IsListWarning l w ⊎ IsListWarning r w) (IsListWarning (choice l r))
       (both_lists l r (choice l r) (by_both l r (choice l r) (λ g s. ((λ h. h), (λ h. h))))) both
 
+  -- a `>>` adds the warnings about lists that its sides have
   pub lists_enable : (at : ℕ) → Adds old new (IsListWarning (enable l at r))
   lists_enable at = adds_as old new (λ w. IsListWarning l w ⊎ IsListWarning r w) (IsListWarning (enable l at r))
       (both_lists l r (enable l at r) (by_both l r (enable l at r) (λ g s. ((λ h. h), (λ h. h))))) both
 
+  -- a `[>` adds the warnings about lists that its sides have
   pub lists_disable : Adds old new (IsListWarning (disable l r))
   lists_disable = adds_as old new (λ w. IsListWarning l w ⊎ IsListWarning r w) (IsListWarning (disable l r))
       (both_lists l r (disable l r) (by_both l r (disable l r) (λ g s. ((λ h. h), (λ h. h))))) both
@@ -195,10 +206,12 @@ module _ (old mid new : List Warning) (l r : BehaviourView) (first : Adds old mi
 -- the names of each side are those that it offers
 module _ (l r : BehaviourView) (by_left by_right : List Name) (left : (n : Name) → In n by_left ↔ OffersFree l n)
     (right : (n : Name) → In n by_right ↔ OffersFree r n) where
+  -- the names of either side are exactly those that it offers
   side_offers : (s : Side) (n : Name) → In n (names_of s by_left by_right) ↔ OffersFree (operand s l r) n
   side_offers Left n = left n
   side_offers Right n = right n
 
+  -- a gate is missing on a side exactly if it is the first of its name in the list and the side does not offer it
   list_warns : (sync : SyncView) (g : Placed) (s : Side) → IsMissing by_left by_right sync (UnofferedGate g s) ↔ ListWarns g s l sync r
   list_warns (gates gs) g s = (
     (λ h. (h.1, (λ o. h.2 ((side_offers s g.name).1 o)))),
@@ -206,26 +219,33 @@ module _ (l r : BehaviourView) (by_left by_right : List Name) (left : (n : Name)
   )
   list_warns all g s = ((λ h. h), (λ h. h))
 
+  -- a warning that a process is not called is none about a missing gate
   no_other : (sync : SyncView) (p : Placed) → IsMissing by_left by_right sync (UncalledProcess p) → ⊥
   no_other (gates gs) p h = h
   no_other all p h = h
 
+  -- a warning that a process is not reached is none about a missing gate
   no_unreached : (sync : SyncView) (p : Placed) → IsMissing by_left by_right sync (UnreachedProcess p) → ⊥
   no_unreached (gates gs) p h = h
   no_unreached all p h = h
 
+  -- a warning that a definition never exits is none about a missing gate
   no_endless : (sync : SyncView) (p : Placed) → IsMissing by_left by_right sync (NeverExits p) → ⊥
   no_endless (gates gs) p h = h
   no_endless all p h = h
 
+  -- a warning that the specification can do nothing is none about a missing gate
   no_dead : (sync : SyncView) (p : Placed) → IsMissing by_left by_right sync (DeadStart p) → ⊥
   no_dead (gates gs) p h = h
   no_dead all p h = h
 
+  -- a warning that a formal gate is not used is none about a missing gate
   no_unused : (sync : SyncView) (g : Placed) (d : Name) → IsMissing by_left by_right sync (UnusedGate g d) → ⊥
   no_unused (gates gs) g d h = h
   no_unused all g d h = h
 
+  -- the warnings about lists of a parallel composition are exactly those of its sides and those about missing gates of
+  -- its own list
   par_lists : (sync : SyncView) (w : Warning) →
       (IsListWarning l w ⊎ (IsListWarning r w ⊎ IsMissing by_left by_right sync w)) ↔ IsListWarning (par l sync r) w
   par_lists sync (UncalledProcess p) = ((λ h. elim h [ inl i ↦ i | inr (inl i) ↦ i | inr (inr i) ↦ no_other sync p i ]), (λ h. absurd h))
@@ -261,9 +281,11 @@ lists_par old mid more new by_left by_right l sync r h k first second third =
 
 -- after the first gate of a list its name is seen
 module _ (by_left by_right seen more : List Name) (g : Placed) (gs : List Placed) (added : Adds seen more (λ n. g.name ≡ n)) where
+  -- a name that is not seen, and is not that of the first gate, is not seen after that gate either
   later_seen : (other : Placed) → (In other.name seen → ⊥) → (g.name ≡ other.name → ⊥) → In other.name more → ⊥
   later_seen other none apart i = elim ((added other.name).0 i) [ inl j ↦ none j | inr e ↦ apart e ]
 
+  -- a gate that is missing in the list after its first gate is missing in the whole list
   later_missing : (other : Placed) (place : Side) → IsMissingGate by_left by_right more gs (UnofferedGate other place) →
       IsMissingGate by_left by_right seen (g ∷ gs) (UnofferedGate other place)
   later_missing other place m = (
@@ -272,6 +294,8 @@ module _ (by_left by_right seen more : List Name) (g : Placed) (gs : List Placed
     m.2,
   )
 
+  -- a gate is missing on a side exactly if it is the first of the list, its name is not seen and the side lacks it, or
+  -- if it is missing in the list after the first
   missing_side : (other : Placed) (place : Side) → IsMissingGate by_left by_right seen (g ∷ gs) (UnofferedGate other place) ↔
       (IsMissingUnseen by_left by_right seen g (UnofferedGate other place) ⊎ IsMissingGate by_left by_right more gs (UnofferedGate other place))
   missing_side other Left = (
@@ -297,6 +321,7 @@ module _ (by_left by_right seen more : List Name) (g : Placed) (gs : List Placed
     ]),
   )
 
+  -- a warning that is about the first gate on neither side is none about that gate
   no_missing : (w : Warning) → (IsMissingOn by_left Left g w → ⊥) → (IsMissingOn by_right Right g w → ⊥) → IsMissingUnseen by_left by_right seen g w → ⊥
   no_missing w left right (none, inl m) = left m
   no_missing w left right (none, inr m) = right m

@@ -17,6 +17,7 @@ use Rattle.lotos_warn.proofs.TerminatingTerms as c
 use Rattle.lotos_warn.proofs.TerminatingTerms.{CanTerminate, never_terminates}
 
 module _ (names : List Name) (flats : List FlatProcess) (processes : List Process) (all : Pairwise (IsNumberedProcess names) flats processes) where
+  -- a behaviour with calls by number may terminate if its term can
   may_exit : (b : Flat) (t : Term) → IsNumberedTerm names b t → CanTerminate processes t → MayExit flats b
   may_exit b t n.stops h = elim h [ ]
   may_exit b t n.exits h = x.of_exit

@@ -52,6 +52,7 @@ expanded_more system old new index caller before at added keeps = record {
 
 -- in the end all are there
 module _ (system : System) (keys : List ℕ) (index : ℕ) (all : IsExpandedTo system keys index) (done : length keys ≤ index) where
+  -- each process that is reached is among the numbers
   there : (k : ℕ) → IsReachedIn system k → In k keys
   there k (by_start c) = all.start k c
   there k (by_process {caller = p} r c) =
@@ -59,5 +60,6 @@ module _ (system : System) (keys : List ℕ) (index : ℕ) (all : IsExpandedTo s
       let z = slice_get_within keys i p at in
       all.followed i p (omega arith) at k c
 
+  -- the numbers are exactly those of the processes that are reached
   pub expanded_all : (k : ℕ) → In k keys ↔ IsReachedIn system k
   expanded_all k = (all.sound k, there k)

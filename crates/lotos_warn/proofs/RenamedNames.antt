@@ -42,6 +42,7 @@ record IsSource (pairs : List (Name × Name)) (seen names : List Name) (n : Name
   becomes : Becomes pairs (action gate) (action n)
 
 module _ (names : List Name) (n : Name) where
+  -- if a call makes the name of the names, one of them that is not seen becomes the name
   source : (formals actuals seen : List Name) → IsRenamed formals actuals seen names n → IsSource (zip formals actuals) seen names n
   source [] actuals seen h = record { gate = n; among = h.1; unseen = h.0; becomes = c.stays }
   source (f ∷ formals) [] seen h = record { gate = n; among = h.1; unseen = h.0; becomes = c.stays }
@@ -51,6 +52,7 @@ module _ (names : List Name) (n : Name) where
       let s = source formals actuals (f ∷ seen) h in
       record { gate = s.gate; among = s.among; unseen = λ i. s.unseen (inr i); becomes = c.later (λ e. s.unseen (inl e)) s.becomes }
 
+  -- if one of the names that is not seen becomes the name, a call makes the name of the names
   from_source : (formals actuals seen : List Name) (g : Name) → In g names → (In g seen → ⊥) → Becomes (zip formals actuals) (action g) (action n) →
       IsRenamed formals actuals seen names n
   from_source [] actuals seen g i out b =

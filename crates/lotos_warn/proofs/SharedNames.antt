@@ -59,6 +59,7 @@ first_by_test first second name false e out = inl out
 
 -- a name that is removed from a set, since that or another set lacks it
 module _ (old new other : List Name) (n : Name) where
+  -- if the set itself or the other set lacks a name, to remove the name is to remove it if the other lacks it
   pub unshared : ((m : Name) → In m new ↔ (In m old × (n ≡ m → ⊥))) → (In n old → ⊥) ⊎ (In n other → ⊥) → KeepsShared old new other (λ m. n ≡ m)
   unshared lacks none m = (
     (λ i. let h = (lacks m).0 i in (h.0, λ e. absurd (h.1 e))),

@@ -122,6 +122,7 @@ equal_warnings v w e =
 
 module _ (total : IsTotalOrder warning_cmp) (laws : IsEquivalence (eq_by_cmp warning_cmp)) (old sorted new : List Warning)
     (moved : IsPermutation old sorted) (filtered : IsFiltered (DiffersFromLast (eq_by_cmp warning_cmp)) [] sorted new) where
+  -- the new warnings are the sorted ones, without any that is equal to the one before it
   kept : new ≡ dedup (eq_by_cmp warning_cmp) sorted
   kept = dedup_is (eq_by_cmp warning_cmp) sorted new filtered
 

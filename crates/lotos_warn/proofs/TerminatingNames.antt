@@ -13,6 +13,7 @@ use Rattle.lotos_warn.specs.Warnings.{scoped_whole}
 use Rattle.lotos_warn.proofs.CalledNames.{BindsOnce}
 
 module _ (one : (scope : Scope) → IsDistinctScope scope → BindsOnce scope) (spec : DefinitionView) (s : System) (a : IsAccepted spec s) where
+  -- a behaviour that may terminate by name may terminate with calls by number
   number : (scope : Scope) → BindsOnce scope → (b : BehaviourView) (c : Flat) → Resolves scope b c → MayTerminate spec scope b → MayExit s.processes c
   number scope once b c of_stop h = elim h [ ]
   number scope once b c of_exit by_exit = x.of_exit
@@ -31,6 +32,7 @@ module _ (one : (scope : Scope) → IsDistinctScope scope → BindsOnce scope) (
       let own = one v.scope (visible_distinct spec a.typed.distinct v (inr (get_in (processes_of spec) k v at))) in
       x.of_call (subst (λ i. slice_get s.processes i ≡ Some q) (sym same) there) (number v.scope own (body_of v.definition) q.body is.body h)
 
+  -- a behaviour that may terminate with calls by number may terminate by name
   pub name : (scope : Scope) (b : BehaviourView) (c : Flat) → Resolves scope b c → MayExit s.processes c → MayTerminate spec scope b
   name scope b c of_stop h = elim h [ ]
   name scope b c of_exit x.of_exit = by_exit

@@ -28,6 +28,7 @@ relabels_termination s.exit_stays = refl
 relabels_termination (s.later apart r) = absurd (let same : l.Gate _ ≡ l.Exit = relabels_termination r in cc)
 
 module _ (system : List Process) where
+  -- if a relabelling can terminate, its body can
   in_body : {m : List (ℕ × ℕ)} {b : Term} → CanTerminate system (relabel m b) → CanTerminate system b
   in_body (in_relabelling h) = h
 
@@ -73,6 +74,7 @@ module _ (system : List Process) where
   before_step (s.calls at r) h = in_call at (in_body (before_step r h))
   before_step (s.relabels changes r) (in_relabelling h) = in_relabelling (before_step r h)
 
+  -- if a derivation leads from a term to one that can terminate, the first term can terminate
   at_first : {first t : Term} → IsDerived system first t → CanTerminate system t → CanTerminate system first
   at_first no_step h = h
   at_first (one_more derived step) h = at_first derived (before_step step h)

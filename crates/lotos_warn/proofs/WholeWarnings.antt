@@ -30,12 +30,15 @@ after_first view (x ∷ xs) whole e =
     ap (map view) (take_all (length (x ∷ xs) - 1) xs within) ∙ others
 
 module _ (whole : DefinitionView) where
+  -- each definition in the list of those of the specification has a scope in the specification
   scoped : (d : DefinitionView) → In d (definitions_in whole) → (scope : Scope) × IsDefinition whole scope d
   scoped d i = scope_of d (all_definitions whole) (subst (In d) (everywhere_in_order whole) i)
 
+  -- a definition of the specification, with whatever scope, is in the list of its definitions
   unscoped : (scope : Scope) (d : DefinitionView) → IsDefinition whole scope d → In d (definitions_in whole)
   unscoped scope d i = subst (In d) (sym (everywhere_in_order whole)) (without_scope scope d (all_definitions whole) i)
 
+  -- one of the definitions has a warning about an unused gate exactly if the specification has it
   unused : (gate : Placed) (name : Name) → IsGateWarningOfAny (definitions_in whole) (UnusedGate gate name) ↔ IsUnusedGate whole gate name
   unused gate name = (
     (λ (d, i, h). elim h [
@@ -120,9 +123,11 @@ module _ (whole : DefinitionView) (called reached exiting : List ℕ) (by_name :
     (by_exit : (k : ℕ) (v : ScopedDefinition) → slice_get (processes_of whole) k ≡ Some v →
     In k exiting ↔ MayTerminate whole v.scope (body_of v.definition))
     (exits : Bool) (by_start : (exits ≡ true) ↔ MayTerminate whole (within whole 0 []) (body_of whole)) where
+  -- the definitions inside the specification are those of its processes, in the same order
   inner_row : definitions_in_list (inner_of whole) ≡ map (λ v. v.definition) (processes_of whole)
   inner_row = listed_row (within whole 0 []) 0 (inner_of whole)
 
+  -- if one of the definitions inside the specification has a warning, one of its processes has it
   found : (w : Warning) → IsProcessWarningOfAny called reached exiting 0 (definitions_in_list (inner_of whole)) w → IsWarned whole called reached exiting w
   found w h =
       let r = warned_at called reached exiting w (processes_of whole) 0 (subst (λ ds. IsProcessWarningOfAny called reached exiting 0 ds w) inner_row h) in
@@ -135,11 +140,13 @@ module _ (whole : DefinitionView) (called reached exiting : List ℕ) (by_name :
         warned = subst (λ k. IsProcessWarning called reached exiting k r.scoped.definition w) n r.warned;
       }
 
+  -- if a process of the specification has a warning, one of the definitions inside the specification has it
   lost : (w : Warning) (process : ℕ) (v : ScopedDefinition) → slice_get (processes_of whole) process ≡ Some v →
       IsProcessWarning called reached exiting process v.definition w → IsProcessWarningOfAny called reached exiting 0 (definitions_in_list (inner_of whole)) w
   lost w process v at h = subst (λ ds. IsProcessWarningOfAny called reached exiting 0 ds w) (sym inner_row)
       (warned_from called reached exiting w (processes_of whole) 0 process v process at (omega arith) h)
 
+  -- one of the definitions inside has the warning that a process is not called exactly if the specification has it
   uncalled : (name : Placed) → IsProcessWarningOfAny called reached exiting 0 (definitions_in_list (inner_of whole)) (UncalledProcess name) ↔
       IsUncalledProcess whole name
   uncalled name = (
@@ -168,6 +175,7 @@ module _ (whole : DefinitionView) (called reached exiting : List ℕ) (by_name :
     ))),
   )
 
+  -- one of the definitions inside has the warning that a process is not reached exactly if the specification has it
   unreached : (name : Placed) → IsProcessWarningOfAny called reached exiting 0 (definitions_in_list (inner_of whole)) (UnreachedProcess name) ↔
       IsUnreachedProcess whole name
   unreached name = (
@@ -190,10 +198,13 @@ module _ (whole : DefinitionView) (called reached exiting : List ℕ) (by_name :
     )))),
   )
 
+  -- a truth value that is not true is false
   not_true : (b : Bool) → (b ≡ true → ⊥) → b ≡ false
   not_true true h = absurd (h refl)
   not_true false h = refl
 
+  -- if a definition is declared exit and can never terminate, a process or the specification itself has the warning
+  -- that it never exits
   placed : (name : Placed) (v : ScopedDefinition) → In v (all_definitions whole) → name ≡ name_of v.definition → declared_of v.definition ≡ Exit →
       (MayTerminate whole v.scope (body_of v.definition) → ⊥) →
       IsProcessWarningOfAny called reached exiting 0 (definitions_in_list (inner_of whole)) (NeverExits name) ⊎ IsEndlessWhole exits whole (NeverExits name)
@@ -210,6 +221,8 @@ module _ (whole : DefinitionView) (called reached exiting : List ℕ) (by_name :
         | inr j ↦ (let at = in_get (processes_of whole) v j in inl (of_process at.0 at.1))
       ]
 
+  -- a process or the specification itself has the warning that it never exits exactly if a definition of that name is
+  -- declared exit and can never terminate
   endless : (name : Placed) →
       (IsProcessWarningOfAny called reached exiting 0 (definitions_in_list (inner_of whole)) (NeverExits name) ⊎ IsEndlessWhole exits whole (NeverExits name))
       ↔ IsNeverExit whole name
@@ -239,12 +252,15 @@ module _ (whole : DefinitionView) (called reached exiting : List ℕ) (by_name :
     (λ h. placed name (record { scope = h.scope; definition = h.definition }) h.located h.named h.declared h.never),
   )
 
+  -- no process has a warning that a gate is not used
   not_gate : (gate : Placed) (name : Name) → IsProcessWarningOfAny called reached exiting 0 (definitions_in_list (inner_of whole)) (UnusedGate gate name) → ⊥
   not_gate gate name h = elim (found (UnusedGate gate name) h).warned [ inl none ↦ none | inr (inl none) ↦ none | inr (inr none) ↦ none ]
 
+  -- no process has a warning that the specification can do nothing
   not_dead : (name : Placed) → IsProcessWarningOfAny called reached exiting 0 (definitions_in_list (inner_of whole)) (DeadStart name) → ⊥
   not_dead name h = elim (found (DeadStart name) h).warned [ inl none ↦ none | inr (inl none) ↦ none | inr (inr none) ↦ none ]
 
+  -- no process has a warning that a side does not offer a gate
   not_side : (gate : Placed) (side : Side) → IsProcessWarningOfAny called reached exiting 0 (definitions_in_list (inner_of whole)) (UnofferedGate gate side) → ⊥
   not_side gate side h = elim (found (UnofferedGate gate side) h).warned [ inl none ↦ none | inr (inl none) ↦ none | inr (inr none) ↦ none ]
 
