@@ -32,6 +32,7 @@ pub mod FlatSystemUnique
 pub mod Faults
 pub mod FaultOffsets
 pub mod PassResults
+pub mod BoundProcesses
 pub mod CalledProcesses
 pub mod DuplicateNames
 pub mod UsedGates

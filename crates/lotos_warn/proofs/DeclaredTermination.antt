@@ -18,7 +18,7 @@ use Rattle.lotos_check.proofs.ScopedDefinitions.{visible_distinct}
 use Rattle.lotos_store.specs.Terms.{Process, Term}
 use Rattle.lotos_warn.specs.Derivations.{IsTermOf, NeverTerminates}
 use Rattle.lotos_warn.specs.Termination.{MayTerminate, by_exit, by_prefix, by_choice_left, by_choice_right, by_par, by_hide, by_enable, by_disable_left, by_disable_right, by_call}
-use Rattle.lotos_warn.proofs.BoundProcesses.{bound_process}
+use Rattle.lotos_check.proofs.BoundProcesses.{bound_process}
 use Rattle.lotos_warn.proofs.NumberedTermination.{never_by_text}
 
 -- a behaviour whose names are all bound has a functionality

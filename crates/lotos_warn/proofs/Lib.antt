@@ -20,5 +20,4 @@ pub mod WholeWarnings
 pub mod DefinitionWarnings
 pub mod TerminatingTerms
 pub mod NumberedTermination
-pub mod BoundProcesses
 pub mod DeclaredTermination
