@@ -56,6 +56,7 @@ bench: build ## measures time and memory
 	bench/terms
 	bench/search
 	bench/ever
+	bench/growth
 
 extra: build ## runs every tool that is not part of the gate
 	tools/extra
