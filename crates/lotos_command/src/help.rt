@@ -315,8 +315,9 @@ pub(crate) const STATES_LONG_HELP: &str = "The most states that may be reached, 
 A state is one of the specification and of the pattern together: a term that can be
 reached, and how much of the pattern the labels on the way match. If more of them are
 reached before a match is found, the search stops with status 4. Each takes some
-150 to 600 bytes of memory. For example, for `a; b; stop` and the pattern `A B` the
-search stops with `--states 1`.
+150 to 600 bytes of memory; the steps that are kept of all of them take at most some
+400 MB more. For example, for `a; b; stop` and the pattern `A B` the search stops with
+`--states 1`.
 
 With `<livelock>`, `<forever>` and `<never>` all states of the specification that can
 be reached are found first. If they are more, the search stops too.";
