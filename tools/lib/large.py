@@ -1,4 +1,4 @@
-"""Large texts by kind, each of a size that can be doubled; for `tools/hostile`."""
+"""Large texts and large rows of words by kind, each of a size that can be doubled; for `tools/hostile`."""
 import random
 
 
@@ -165,4 +165,34 @@ KINDS = {
     "calls beside stop": (calls("P{} [x] ||| stop", "x; stop"), 1_000),
     "unguarded calls": (calls("P{} [x]", "P0 [x]"), 10_000),
     "wrong functionalities": (wrong_functionalities, 10_000),
+}
+
+SEARCH = ["search", "--depth", "1"]
+
+# Rows of words that are many or long, and the smaller of their two sizes. The system takes at most 128 KiB in one word.
+WORDS = {
+    "many elements": (lambda count: SEARCH + ["A"] * count, 30_000),
+    "many labels to follow": (lambda count: ["after"] + ["A"] * count, 30_000),
+    "many options": (lambda count: ["search"] + ["--strong"] * count, 20_000),
+    "many words in one": (lambda count: [*SEARCH, " ".join(["<any>"] * count)], 10_000),
+    "blanks around a word": (lambda count: [*SEARCH, " " * count + "A" + " " * count], 30_000),
+    "a label": (lambda count: [*SEARCH, "A" * count], 60_000),
+    "a label of ever": (lambda count: ["ever", "A" * count], 60_000),
+    "a set of labels": (lambda count: [*SEARCH, ",".join(numbered("A", count))], 8_000),
+    "a set of one label": (lambda count: [*SEARCH, "<not>", ",".join(["A"] * count)], 30_000),
+    "commas": (lambda count: [*SEARCH, "," * count], 60_000),
+    "angle brackets": (lambda count: [*SEARCH, "<" * count], 60_000),
+    "a mark of one label": (lambda count: [*SEARCH, "--after", "A" * count, "<any>"], 60_000),
+    "a mark of many labels": (lambda count: [*SEARCH, "--after", " ".join(["A"] * count), "<any>"], 30_000),
+    "one gate to hide, often": (lambda count: [*SEARCH, "--hide", ",".join(["A"] * count), "<any>"], 30_000),
+    "gates that are none": (lambda count: [*SEARCH, "--only", ",".join(numbered("Z", count)), "<any>"], 8_000),
+    "a number": (lambda count: ["search", "--depth", "9" * count, "A"], 60_000),
+    "zeros before a number": (lambda count: ["search", "--depth", "0" * count + "1", "A"], 60_000),
+    "an option": (lambda count: ["search", "--" + "d" * count], 60_000),
+    "a command": (lambda count: ["s" * count], 60_000),
+    "escapes": (lambda count: [*SEARCH, "\x1b[31m" * count], 10_000),
+    "turned writing": (lambda count: [*SEARCH, "\u202e" * count], 20_000),
+    "ligatures": (lambda count: [*SEARCH, "\ufb01" * count], 20_000),
+    "Kelvin signs": (lambda count: [*SEARCH, "\u212a" * count], 20_000),
+    "quotes": (lambda count: [*SEARCH, "\"'" * count], 30_000),
 }
