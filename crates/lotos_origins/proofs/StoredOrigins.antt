@@ -1,5 +1,5 @@
 -- The origins of internal steps of a table's terms have gates of the table.
-use Rattle.std.proofs.Common.{ℕ, List, length, inl, inr}
+use Rattle.std.proofs.Common.{ℕ, List, length}
 use Rattle.std.specs.Prelude.{zip}
 use Rattle.lotos_check.proofs.MappedLists.{in_zipped}
 use Rattle.lotos_store.specs.Terms.{AreGates, ArePairs, IsTerm, Term}

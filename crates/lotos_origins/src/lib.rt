@@ -19,7 +19,7 @@ mod parts;
 mod run_layers;
 mod run_origins;
 
-pub use followed_run::{FollowedRun, follow_run};
+pub use followed_run::{FollowedRun, follow_run, follow_run_after};
 pub use origin::Origin;
 pub use origin_search::internal_origin;
 pub use run_origins::find_origins;

@@ -1,12 +1,12 @@
 -- The texts of derivations, with what makes their internal steps.
-use Rattle.std.proofs.Common.{◌≡◌, ◌++◌, ◌∷◌, [], ℕ, List, length, refl}
+use Rattle.std.proofs.Common.{◌++◌, ◌∷◌, [], List, length, refl}
 use Rattle.std.specs.Prelude.{codes}
 use Rattle.lotos_check.specs.NameLists.{Name}
 use Rattle.lotos_store.specs.Terms.{IsTerm, Term}
 use Rattle.lotos_store.specs.declared.label.Label.{Label as TermLabel}
 use Rattle.lotos_store.specs.declared.label.Label.TheVariants as l
 use Rattle.lotos_terms.specs.Steps.{Step}
-use Rattle.lotos_terms.specs.TableView.{IsLabel, IsSoundView, TableView}
+use Rattle.lotos_terms.specs.TableView.{IsLabel, TableView}
 use Rattle.lotos_terms.proofs.PrintedLabels.{has_text}
 use Rattle.lotos_listing.specs.Order.{Label}
 use Rattle.lotos_origins.specs.Origins.{DerivesBy, InternalStep, IsOriginOver, ends, internally, observably}

@@ -13,7 +13,7 @@ use Rattle.lotos_ever.specs.NamedRuns.{EndsAsDemanded}
 use Rattle.lotos_output.specs.NamedRuns.{DerivesNamed}
 use Rattle.lotos_output.specs.declared.item_runs.ItemRuns.{ItemRuns}
 use Rattle.lotos_output.specs.declared.item_runs.ItemRuns.TheVariants as written
-use Rattle.lotos_output.specs.declared.run_names.RunNames.{RunNames}
+use Rattle.lotos_output.specs.RunNames.{RunNamesView}
 use Rattle.lotos_command.specs.declared.command.Runs.{Runs}
 use Rattle.lotos_command.specs.declared.command.Runs.TheVariants as runs
 
@@ -25,8 +25,8 @@ pub data RunsView : Type 0 where
   origins : MatchQuestion → RunsView
 
 -- the question whose derivations are followed
-abbrev pub question_of : RunNames → MatchQuestion
-question_of names = match_question_of names.table names.pattern.pattern
+abbrev pub question_of : RunNamesView → MatchQuestion
+question_of names = match_question_of names.table names.pattern
 
 -- the view of it
 abbrev pub runs_view : ItemRuns → RunsView

@@ -1,5 +1,6 @@
 pub mod OutputLines
 pub mod NamedRuns
+pub mod RunNames
 pub mod ItemRuns
 pub mod WriteFaults
 pub mod FlushOutcome

@@ -2,24 +2,28 @@
 ghost use Rattle.std.specs.Prelude.{◌≡◌, ◌∷◌, [], ◌++◌, IfOk, List, OnOk, length, string_bytes};
 ghost use Rattle.std.specs.String.Boundary.{IsSplitPoint};
 ghost use Rattle.lotos_check.specs.CheckedView.{system_of};
+ghost use Rattle.lotos_terms.specs.TableView.{Grows, IsSoundView};
 ghost use Rattle.lotos_listing.specs.Order.{Label as Text};
 ghost use Rattle.lotos_listing.specs.Question.{ArePrinted};
+ghost use Rattle.lotos_origins.specs.FollowedRuns.{IsFollowed};
 ghost use Rattle.lotos_pattern.specs.declared.ever_pattern.EndKind.TheVariants as kinds;
 ghost use Rattle.lotos_ever.specs.NamedRuns.{EndsAsDemanded, IsNamedRun};
 ghost use Rattle.lotos_output.specs.ItemRuns.{AreRunTexts, CanWriteRun, IsAboutSystem, question_of, runs_of, runs_view};
 ghost use Rattle.lotos_output.specs.NamedRuns.{AreNamed, writes_runs};
 ghost use Rattle.lotos_output.specs.OutputLines.{run_text};
+ghost use Rattle.lotos_output.specs.RunNames.{IsFollowedLast};
 ghost use Rattle.lotos_output.specs.declared.item_runs.ItemRuns.TheVariants as written;
 
 use crate::named_runs::append_named_run;
 use crate::output_lines::append_run;
-use crate::run_names::RunNames;
+use crate::run_names::{LastRun, RunNames};
 use lotos_check::Checked;
 use lotos_command::Runs;
 use lotos_ever::laws::table_has_match_question;
-use lotos_ever::{NamedRun, name_run};
+use lotos_ever::{NamedRun, name_followed_run};
 use lotos_normal::NormalTable;
-use lotos_origins::laws::origins_stay_in_table;
+use lotos_origins::laws::{followed_runs_grow, origins_stay_in_table};
+use lotos_origins::{FollowedRun, follow_run, follow_run_after};
 use lotos_pattern::{EndKind, EverPattern, Pattern};
 use lotos_terms::Label;
 use lotos_terms::laws::steps_stay_in_table;
@@ -115,7 +119,11 @@ impl RunNames {
             pattern: pattern.copied(alloc)?,
             kind: EndKind::Refuses,
         };
-        Ok(RunNames { table, pattern })
+        Ok(RunNames {
+            table,
+            pattern,
+            last: None,
+        })
     }
 
     /// What makes the internal steps of a derivation by the run that ends as the pattern demands.
@@ -128,7 +136,48 @@ impl RunNames {
     {
         steps_stay_in_table();
         origins_stay_in_table();
+        followed_runs_grow();
         self.table.recall_sound();
-        name_run(alloc, &mut self.table, &self.pattern, run)
+        let last = self.last.take();
+        let followed = follow_next(alloc, &mut self.table, run, last)?;
+        let named = name_followed_run(alloc, &mut self.table, &self.pattern, run, &followed)?;
+        let run = copied(alloc, run)?;
+        self.last = Some(LastRun { run, followed });
+        Ok(named)
     }
+}
+
+/// Follows a run from the table's start, after the one that was followed last, if there is one.
+fn follow_next(
+    alloc: Global,
+    table: &mut NormalTable,
+    run: &[Label],
+    last: Option<LastRun>,
+) -> Result<FollowedRun, AllocError>
+    requires { IsFollowedLast table.old last }
+    ensures grows { Grows table.old table.new }
+    ensures sound { IsSoundView table.new }
+    ensures followed { IfOk result (IsFollowed table.new table.new.start run.now) }
+{
+    table.recall_sound();
+    let start = table.start();
+    match last {
+        None => follow_run(alloc, table, start, run),
+        Some(last) => {
+            let LastRun {
+                run: earlier,
+                followed,
+            } = last;
+            follow_run_after(alloc, table, start, run, followed, earlier.as_slice())
+        }
+    }
+}
+
+/// The same labels in a list of its own.
+fn copied(alloc: Global, run: &[Label]) -> Result<Vec<Label>, AllocError>
+    ensures { IfOk result (λ v. v.items ≡ run.now) }
+{
+    let mut labels = Vec::new(alloc);
+    labels.extend_from_slice(run)?;
+    Ok(labels)
 }

@@ -1,4 +1,4 @@
-use Rattle.std.proofs.Common.{◌≡◌, ◌∙◌, ◌++◌, ◌∷◌, List, [], ap, codes, drop, string_bytes, subst, sym}
+use Rattle.std.proofs.Common.{◌∙◌, ◌++◌, [], ap, codes, string_bytes, subst, sym}
 use Rattle.lotos_output.specs.NamedRuns.{AreNamed}
 use Rattle.lotos_output.specs.OutputLines.{row_text, sequence_text}
 use Rattle.lotos_output.proofs.NamedLines.{round_joined}

@@ -1,4 +1,4 @@
-use Rattle.std.proofs.Common.{◌∙◌, ap, drop, sym, ◌+◌, ◌++◌}
+use Rattle.std.proofs.Common.{◌∙◌, ap, drop, ◌+◌, ◌++◌}
 use Rattle.lotos_output.proofs.FormattedLines.{left_from}
 use Rattle.lotos_output.proofs.NamedLines.{step_behind, step_left, steps_done}
 use Rattle.lotos_output.proofs.named_runs.append_other_steps.Goals as goal

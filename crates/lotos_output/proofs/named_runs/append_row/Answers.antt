@@ -1,4 +1,4 @@
-use Rattle.std.proofs.Common.{◌≡◌, ◌∙◌, [], ap, false, length, nat_eq, sym, true}
+use Rattle.std.proofs.Common.{◌≡◌, ◌∙◌, ap, false, length, nat_eq, true}
 use Rattle.lotos_output.proofs.NamedLines.{row_named}
 use Rattle.lotos_output.proofs.named_runs.append_row.Goals as goal
 

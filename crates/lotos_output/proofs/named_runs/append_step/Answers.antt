@@ -1,4 +1,4 @@
-use Rattle.std.proofs.Common.{◌≡◌, ◌∙◌, arith, subst, sym}
+use Rattle.std.proofs.Common.{◌∙◌, arith, subst, sym}
 use Rattle.lotos_output.specs.NamedRuns.{IsOriginText}
 use Rattle.lotos_output.proofs.NamedLines.{at_index, cut_inner, within}
 use Rattle.lotos_output.proofs.named_runs.append_step.Goals as goal
