@@ -8,6 +8,8 @@
 #[cfg(test)]
 mod check_tests;
 #[cfg(test)]
+mod dead_start_tests;
+#[cfg(test)]
 mod duplicate_tests;
 #[cfg(test)]
 mod gate_scope_tests;
@@ -18,6 +20,8 @@ mod hidden_gates_tests;
 #[cfg(test)]
 mod long_texts;
 #[cfg(test)]
+mod long_warning_tests;
+#[cfg(test)]
 mod mistakes;
 #[cfg(test)]
 mod names;
@@ -25,5 +29,7 @@ mod names;
 mod places;
 #[cfg(test)]
 mod table_texts;
+#[cfg(test)]
+mod warning_lines;
 #[cfg(test)]
 mod warning_tests;

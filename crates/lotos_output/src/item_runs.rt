@@ -141,7 +141,7 @@ impl RunNames {
         let last = self.last.take();
         let followed = follow_next(alloc, &mut self.table, run, last)?;
         let named = name_followed_run(alloc, &mut self.table, &self.pattern, run, &followed)?;
-        let run = copied(alloc, run)?;
+        let run = Vec::from_slice(alloc, run)?;
         self.last = Some(LastRun { run, followed });
         Ok(named)
     }
@@ -171,13 +171,4 @@ fn follow_next(
             follow_run_after(alloc, table, start, run, followed, earlier.as_slice())
         }
     }
-}
-
-/// The same labels in a list of its own.
-fn copied(alloc: Global, run: &[Label]) -> Result<Vec<Label>, AllocError>
-    ensures { IfOk result (λ v. v.items ≡ run.now) }
-{
-    let mut labels = Vec::new(alloc);
-    labels.extend_from_slice(run)?;
-    Ok(labels)
 }

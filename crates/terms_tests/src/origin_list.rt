@@ -5,7 +5,7 @@ ghost use Rattle.lotos_terms.specs.TableView.{Grows};
 use super::possible_run::can_end;
 use lotos_listing::LabelFlags;
 use lotos_normal::NormalTable;
-use lotos_origins::{Origin, find_origins, internal_origin};
+use lotos_origins::{Origin, find_origins, follow_run, follow_run_after, internal_origin};
 use lotos_terms::{Label, Step, Term};
 use std::alloc::{AllocError, Global};
 
@@ -46,4 +46,24 @@ pub fn run_origins(
     } else {
         Ok(None)
     }
+}
+
+/// Whether the run leads to the same terms if it is followed after another one, which has its first half and then all
+/// of it.
+pub fn has_same_ends_after_another(
+    alloc: Global,
+    table: &mut NormalTable,
+    start: Term,
+    run: &[Label],
+) -> Result<bool, AllocError>
+    requires { start < length table.old.terms }
+    ensures { Grows table.old table.new }
+{
+    let mut other = Vec::from_slice(alloc, &run[..run.len() / 2])?;
+    other.extend_from_slice(run)?;
+    let other = other.as_slice();
+    let alone = follow_run(alloc, table, start, run)?;
+    let earlier = follow_run(alloc, table, start, other)?;
+    let followed = follow_run_after(alloc, table, start, run, earlier, other)?;
+    Ok(followed.ends() == alone.ends())
 }

@@ -400,3 +400,16 @@ fn runs_have_the_origins_of_their_steps(rt: HostRuntime) -> Result<(), Fail> {
     }
     Ok(())
 }
+
+#[test]
+fn runs_are_followed_after_others(rt: HostRuntime) -> Result<(), Fail> {
+    let alloc = rt.alloc();
+    for (subject, text, words, _, _) in RUNS {
+        let mut list = TermList::new(alloc, text)?;
+        let names = texts_of(alloc, list.gates())?;
+        let run = labels_of(alloc, names.as_slice(), words)?;
+        let same = list.has_same_ends_after_another(alloc, run.as_slice())?;
+        assert!(rt; same, "{subject}");
+    }
+    Ok(())
+}
