@@ -34,6 +34,13 @@ pub first_becomes : {pairs : List (Name × Name)} {f a g n : Name} → Becomes (
 first_becomes c.at_first = inl (refl, refl)
 first_becomes (c.later apart b) = inr (apart, b)
 
+-- the name is what these pairs make of one of the names that is not seen
+abbrev pub IsLeftToRename : (formals actuals seen names : List Name) → Name → Type 0
+IsLeftToRename [] actuals seen names n = (In n seen → ⊥) × In n names
+IsLeftToRename (f ∷ formals) [] seen names n = (In n seen → ⊥) × In n names
+IsLeftToRename (f ∷ formals) (a ∷ actuals) seen names n =
+    ((In f seen → ⊥) × In f names × (a ≡ n)) ⊎ IsLeftToRename formals actuals (f ∷ seen) names n
+
 -- the gate becomes the name, and was not seen
 record IsSource (pairs : List (Name × Name)) (seen names : List Name) (n : Name) : Type 0 where
   gate : Name
@@ -43,7 +50,7 @@ record IsSource (pairs : List (Name × Name)) (seen names : List Name) (n : Name
 
 module _ (names : List Name) (n : Name) where
   -- if a call makes the name of the names, one of them that is not seen becomes the name
-  source : (formals actuals seen : List Name) → IsRenamed formals actuals seen names n → IsSource (zip formals actuals) seen names n
+  source : (formals actuals seen : List Name) → IsLeftToRename formals actuals seen names n → IsSource (zip formals actuals) seen names n
   source [] actuals seen h = record { gate = n; among = h.1; unseen = h.0; becomes = c.stays }
   source (f ∷ formals) [] seen h = record { gate = n; among = h.1; unseen = h.0; becomes = c.stays }
   source (f ∷ formals) (a ∷ actuals) seen (inl (out, i, e)) =
@@ -54,7 +61,7 @@ module _ (names : List Name) (n : Name) where
 
   -- if one of the names that is not seen becomes the name, a call makes the name of the names
   from_source : (formals actuals seen : List Name) (g : Name) → In g names → (In g seen → ⊥) → Becomes (zip formals actuals) (action g) (action n) →
-      IsRenamed formals actuals seen names n
+      IsLeftToRename formals actuals seen names n
   from_source [] actuals seen g i out b =
       let e = none_becomes b in (subst (λ m. In m seen → ⊥) e out, subst (λ m. In m names) e i)
   from_source (f ∷ formals) [] seen g i out b =
@@ -66,7 +73,7 @@ module _ (names : List Name) (n : Name) where
 
   -- what is renamed depends only on what the seen names are
   renamed_as : (formals actuals seen others : List Name) → ((m : Name) → In m seen → In m others) → ((m : Name) → In m others → In m seen) →
-      IsRenamed formals actuals seen names n → IsRenamed formals actuals others names n
+      IsLeftToRename formals actuals seen names n → IsLeftToRename formals actuals others names n
   renamed_as [] actuals seen others to from h = ((λ i. h.0 (from n i)), h.1)
   renamed_as (f ∷ formals) [] seen others to from h = ((λ i. h.0 (from n i)), h.1)
   renamed_as (f ∷ formals) (a ∷ actuals) seen others to from (inl h) = inl ((λ i. h.0 (from f i)), h.1, h.2)
@@ -75,8 +82,8 @@ module _ (names : List Name) (n : Name) where
 
   -- the first pair of gates
   pub renamed_split : (f a : Name) (formals actuals seen more : List Name) → Adds seen more (λ m. f ≡ m) →
-      IsRenamed (f ∷ formals) (a ∷ actuals) seen names n
-      ↔ (((In f seen → ⊥) × In f names × (a ≡ n)) ⊎ IsRenamed formals actuals more names n)
+      IsLeftToRename (f ∷ formals) (a ∷ actuals) seen names n
+      ↔ (((In f seen → ⊥) × In f names × (a ≡ n)) ⊎ IsLeftToRename formals actuals more names n)
   renamed_split f a formals actuals seen more sees =
       let to : (m : Name) → In m (f ∷ seen) → In m more = λ m i. elim i [ inl e ↦ (sees m).1 (inr e) | inr j ↦ (sees m).1 (inl j) ] in
       let from : (m : Name) → In m more → In m (f ∷ seen) = λ m i. elim ((sees m).0 i) [ inl j ↦ inr j | inr e ↦ inl e ] in (
@@ -86,14 +93,21 @@ module _ (names : List Name) (n : Name) where
 
   -- after the last pair the others are left
   pub renamed_end : (formals actuals seen : List Name) → (formals ≡ []) ⊎ (actuals ≡ []) →
-      IsRenamed formals actuals seen names n ↔ ((In n seen → ⊥) × In n names)
+      IsLeftToRename formals actuals seen names n ↔ ((In n seen → ⊥) × In n names)
   renamed_end [] actuals seen none = ((λ h. h), (λ h. h))
   renamed_end (f ∷ formals) [] seen none = ((λ h. h), (λ h. h))
   renamed_end (f ∷ formals) (a ∷ actuals) seen none = absurd (elim none [ inl e ↦ cc | inr e ↦ cc ])
 
+  -- before the first pair none is seen
+  pub renamed_all : (formals actuals : List Name) → IsLeftToRename formals actuals [] names n ↔ IsRenamed (zip formals actuals) names n
+  renamed_all formals actuals = (
+    (λ h. let s = source formals actuals [] h in (s.gate, s.among, s.becomes)),
+    (λ (g, among, becomes). from_source formals actuals [] g among (λ i. i) becomes),
+  )
+
 -- the labels that a call makes of labels
 pub made_exactly : (labels new : FirstLabels) (formals actuals : List Name) → new.terminates ≡ labels.terminates → new.internal ≡ labels.internal →
-    ((n : Name) → In n (map (λ k. k.now) new.gates.keys) ↔ IsRenamed formals actuals [] (map (λ k. k.now) labels.gates.keys) n) →
+    ((n : Name) → In n (map (λ k. k.now) new.gates.keys) ↔ IsRenamed (zip formals actuals) (map (λ k. k.now) labels.gates.keys) n) →
     HasExactly new (IsMadeOf labels (zip formals actuals))
 made_exactly labels new formals actuals e f gates termination = (
   (λ h. (termination, sym e ∙ h, c.termination_stays)),
@@ -104,8 +118,7 @@ made_exactly labels new formals actuals e f gates internal = (
   (λ (x, has, b). f ∙ subst (Has labels) (becomes_internal b) has),
 )
 made_exactly labels new formals actuals e f gates (action n) = (
-  (λ h. let s = source (map (λ k. k.now) labels.gates.keys) n formals actuals [] ((gates n).0 h) in (action s.gate, s.among, s.becomes)),
+  (λ h. let (g, among, becomes) = (gates n).0 h in (action g, among, becomes)),
   (λ (x, has, b). let (g, same) = becomes_action b in
-      (gates n).1 (from_source (map (λ k. k.now) labels.gates.keys) n formals actuals [] g
-      (subst (Has labels) same has) (λ i. i) (subst (λ y. Becomes (zip formals actuals) y (action n)) same b))),
+      (gates n).1 (g, subst (Has labels) same has, subst (λ y. Becomes (zip formals actuals) y (action n)) same b)),
 )

@@ -1,5 +1,5 @@
 -- What the code computes of the labels that behaviours can begin with.
-use Rattle.std.specs.Prelude.{◌≡◌, ◌↔◌, ◌⊎◌, ℕ, Bool, true, List, [], ◌∷◌, Option, Some, None, map, slice_get, zip}
+use Rattle.std.specs.Prelude.{◌≡◌, ◌↔◌, ◌⊎◌, ℕ, Bool, true, List, Option, Some, None, map, slice_get, zip}
 use Rattle.lotos_check.specs.NameLists.{Name, In}
 use Rattle.lotos_check.specs.Flat.{Flat, FlatProcess, System, stop, exit, prefix, choice, par, hide, enable, disable, call}
 use Rattle.lotos_warn.specs.FirstLabels.{First, termination, internal, action, IsTogether, Becomes, CanBegin}
@@ -75,12 +75,9 @@ BeginsBy processes known (enable l r) x = IsEnabled (BeginsBy processes known l)
 BeginsBy processes known (disable l r) x = BeginsBy processes known l x ⊎ BeginsBy processes known r x
 BeginsBy processes known (call k gs) x = IsOfCall processes known k gs x
 
--- the name is what a call with these gates makes of one of the names, of whose formal gates those seen come before
-abbrev pub IsRenamed : List Name → List Name → List Name → List Name → Name → Type 0
-IsRenamed [] actuals seen names n = (In n seen → ⊥) × In n names
-IsRenamed (f ∷ formals) [] seen names n = (In n seen → ⊥) × In n names
-IsRenamed (f ∷ formals) (a ∷ actuals) seen names n =
-    ((In f seen → ⊥) × In f names × (a ≡ n)) ⊎ IsRenamed formals actuals (f ∷ seen) names n
+-- the name is what a call makes of one of the names, by pairs of a formal gate and an actual one
+abbrev pub IsRenamed : List (Name × Name) → List Name → Name → Type 0
+IsRenamed pairs names n = (g : Name) × In g names × Becomes pairs (action g) (action n)
 
 -- a call makes this label of one of the labels
 abbrev pub IsMadeOf : FirstLabels → List (Name × Name) → First → Type 0

@@ -1,5 +1,5 @@
 //! Sets of gate names.
-ghost use Rattle.std.specs.Prelude.{◌≡◌, ◌≤◌, ◌↔◌, ◌⊎◌, [], IfOk, MatchBool, OnOk, Some, map};
+ghost use Rattle.std.specs.Prelude.{◌≡◌, ◌≤◌, ◌↔◌, ◌⊎◌, IfOk, MatchBool, OnOk, Some, map, zip};
 ghost use Rattle.lotos_text.specs.AstOf.{sync_view};
 ghost use Rattle.lotos_check.specs.NameLists.{In, Name as AnyName, texts};
 ghost use Rattle.lotos_warn.specs.Additions.{AddsNames, IsActionNamed, IsListed, IsVisible, KeepsShared, LacksName};
@@ -253,7 +253,7 @@ pub(crate) fn renamed_names<'a>(
     names: &IndexSet<&'a str>,
 ) -> Result<IndexSet<&'a str>, AllocError>
     ensures { IfOk result (λ renamed. (n : AnyName) → In n (map (λ k. k.now) renamed.keys)
-        ↔ IsRenamed formals.now actuals.now [] (map (λ k. k.now) names.now.keys) n) }
+        ↔ IsRenamed (zip formals.now actuals.now) (map (λ k. k.now) names.now.keys) n) }
 {
     let mut seen = IndexSet::new(alloc);
     let mut renamed = IndexSet::new(alloc);

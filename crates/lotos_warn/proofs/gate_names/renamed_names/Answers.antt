@@ -3,9 +3,8 @@ use Rattle.std.proofs.lemmas.List.{drop_all}
 use Rattle.lotos_check.specs.NameLists.{Name, In}
 use Rattle.lotos_check.proofs.Pairs.{drop_at}
 use Rattle.lotos_warn.specs.Additions.{Adds, IsVisible}
-use Rattle.lotos_warn.specs.LabelSets.{IsRenamed}
 use Rattle.lotos_warn.proofs.Additions.{AddsRest, adds_start, adds_next, adds_last, adds_as, adds_alone}
-use Rattle.lotos_warn.proofs.RenamedNames.{renamed_split, renamed_end}
+use Rattle.lotos_warn.proofs.RenamedNames.{IsLeftToRename, renamed_all, renamed_end, renamed_split}
 use Rattle.lotos_warn.proofs.gate_names.renamed_names.Goals as goal
 
 pub loop-index-init : goal.loop-index-init
@@ -13,10 +12,10 @@ loop-index-init c =
     let names = map (λ k. k.now) c.args.names.now.keys in
     let formals = c.args.formals.now in
     let actuals = c.args.actuals.now in
-    let all = IsRenamed formals actuals [] names in
-    subst (λ ks. AddsRest [] (map (λ k. k.now) ks) (IsRenamed formals actuals (map (λ k. k.now) c.new-seen.result.keys) names) all)
+    let all = IsLeftToRename formals actuals [] names in
+    subst (λ ks. AddsRest [] (map (λ k. k.now) ks) (IsLeftToRename formals actuals (map (λ k. k.now) c.new-seen.result.keys) names) all)
     (sym c.new-renamed.ensures.empty)
-    (subst (λ ks. AddsRest [] [] (IsRenamed formals actuals (map (λ k. k.now) ks) names) all) (sym c.new-seen.ensures.empty) (adds_start [] all))
+    (subst (λ ks. AddsRest [] [] (IsLeftToRename formals actuals (map (λ k. k.now) ks) names) all) (sym c.new-seen.ensures.empty) (adds_start [] all))
 
 pub loop-index-preserved : goal.loop-index-preserved
 loop-index-preserved c =
@@ -38,10 +37,10 @@ loop-index-preserved c =
     let b = drop_at actuals index actual actual in_actuals c.index-actuals-index.is in
     let next : Name → Type 0 = λ n. (In formal seen → ⊥) × In formal names × (actual ≡ n) in
     adds_next [] (map (λ k. k.now) c.loop-index.renamed.keys) (map (λ k. k.now) c.rename.new.into.keys)
-    (IsRenamed (drop index formals) (drop index actuals) seen names) (IsRenamed formals actuals [] names) next (IsRenamed others rest more names)
+    (IsLeftToRename (drop index formals) (drop index actuals) seen names) (IsLeftToRename formals actuals [] names) next (IsLeftToRename others rest more names)
     c.loop-index.invariant c.in_ok-rename.ensures.adds
-    (λ n. subst (λ fs. IsRenamed fs (drop index actuals) seen names n ↔ (next n ⊎ IsRenamed others rest more names n)) (sym a)
-    (subst (λ bs. IsRenamed (formal ∷ others) bs seen names n ↔ (next n ⊎ IsRenamed others rest more names n)) (sym b)
+    (λ n. subst (λ fs. IsLeftToRename fs (drop index actuals) seen names n ↔ (next n ⊎ IsLeftToRename others rest more names n)) (sym a)
+    (subst (λ bs. IsLeftToRename (formal ∷ others) bs seen names n ↔ (next n ⊎ IsLeftToRename others rest more names n)) (sym b)
     (renamed_split names n formal actual others rest seen more c.in_ok-rename.ensures.sees)))
 
 pub returns : goal.returns
@@ -59,8 +58,10 @@ returns c =
       | inr e ↦ inr (drop_all index actuals (omega arith))
     ] in
     let added = subst (λ ks. Adds now new (λ n. IsVisible seen (map (λ k. k.now) ks) n)) c.as_slice.ensures.keys c.in_ok-insert_others.ensures in
-    let left = IsRenamed (drop index formals) (drop index actuals) seen names in
-    adds_alone [] new (IsRenamed formals actuals [] names) refl
-    (adds_last [] now new left (IsRenamed formals actuals [] names) c.loop-index.invariant
+    let left = IsLeftToRename (drop index formals) (drop index actuals) seen names in
+    let whole = adds_alone [] new (IsLeftToRename formals actuals [] names) refl
+    (adds_last [] now new left (IsLeftToRename formals actuals [] names) c.loop-index.invariant
     (adds_as now new (IsVisible seen names) left
-    (λ n. let both = renamed_end names n (drop index formals) (drop index actuals) seen none in (both.1, both.0)) added))
+    (λ n. let both = renamed_end names n (drop index formals) (drop index actuals) seen none in (both.1, both.0)) added)) in
+    λ n. let (to, from) = whole n in
+    let (forth, back) = renamed_all names n formals actuals in ((λ h. forth (to h)), (λ h. from (back h)))
