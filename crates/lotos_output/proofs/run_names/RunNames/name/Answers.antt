@@ -19,7 +19,7 @@ invariant_of-self-2 c =
     let next = c.name_followed_run.new.table in
     let more = c.in_ok-named.ensures.grows in
     let grown = c.followed_runs_grow.ensures now next now.start c.args.run.now c.in_ok-followed.followed more c.in_ok-followed.ensures.followed in
-    subst (λ ks. IsFollowed next next.start ks c.in_ok-followed.followed) (sym c.in_ok-run.ensures)
+    subst (λ ks. IsFollowed next next.start ks c.in_ok-followed.followed) (sym c.in_ok-run.ensures.items)
     (subst (λ n. IsFollowed next n c.args.run.now c.in_ok-followed.followed) (sym more.start) grown)
 
 pub returns-clause-same : goal.returns-clause-same
