@@ -15,6 +15,7 @@ pub mod laws;
 mod offered_gates;
 mod process_calls;
 mod process_labels;
+mod process_sets;
 mod shown_name;
 mod specification_warnings;
 mod termination;

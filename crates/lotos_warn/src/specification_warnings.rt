@@ -1,18 +1,22 @@
 //! The warnings about a specification.
-ghost use Rattle.std.specs.Prelude.{◌↔◌, IfOk};
+ghost use Rattle.std.specs.Prelude.{◌≡◌, ◌↔◌, ◌⊎◌, IfOk, OnOk, map};
 ghost use Rattle.std.specs.List.Sorted.{IsStrictlySortedBy};
 ghost use Rattle.lotos_text.specs.AstOf.{definition_view};
+ghost use Rattle.lotos_text.specs.AstView.{inner_of};
 ghost use Rattle.lotos_check.specs.Acceptance.{IsAccepted};
 ghost use Rattle.lotos_check.specs.CheckedView.{system_of};
 ghost use Rattle.lotos_check.specs.NameLists.{In};
+ghost use Rattle.lotos_check.specs.Scope.{definitions_in, definitions_in_list};
+ghost use Rattle.lotos_warn.specs.Additions.{Adds, IsDeadIn, IsEndlessWhole, IsProcessWarningOfAny};
+ghost use Rattle.lotos_warn.specs.Termination.{exits_by};
 ghost use Rattle.lotos_warn.specs.Warnings.{IsWarning};
 ghost use Rattle.lotos_warn.specs.WarningOrder.{warning_cmp};
 ghost use Rattle.lotos_warn.specs.declared.warning.Warning.{Warning as AnyWarning};
 
 use crate::dead_start::warn_if_dead;
 use crate::definition_warnings::{warn_if_endless_whole, warn_of_gates, warn_of_processes};
-use crate::process_calls::{called_processes, reached_processes};
-use crate::termination::{exiting_processes, may_exit};
+use crate::process_sets::ProcessSets;
+use crate::termination::may_exit;
 use crate::warning::Warning;
 use lotos_check::laws::{binding_is_unique, calls_fit, flat_system_is_unique};
 use lotos_check::{Checked, add_definitions};
@@ -50,26 +54,63 @@ fn unsorted_warnings(
     ensures { IfOk result (λ list. (w : AnyWarning) →
         In w list.items ↔ IsWarning (definition_view whole.now) w) }
 {
+    let mut definitions = Vec::new(alloc);
+    add_definitions(whole, &mut definitions)?;
+    let mut warnings = Vec::new(alloc);
+    add_warnings(alloc, whole, definitions.as_slice(), system, &mut warnings)?;
+    Ok(warnings)
+}
+
+/// Appends the warnings about a specification. The definitions are its own and all inside it.
+fn add_warnings(
+    alloc: Global,
+    whole: &Definition,
+    definitions: &[&Definition],
+    system: &Checked,
+    warnings: &mut Vec<Warning>,
+) -> Result<(), AllocError>
+    requires accepted { IsAccepted (definition_view whole.now) (system_of system.now) }
+    requires definitions { map (λ d. definition_view d.now) definitions.now ≡
+        definitions_in (definition_view whole.now) }
+    ensures { OnOk result (Adds warnings.old.items warnings.new.items
+        (IsWarning (definition_view whole.now))) }
+{
     binding_is_unique();
     calls_fit();
     flat_system_is_unique();
-    let mut definitions = Vec::new(alloc);
-    add_definitions(whole, &mut definitions)?;
-    let called = called_processes(alloc, system)?;
-    let reached = reached_processes(alloc, system)?;
-    let exiting = exiting_processes(alloc, system.processes())?;
-    let mut warnings = Vec::new(alloc);
-    warn_of_gates(alloc, definitions.as_slice(), &mut warnings)?;
+    warn_of_gates(alloc, definitions, warnings)?;
+    let sets = ProcessSets::of(alloc, system)?;
+    warn_of_processes_and_whole(alloc, whole, definitions, system, &sets, warnings)
+}
+
+/// Appends the warnings about the processes, and those about the specification as a whole. The first definition is its
+/// own, the others are those of the processes.
+fn warn_of_processes_and_whole(
+    alloc: Global,
+    whole: &Definition,
+    definitions: &[&Definition],
+    system: &Checked,
+    sets: &ProcessSets,
+    warnings: &mut Vec<Warning>,
+) -> Result<(), AllocError>
+    requires { map (λ d. definition_view d.now) definitions.now ≡
+        definitions_in (definition_view whole.now) }
+    ensures { OnOk result (Adds warnings.old.items warnings.new.items (λ w.
+        IsProcessWarningOfAny sets.now.called.keys sets.now.reached.keys sets.now.exiting.keys 0
+        (definitions_in_list (inner_of (definition_view whole.now))) w
+        ⊎ (IsEndlessWhole (exits_by sets.now.exiting.keys (system_of system.now).start)
+        (definition_view whole.now) w
+        ⊎ IsDeadIn (system_of system.now) (definition_view whole.now) w))) }
+{
     warn_of_processes(
         alloc,
         &definitions[1..],
-        &called,
-        &reached,
-        &exiting,
-        &mut warnings,
+        &sets.called,
+        &sets.reached,
+        &sets.exiting,
+        warnings,
     )?;
-    let exits = may_exit(system.start(), &exiting);
-    warn_if_endless_whole(alloc, whole, exits, &mut warnings)?;
-    warn_if_dead(alloc, whole, system, &mut warnings)?;
-    Ok(warnings)
+    let exits = may_exit(system.start(), &sets.exiting);
+    warn_if_endless_whole(alloc, whole, exits, warnings)?;
+    warn_if_dead(alloc, whole, system, warnings)
 }
