@@ -25,6 +25,14 @@ impl<E: Write> Write for MutedStream<'_, E> {
         self.stream.write(buf)
     }
 
+    /// Hands the whole on, so that a stream that writes line by line gets the end of a line with the line.
+    fn write_all(&mut self, buf: &[u8]) -> io::Result<()> {
+        if self.is_muted {
+            return Ok(());
+        }
+        self.stream.write_all(buf)
+    }
+
     fn flush(&mut self) -> io::Result<()> {
         if self.is_muted {
             return Ok(());

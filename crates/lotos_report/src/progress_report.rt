@@ -96,17 +96,20 @@ impl<'a, E: Write> ProgressReport<'a, E> {
     pub fn clear(&mut self) {
         if self.shown {
             let _ = write!(self.messages.stream, "\r\x1b[K");
+            let _ = self.messages.stream.flush();
             self.shown = false;
         }
     }
 
-    /// What a longer line has left after a renewed one is cleared.
+    /// What a longer line has left after a renewed one is cleared. The line of a terminal has no line feed, so it is
+    /// flushed.
     fn report(&mut self) {
         let _ = if self.messages.terminal {
             write!(self.messages.stream, "\rlotosseq: {}\x1b[K", self.counts)
         } else {
             writeln!(self.messages.stream, "lotosseq: {}", self.counts)
         };
+        let _ = self.messages.stream.flush();
         self.shown = self.messages.terminal;
     }
 }

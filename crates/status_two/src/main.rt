@@ -4,8 +4,12 @@
 
 use lotos_tool::{FromRead, FromWrite, Messages, run_args};
 use std::env;
-use std::io::IsTerminal;
+use std::io::{IsTerminal, LineWriter};
 use std::process::ExitCode;
+
+/// A message's line of at most so many bytes is written by one call, so that the lines of programs that share standard
+/// error stay whole; a pipe takes as many at once. Without memory for them a line is written in parts.
+const LINE: usize = 4096;
 
 fn main(rt: HostRuntime) -> ExitCode {
     let stdin = rt.stdin();
@@ -14,6 +18,10 @@ fn main(rt: HostRuntime) -> ExitCode {
     let mut out = FromWrite::new(rt.stdout());
     let stream = rt.stderr();
     let terminal = stream.is_terminal();
+    let stream = match LineWriter::with_capacity(rt.alloc(), LINE, stream) {
+        Ok(stream) => stream,
+        Err(_) => LineWriter::with_capacity(rt.alloc(), 0, rt.stderr()).unwrap(),
+    };
     let mut messages = Messages {
         stream,
         terminal,
