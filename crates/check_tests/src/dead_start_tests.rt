@@ -87,7 +87,7 @@ const DEAD_STARTS_OF_PARTS: &[Row] = &[
     (
         "`exit` inside a hiding",
         "specification S : exit behaviour hide a in exit endspec",
-        "",
+        "38 gate A of `hide` is not used\n",
     ),
     (
         "`>>` after what can do nothing",

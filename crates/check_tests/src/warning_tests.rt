@@ -46,6 +46,55 @@ const USED_GATES: &[Row] = &[
     ),
 ];
 
+/// Gates of `hide`.
+const HIDDEN_GATES: &[Row] = &[
+    (
+        "a hidden gate that nothing inside uses",
+        "specification S [a] : noexit behaviour hide b in a; stop endspec",
+        "44 gate B of `hide` is not used\n",
+    ),
+    (
+        "a hidden gate that is misspelt",
+        "specification S [a, mid] : noexit behaviour hide mad in a; mid; stop endspec",
+        "49 gate MAD of `hide` is not used\n",
+    ),
+    (
+        "a hidden gate that only a list has",
+        "specification S [a] : noexit behaviour hide b in (a; stop |[b]| a; stop) endspec",
+        "60 gate B of `|[..]|` is never offered on the left\n60 gate B of `|[..]|` is never offered on the right\n",
+    ),
+    (
+        "a hidden gate that only a call has",
+        "specification S [a] : noexit behaviour hide b in P [a, b] where process P [x, y] : noexit := x; y; stop endproc endspec",
+        "",
+    ),
+    (
+        "a hidden gate that is hidden again",
+        "specification S [a] : noexit behaviour hide b in a; (hide b in b; stop) endspec",
+        "44 gate B of `hide` is not used\n",
+    ),
+    (
+        "a gate that is used outside of what hides it",
+        "specification S [a, b] : noexit behaviour b; (hide b in a; stop) endspec",
+        "51 gate B of `hide` is not used\n",
+    ),
+    (
+        "all gates of a hide, in their order",
+        "specification S [a] : noexit behaviour hide c, b, d in a; b; stop endspec",
+        "44 gate C of `hide` is not used\n50 gate D of `hide` is not used\n",
+    ),
+    (
+        "a hide in a process",
+        "specification S [a] : noexit behaviour P [a] where process P [x] : noexit := hide b in x; stop endproc endspec",
+        "82 gate B of `hide` is not used\n",
+    ),
+    (
+        "a hide inside a hide",
+        "specification S [a] : noexit behaviour hide b in (hide c in a; b; stop) endspec",
+        "55 gate C of `hide` is not used\n",
+    ),
+];
+
 /// Gates that a side of a composition offers, or does not.
 const OFFERED_GATES: &[Row] = &[
     (
@@ -432,6 +481,11 @@ const TERMINATION_OF_PARTS: &[Row] = &[
 #[test]
 fn warns_about_gates_that_are_not_used(rt: HostRuntime) -> Result<(), Fail> {
     Ok(assert_rows(&rt, rt.alloc(), USED_GATES)?)
+}
+
+#[test]
+fn warns_about_hidden_gates_that_are_not_used(rt: HostRuntime) -> Result<(), Fail> {
+    Ok(assert_rows(&rt, rt.alloc(), HIDDEN_GATES)?)
 }
 
 #[test]

@@ -3,7 +3,9 @@ pub mod Additions
 pub mod FreeGates
 pub mod GateAdditions
 pub mod CallAdditions
+pub mod PartWarnings
 pub mod ListWarnings
+pub mod HidingWarnings
 pub mod SortedWarnings
 pub mod CalledNames
 pub mod ReachedNumbers

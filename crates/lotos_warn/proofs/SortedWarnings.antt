@@ -18,7 +18,7 @@ use Rattle.lotos_check.proofs.NameOrder.{same_from_equal}
 use Rattle.lotos_warn.specs.declared.warning.Side.{Side}
 use Rattle.lotos_warn.specs.declared.warning.Side.TheVariants.{Left, Right}
 use Rattle.lotos_warn.specs.declared.warning.Warning.{Warning}
-use Rattle.lotos_warn.specs.declared.warning.Warning.TheVariants.{UncalledProcess, UnreachedProcess, NeverExits, DeadStart, UnusedGate, UnofferedGate}
+use Rattle.lotos_warn.specs.declared.warning.Warning.TheVariants.{UncalledProcess, UnreachedProcess, NeverExits, DeadStart, UnusedGate, UnofferedGate, UnusedHidden}
 use Rattle.lotos_warn.specs.WarningOrder.{warning_cmp, offset_of, rank_of, side_rank, subject_of, context_of}
 
 -- the parts of an order one after the other are equal where the whole is
@@ -65,6 +65,11 @@ not_side : (s : Side) (n : ℕ) → n < 5 → n ≡ side_rank s → ⊥
 not_side Left n h e = omega arith
 not_side Right n h e = omega arith
 
+-- no side has a rank above 6
+not_above : (s : Side) (n : ℕ) → 6 < n → n ≡ side_rank s → ⊥
+not_above Left n h e = omega arith
+not_above Right n h e = omega arith
+
 -- a warning is known by its offset, its rank and its names
 same_warning : (v w : Warning) → offset_of v ≡ offset_of w → rank_of v ≡ rank_of w → subject_of v ≡ subject_of w → context_of v ≡ context_of w → v ≡ w
 same_warning (UncalledProcess p) (UncalledProcess q) a r s c = ap UncalledProcess (placed_same p q a s)
@@ -73,36 +78,49 @@ same_warning (UncalledProcess p) (NeverExits q) a r s c = absurd (omega arith)
 same_warning (UncalledProcess p) (DeadStart q) a r s c = absurd (omega arith)
 same_warning (UncalledProcess p) (UnusedGate h e) a r s c = absurd (omega arith)
 same_warning (UncalledProcess p) (UnofferedGate h u) a r s c = absurd (not_side u 0 (omega arith) r)
+same_warning (UncalledProcess p) (UnusedHidden h) a r s c = absurd (omega arith)
 same_warning (UnreachedProcess p) (UncalledProcess q) a r s c = absurd (omega arith)
 same_warning (UnreachedProcess p) (UnreachedProcess q) a r s c = ap UnreachedProcess (placed_same p q a s)
 same_warning (UnreachedProcess p) (NeverExits q) a r s c = absurd (omega arith)
 same_warning (UnreachedProcess p) (DeadStart q) a r s c = absurd (omega arith)
 same_warning (UnreachedProcess p) (UnusedGate h e) a r s c = absurd (omega arith)
 same_warning (UnreachedProcess p) (UnofferedGate h u) a r s c = absurd (not_side u 1 (omega arith) r)
+same_warning (UnreachedProcess p) (UnusedHidden h) a r s c = absurd (omega arith)
 same_warning (NeverExits p) (UncalledProcess q) a r s c = absurd (omega arith)
 same_warning (NeverExits p) (UnreachedProcess q) a r s c = absurd (omega arith)
 same_warning (NeverExits p) (NeverExits q) a r s c = ap NeverExits (placed_same p q a s)
 same_warning (NeverExits p) (DeadStart q) a r s c = absurd (omega arith)
 same_warning (NeverExits p) (UnusedGate h e) a r s c = absurd (omega arith)
 same_warning (NeverExits p) (UnofferedGate h u) a r s c = absurd (not_side u 2 (omega arith) r)
+same_warning (NeverExits p) (UnusedHidden h) a r s c = absurd (omega arith)
 same_warning (DeadStart p) (UncalledProcess q) a r s c = absurd (omega arith)
 same_warning (DeadStart p) (UnreachedProcess q) a r s c = absurd (omega arith)
 same_warning (DeadStart p) (NeverExits q) a r s c = absurd (omega arith)
 same_warning (DeadStart p) (DeadStart q) a r s c = ap DeadStart (placed_same p q a s)
 same_warning (DeadStart p) (UnusedGate h e) a r s c = absurd (omega arith)
 same_warning (DeadStart p) (UnofferedGate h u) a r s c = absurd (not_side u 3 (omega arith) r)
+same_warning (DeadStart p) (UnusedHidden h) a r s c = absurd (omega arith)
 same_warning (UnusedGate g d) (UncalledProcess q) a r s c = absurd (omega arith)
 same_warning (UnusedGate g d) (UnreachedProcess q) a r s c = absurd (omega arith)
 same_warning (UnusedGate g d) (NeverExits q) a r s c = absurd (omega arith)
 same_warning (UnusedGate g d) (DeadStart q) a r s c = absurd (omega arith)
 same_warning (UnusedGate g d) (UnusedGate h e) a r s c = let same = placed_same g h a s in cc
 same_warning (UnusedGate g d) (UnofferedGate h u) a r s c = absurd (not_side u 4 (omega arith) r)
+same_warning (UnusedGate g d) (UnusedHidden h) a r s c = absurd (omega arith)
 same_warning (UnofferedGate g t) (UncalledProcess q) a r s c = absurd (not_side t 0 (omega arith) (sym r))
 same_warning (UnofferedGate g t) (UnreachedProcess q) a r s c = absurd (not_side t 1 (omega arith) (sym r))
 same_warning (UnofferedGate g t) (NeverExits q) a r s c = absurd (not_side t 2 (omega arith) (sym r))
 same_warning (UnofferedGate g t) (DeadStart q) a r s c = absurd (not_side t 3 (omega arith) (sym r))
 same_warning (UnofferedGate g t) (UnusedGate h e) a r s c = absurd (not_side t 4 (omega arith) (sym r))
 same_warning (UnofferedGate g t) (UnofferedGate h u) a r s c = let same = placed_same g h a s in let there = side_same t u r in cc
+same_warning (UnofferedGate g t) (UnusedHidden h) a r s c = absurd (not_above t 7 (omega arith) (sym r))
+same_warning (UnusedHidden g) (UncalledProcess q) a r s c = absurd (omega arith)
+same_warning (UnusedHidden g) (UnreachedProcess q) a r s c = absurd (omega arith)
+same_warning (UnusedHidden g) (NeverExits q) a r s c = absurd (omega arith)
+same_warning (UnusedHidden g) (DeadStart q) a r s c = absurd (omega arith)
+same_warning (UnusedHidden g) (UnusedGate h e) a r s c = absurd (omega arith)
+same_warning (UnusedHidden g) (UnofferedGate h u) a r s c = absurd (not_above u 7 (omega arith) r)
+same_warning (UnusedHidden g) (UnusedHidden h) a r s c = ap UnusedHidden (placed_same g h a s)
 
 -- warnings that compare as equal are the same
 equal_warnings : (v w : Warning) → eq_by_cmp warning_cmp v w ≡ true → v ≡ w

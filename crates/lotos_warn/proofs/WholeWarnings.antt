@@ -1,23 +1,26 @@
 -- The warnings about a specification are those about its definitions.
 use Rattle.std.proofs.Common.{◌≡◌, ◌↔◌, ◌⊎◌, ℕ, ◌+◌, ◌-◌, ◌≤◌, length, take, drop, zero, suc, List, [], ◌∷◌, Some, slice_get, map, refl, sym, ◌∙◌, ap, subst, inl, inr, Bool, true, false, arith}
 use Rattle.std.proofs.lemmas.List.{take_all}
-use Rattle.lotos_text.specs.AstView.{DefinitionView, name_of, formals_of, declared_of, body_of, inner_of}
+use Rattle.lotos_text.specs.AstView.{BehaviourView, gates, par, hide, DefinitionView, name_of, formals_of, declared_of, body_of, inner_of}
 use Rattle.lotos_text.specs.declared.ast.Placed.{Placed}
 use Rattle.lotos_check.specs.NameLists.{Name, In, texts}
 use Rattle.lotos_check.specs.Scope.{Scope, ScopedDefinition, IsDefinition, within, processes_of, all_definitions, definitions_in, definitions_in_list}
 use Rattle.lotos_check.specs.Flat.{System}
+use Rattle.lotos_check.specs.StaticFaults.{Occurs}
 use Rattle.lotos_check.proofs.DefinitionOrder.{in_order}
 use Rattle.lotos_check.proofs.ScopedDefinitions.{everywhere_in_order, listed_row, scope_of, without_scope}
 use Rattle.lotos_warn.specs.declared.warning.Side.{Side}
 use Rattle.lotos_warn.specs.declared.warning.Warning.{Warning}
-use Rattle.lotos_warn.specs.declared.warning.Warning.TheVariants.{UncalledProcess, UnreachedProcess, NeverExits, DeadStart, UnusedGate, UnofferedGate}
-use Rattle.lotos_warn.specs.Warnings.{IsUnusedGate, IsUnofferedGate, IsUncalledProcess, IsUnreachedProcess, IsNeverExit, IsCalled, IsReached, IsWarning}
+use Rattle.lotos_warn.specs.declared.warning.Warning.TheVariants.{UncalledProcess, UnreachedProcess, NeverExits, DeadStart, UnusedGate, UnofferedGate, UnusedHidden}
+use Rattle.lotos_warn.specs.Warnings.{IsUnusedGate, IsUnofferedGate, IsUnusedHidden, IsUncalledProcess, IsUnreachedProcess, IsNeverExit, IsCalled, IsReached, IsWarning}
 use Rattle.lotos_text.specs.declared.ast.Functionality.TheVariants.{Exit}
 use Rattle.lotos_check.proofs.ListIndices.{get_in, in_get}
 use Rattle.lotos_warn.specs.Termination.{MayTerminate}
 use Rattle.lotos_warn.specs.FirstLabels.{IsDeadStart}
 use Rattle.lotos_warn.specs.Additions.{IsDeadIn, IsEndlessWhole, IsGateWarningOfAny, IsProcessWarning, IsProcessWarningOfAny}
-use Rattle.lotos_warn.proofs.ListWarnings.{to_form, from_form, warns_by_form, WarnsFrom}
+use Rattle.lotos_warn.proofs.PartWarnings.{WarnsFrom, elsewhere}
+use Rattle.lotos_warn.proofs.ListWarnings.{ListsUnoffered, lacking, lists_by_part}
+use Rattle.lotos_warn.proofs.HidingWarnings.{HidesUnused, unused_inside, hidings_by_part}
 
 -- the definitions after the first are those inside it
 pub after_first : {K : Type 0} (view : K → DefinitionView) (xs : List K) (whole : DefinitionView) → map view xs ≡ definitions_in whole →
@@ -42,39 +45,90 @@ module _ (whole : DefinitionView) where
   unused : (gate : Placed) (name : Name) → IsGateWarningOfAny (definitions_in whole) (UnusedGate gate name) ↔ IsUnusedGate whole gate name
   unused gate name = (
     (λ (d, i, h). elim h [
-      | inl u ↦ (let at = scoped d i in record { scope = at.0; definition = d; located = at.1; formal = u.0; named = u.1; unused = u.2 })
+      | inl (inr u) ↦ (let at = scoped d i in record { scope = at.0; definition = d; located = at.1; formal = u.0; named = u.1; unused = u.2 })
+      | inl (inl none) ↦ absurd none
       | inr none ↦ absurd none
     ]),
-    (λ h. (h.definition, unscoped h.scope h.definition h.located, inl (h.formal, h.named, h.unused))),
+    (λ h. (h.definition, unscoped h.scope h.definition h.located, inl (inr (h.formal, h.named, h.unused)))),
   )
 
-  module _ (gate : Placed) (side : Side) where
-    occurrence : (scope : Scope) (d : DefinitionView) → IsDefinition whole scope d → WarnsFrom gate side (texts (formals_of d)) (body_of d) →
-        IsUnofferedGate whole gate side
-    occurrence scope d i f = record {
-      scope = scope;
-      in_scope = f.hidden;
-      left = f.left;
-      list = f.list;
-      right = f.right;
-      occurs = record { definition = d; located = i; inside = f.inside };
-      listed = f.listed;
-      unoffered = f.unoffered;
-    }
+  -- `Own` says which warnings a behaviour has itself; a part that occurs in the specification has this one
+  record IsOwned (Own : BehaviourView → Warning → Type 0) (w : Warning) : Type 0 where
+    scope : Scope
+    in_scope : List Name
+    part : BehaviourView
+    occurs : Occurs whole scope in_scope part
+    own : Own part w
 
+  -- a part of the body of one of the definitions that has a warning itself occurs in the specification
+  occurring : (Own : BehaviourView → Warning → Type 0) (w : Warning) (d : DefinitionView) → In d (definitions_in whole) →
+      WarnsFrom Own [] (body_of d) w → IsOwned Own w
+  occurring Own w d i h =
+      let at = scoped d i in
+      let from = elsewhere Own [] (texts (formals_of d)) (body_of d) w h in
+      record {
+        scope = at.0;
+        in_scope = from.hidden;
+        part = from.part;
+        occurs = record { definition = d; located = at.1; inside = from.inside };
+        own = from.own;
+      }
+
+  -- a part that occurs in the specification and has a warning itself is a part of the body of its definition
+  in_body : (Own : BehaviourView → Warning → Type 0) (w : Warning) (scope : Scope) (in_scope : List Name) (part : BehaviourView)
+      (o : Occurs whole scope in_scope part) → Own part w → WarnsFrom Own [] (body_of o.definition) w
+  in_body Own w scope in_scope part o own =
+      elsewhere Own (texts (formals_of o.definition)) [] (body_of o.definition) w
+      (record { hidden = in_scope; part = part; inside = o.inside; own = own })
+
+  module _ (gate : Placed) (side : Side) where
+    -- a part that occurs in the specification, and that has the warning about the gate of a list itself, is one with
+    -- that list
+    unoffered_at : (scope : Scope) (in_scope : List Name) (part : BehaviourView) → Occurs whole scope in_scope part →
+        ListsUnoffered part (UnofferedGate gate side) → IsUnofferedGate whole gate side
+    unoffered_at scope in_scope part o (lacking {l = l} {r = r} {gs = gs} first none) =
+        record { scope = scope; in_scope = in_scope; left = l; list = gs; right = r; occurs = o; listed = first; unoffered = none }
+
+    -- one of the definitions has a warning about a list exactly if the specification has it
     unoffered : IsGateWarningOfAny (definitions_in whole) (UnofferedGate gate side) ↔ IsUnofferedGate whole gate side
     unoffered = (
       (λ (d, i, h). elim h [
-        | inl none ↦ absurd none
-        | inr u ↦ (let at = scoped d i in
-            occurrence at.0 d at.1 (from_form gate side (texts (formals_of d)) (body_of d) ((warns_by_form gate side (body_of d)).0 u)))
+        | inl (inl none) ↦ absurd none
+        | inl (inr none) ↦ absurd none
+        | inr u ↦ (let o = occurring ListsUnoffered (UnofferedGate gate side) d i ((lists_by_part (body_of d) (UnofferedGate gate side)).0 u) in
+            unoffered_at o.scope o.in_scope o.part o.occurs o.own)
       ]),
       (λ h. (
         h.occurs.definition,
         unscoped h.scope h.occurs.definition h.occurs.located,
-        inr ((warns_by_form gate side (body_of h.occurs.definition)).1
-            (to_form gate side (texts (formals_of h.occurs.definition)) h.in_scope (body_of h.occurs.definition) h.left h.right h.list h.occurs.inside h.listed
-            h.unoffered)),
+        inr ((lists_by_part (body_of h.occurs.definition) (UnofferedGate gate side)).1
+            (in_body ListsUnoffered (UnofferedGate gate side) h.scope h.in_scope (par h.left (gates h.list) h.right) h.occurs
+            (lacking h.listed h.unoffered))),
+      )),
+    )
+
+  module _ (gate : Placed) where
+    -- a part that occurs in the specification, and that has the warning about a gate that it hides itself, is a hiding
+    -- of the gate
+    hidden_at : (scope : Scope) (in_scope : List Name) (part : BehaviourView) → Occurs whole scope in_scope part →
+        HidesUnused part (UnusedHidden gate) → IsUnusedHidden whole gate
+    hidden_at scope in_scope part o (unused_inside {gs = gs} {b = b} listed none) =
+        record { scope = scope; in_scope = in_scope; list = gs; body = b; occurs = o; listed = listed; unused = none }
+
+    -- one of the definitions has a warning about a hiding exactly if the specification has it
+    unused_hidden : IsGateWarningOfAny (definitions_in whole) (UnusedHidden gate) ↔ IsUnusedHidden whole gate
+    unused_hidden = (
+      (λ (d, i, h). elim h [
+        | inl (inl u) ↦ (let o = occurring HidesUnused (UnusedHidden gate) d i ((hidings_by_part (body_of d) (UnusedHidden gate)).0 u) in
+            hidden_at o.scope o.in_scope o.part o.occurs o.own)
+        | inl (inr none) ↦ absurd none
+        | inr none ↦ absurd none
+      ]),
+      (λ h. (
+        h.occurs.definition,
+        unscoped h.scope h.occurs.definition h.occurs.located,
+        inl (inl ((hidings_by_part (body_of h.occurs.definition) (UnusedHidden gate)).1
+            (in_body HidesUnused (UnusedHidden gate) h.scope h.in_scope (hide h.list h.body) h.occurs (unused_inside h.listed h.unused)))),
       )),
     )
 
@@ -264,6 +318,10 @@ module _ (whole : DefinitionView) (called reached exiting : List ℕ) (by_name :
   not_side : (gate : Placed) (side : Side) → IsProcessWarningOfAny called reached exiting 0 (definitions_in_list (inner_of whole)) (UnofferedGate gate side) → ⊥
   not_side gate side h = elim (found (UnofferedGate gate side) h).warned [ inl none ↦ none | inr (inl none) ↦ none | inr (inr none) ↦ none ]
 
+  -- no process has a warning that a gate that is hidden is not used
+  not_hidden : (gate : Placed) → IsProcessWarningOfAny called reached exiting 0 (definitions_in_list (inner_of whole)) (UnusedHidden gate) → ⊥
+  not_hidden gate h = elim (found (UnusedHidden gate) h).warned [ inl none ↦ none | inr (inl none) ↦ none | inr (inr none) ↦ none ]
+
   -- the warnings about the gates of all definitions, those about the processes, and those about the specification are all
   pub all_warnings : (system : System) → ((name : Placed) → IsDeadIn system whole (DeadStart name) ↔ IsDeadStart whole name) → (w : Warning) →
       (IsGateWarningOfAny (definitions_in whole) w
@@ -271,7 +329,7 @@ module _ (whole : DefinitionView) (called reached exiting : List ℕ) (by_name :
       ↔ IsWarning whole w
   all_warnings system dead (UncalledProcess name) = (
     (λ h. elim h [
-      | inl (d, i, g) ↦ elim g [ inl none ↦ absurd none | inr none ↦ absurd none ]
+      | inl (d, i, g) ↦ elim g [ inl (inl none) ↦ absurd none | inl (inr none) ↦ absurd none | inr none ↦ absurd none ]
       | inr (inl u) ↦ (uncalled name).0 u
       | inr (inr (inl none)) ↦ absurd none
       | inr (inr (inr none)) ↦ absurd none
@@ -280,7 +338,7 @@ module _ (whole : DefinitionView) (called reached exiting : List ℕ) (by_name :
   )
   all_warnings system dead (UnreachedProcess name) = (
     (λ h. elim h [
-      | inl (d, i, g) ↦ elim g [ inl none ↦ absurd none | inr none ↦ absurd none ]
+      | inl (d, i, g) ↦ elim g [ inl (inl none) ↦ absurd none | inl (inr none) ↦ absurd none | inr none ↦ absurd none ]
       | inr (inl u) ↦ (unreached name).0 u
       | inr (inr (inl none)) ↦ absurd none
       | inr (inr (inr none)) ↦ absurd none
@@ -289,7 +347,7 @@ module _ (whole : DefinitionView) (called reached exiting : List ℕ) (by_name :
   )
   all_warnings system dead (NeverExits name) = (
     (λ h. elim h [
-      | inl (d, i, g) ↦ elim g [ inl none ↦ absurd none | inr none ↦ absurd none ]
+      | inl (d, i, g) ↦ elim g [ inl (inl none) ↦ absurd none | inl (inr none) ↦ absurd none | inr none ↦ absurd none ]
       | inr (inl u) ↦ (endless name).0 (inl u)
       | inr (inr (inl u)) ↦ (endless name).0 (inr u)
       | inr (inr (inr none)) ↦ absurd none
@@ -298,7 +356,7 @@ module _ (whole : DefinitionView) (called reached exiting : List ℕ) (by_name :
   )
   all_warnings system dead (DeadStart name) = (
     (λ h. elim h [
-      | inl (d, i, g) ↦ elim g [ inl none ↦ absurd none | inr none ↦ absurd none ]
+      | inl (d, i, g) ↦ elim g [ inl (inl none) ↦ absurd none | inl (inr none) ↦ absurd none | inr none ↦ absurd none ]
       | inr (inl u) ↦ absurd (not_dead name u)
       | inr (inr (inl none)) ↦ absurd none
       | inr (inr (inr u)) ↦ (dead name).0 u
@@ -322,4 +380,13 @@ module _ (whole : DefinitionView) (called reached exiting : List ℕ) (by_name :
       | inr (inr (inr none)) ↦ absurd none
     ]),
     (λ h. inl ((unoffered whole gate side).1 h)),
+  )
+  all_warnings system dead (UnusedHidden gate) = (
+    (λ h. elim h [
+      | inl g ↦ (unused_hidden whole gate).0 g
+      | inr (inl u) ↦ absurd (not_hidden gate u)
+      | inr (inr (inl none)) ↦ absurd none
+      | inr (inr (inr none)) ↦ absurd none
+    ]),
+    (λ h. inl ((unused_hidden whole gate).1 h)),
   )

@@ -11,12 +11,12 @@ use Rattle.lotos_check.specs.Bodies.{ContainsCall, IsBodyOf}
 use Rattle.lotos_warn.specs.declared.warning.Side.{Side}
 use Rattle.lotos_warn.specs.declared.warning.Side.TheVariants.{Left, Right}
 use Rattle.lotos_warn.specs.declared.warning.Warning.{Warning}
-use Rattle.lotos_warn.specs.declared.warning.Warning.TheVariants.{UncalledProcess, UnreachedProcess, NeverExits, DeadStart, UnusedGate, UnofferedGate}
+use Rattle.lotos_warn.specs.declared.warning.Warning.TheVariants.{UncalledProcess, UnreachedProcess, NeverExits, DeadStart, UnusedGate, UnofferedGate, UnusedHidden}
 use Rattle.lotos_text.specs.declared.ast.Functionality.TheVariants.{Exit}
 use Rattle.lotos_warn.specs.ShownNames.{shown_name}
 use Rattle.lotos_warn.specs.Termination.{IsExiting, exits_by}
 use Rattle.lotos_warn.specs.LabelSets.{IsDead}
-use Rattle.lotos_warn.specs.Warnings.{UsesFree, IsFirstOfName, IsListWarning}
+use Rattle.lotos_warn.specs.Warnings.{UsesFree, IsFirstOfName, IsHidingWarning, IsListWarning}
 
 -- the second list has exactly the items of the first and those with the property
 abbrev pub Adds : {X : Type 0} → List X → List X → (X → Type 0) → Type 0
@@ -56,6 +56,7 @@ IsMissingOn names side gate (NeverExits exiting) = ⊥
 IsMissingOn names side gate (DeadStart dead) = ⊥
 IsMissingOn names side gate (UnusedGate other definition) = ⊥
 IsMissingOn names side gate (UnofferedGate other place) = (gate ≡ other) × (side ≡ place) × (In other.name names → ⊥)
+IsMissingOn names side gate (UnusedHidden other) = ⊥
 
 -- the names of one side
 abbrev pub names_of : Side → List Name → List Name → List Name
@@ -77,6 +78,7 @@ IsMissingGate by_left by_right seen list (DeadStart dead) = ⊥
 IsMissingGate by_left by_right seen list (UnusedGate gate definition) = ⊥
 IsMissingGate by_left by_right seen list (UnofferedGate gate side) =
     (In gate.name seen → ⊥) × IsFirstOfName gate list × (In gate.name (names_of side by_left by_right) → ⊥)
+IsMissingGate by_left by_right seen list (UnusedHidden gate) = ⊥
 
 -- the same of the list of a parallel composition, if it has one, of whose names none is seen before
 abbrev pub IsMissing : List Name → List Name → SyncView → Warning → Type 0
@@ -123,6 +125,7 @@ IsUnusedAmong used name formals (DeadStart dead) = ⊥
 IsUnusedAmong used name formals (UnusedGate gate definition) =
     In gate formals × (definition ≡ shown_name name) × (In gate.name used → ⊥)
 IsUnusedAmong used name formals (UnofferedGate gate side) = ⊥
+IsUnusedAmong used name formals (UnusedHidden gate) = ⊥
 
 -- the definition has this warning about its formal gates
 abbrev pub IsUnusedIn : DefinitionView → Warning → Type 0
@@ -133,10 +136,25 @@ IsUnusedIn d (DeadStart dead) = ⊥
 IsUnusedIn d (UnusedGate gate definition) =
     In gate (formals_of d) × (definition ≡ shown_name (name_of d).name) × (UsesFree (body_of d) gate.name → ⊥)
 IsUnusedIn d (UnofferedGate gate side) = ⊥
+IsUnusedIn d (UnusedHidden gate) = ⊥
+
+-- the warning says that the gate of the list of a hiding is not used, and it is not among the names
+abbrev pub IsUnusedOfHiding : List Name → List Placed → Warning → Type 0
+IsUnusedOfHiding used list (UncalledProcess process) = ⊥
+IsUnusedOfHiding used list (UnreachedProcess process) = ⊥
+IsUnusedOfHiding used list (NeverExits exiting) = ⊥
+IsUnusedOfHiding used list (DeadStart dead) = ⊥
+IsUnusedOfHiding used list (UnusedGate gate definition) = ⊥
+IsUnusedOfHiding used list (UnofferedGate gate side) = ⊥
+IsUnusedOfHiding used list (UnusedHidden gate) = In gate list × (In gate.name used → ⊥)
+
+-- the definition has this warning about gates that are not used: those of its hidings, and its formal ones
+abbrev pub IsUseWarning : DefinitionView → Warning → Type 0
+IsUseWarning d w = IsHidingWarning (body_of d) w ⊎ IsUnusedIn d w
 
 -- the definition has this warning about its gates
 abbrev pub IsGateWarning : DefinitionView → Warning → Type 0
-IsGateWarning d w = IsUnusedIn d w ⊎ IsListWarning (body_of d) w
+IsGateWarning d w = IsUseWarning d w ⊎ IsListWarning (body_of d) w
 
 -- one of the definitions has it
 abbrev pub IsGateWarningOfAny : List DefinitionView → Warning → Type 0
@@ -150,6 +168,7 @@ IsUncalledAt called number d (NeverExits exiting) = ⊥
 IsUncalledAt called number d (DeadStart dead) = ⊥
 IsUncalledAt called number d (UnusedGate gate definition) = ⊥
 IsUncalledAt called number d (UnofferedGate gate side) = ⊥
+IsUncalledAt called number d (UnusedHidden gate) = ⊥
 
 -- the warning says that the process is not reached; the number is called, and it is not reached
 abbrev pub IsUnreachedAt : List ℕ → List ℕ → ℕ → DefinitionView → Warning → Type 0
@@ -160,6 +179,7 @@ IsUnreachedAt called reached number d (NeverExits exiting) = ⊥
 IsUnreachedAt called reached number d (DeadStart dead) = ⊥
 IsUnreachedAt called reached number d (UnusedGate gate definition) = ⊥
 IsUnreachedAt called reached number d (UnofferedGate gate side) = ⊥
+IsUnreachedAt called reached number d (UnusedHidden gate) = ⊥
 
 -- the warning says that the definition is declared exit and never terminates; the number is not one that exits
 abbrev pub IsEndlessAt : List ℕ → ℕ → DefinitionView → Warning → Type 0
@@ -170,6 +190,7 @@ IsEndlessAt exiting number d (NeverExits name) =
 IsEndlessAt exiting number d (DeadStart dead) = ⊥
 IsEndlessAt exiting number d (UnusedGate gate definition) = ⊥
 IsEndlessAt exiting number d (UnofferedGate gate side) = ⊥
+IsEndlessAt exiting number d (UnusedHidden gate) = ⊥
 
 -- the same of the specification, whose behaviour exits or not
 abbrev pub IsEndlessWhole : Bool → DefinitionView → Warning → Type 0
@@ -179,6 +200,7 @@ IsEndlessWhole exits d (NeverExits name) = (name ≡ name_of d) × (declared_of 
 IsEndlessWhole exits d (DeadStart dead) = ⊥
 IsEndlessWhole exits d (UnusedGate gate definition) = ⊥
 IsEndlessWhole exits d (UnofferedGate gate side) = ⊥
+IsEndlessWhole exits d (UnusedHidden gate) = ⊥
 
 -- the warning says that the specification can do nothing; this is its system, and its behaviour is not `stop`
 abbrev pub IsDeadIn : System → DefinitionView → Warning → Type 0
@@ -188,6 +210,7 @@ IsDeadIn system d (NeverExits exiting) = ⊥
 IsDeadIn system d (DeadStart name) = (name ≡ name_of d) × (body_of d ≡ t.stop → ⊥) × IsDead system
 IsDeadIn system d (UnusedGate gate definition) = ⊥
 IsDeadIn system d (UnofferedGate gate side) = ⊥
+IsDeadIn system d (UnusedHidden gate) = ⊥
 
 -- the process with this number and definition has this warning
 abbrev pub IsProcessWarning : List ℕ → List ℕ → List ℕ → ℕ → DefinitionView → Warning → Type 0

@@ -9,7 +9,7 @@ use Rattle.lotos_check.specs.NameLists.{Name}
 use Rattle.lotos_warn.specs.declared.warning.Side.{Side}
 use Rattle.lotos_warn.specs.declared.warning.Side.TheVariants.{Left, Right}
 use Rattle.lotos_warn.specs.declared.warning.Warning.{Warning}
-use Rattle.lotos_warn.specs.declared.warning.Warning.TheVariants.{UncalledProcess, UnreachedProcess, NeverExits, DeadStart, UnusedGate, UnofferedGate}
+use Rattle.lotos_warn.specs.declared.warning.Warning.TheVariants.{UncalledProcess, UnreachedProcess, NeverExits, DeadStart, UnusedGate, UnofferedGate, UnusedHidden}
 
 -- the offset of its process, its specification or its gate
 abbrev pub offset_of : Warning → ℕ
@@ -19,6 +19,7 @@ offset_of (NeverExits name) = name.at
 offset_of (DeadStart name) = name.at
 offset_of (UnusedGate gate definition) = gate.at
 offset_of (UnofferedGate gate side) = gate.at
+offset_of (UnusedHidden gate) = gate.at
 
 -- the left side is before the right one
 abbrev pub side_rank : Side → ℕ
@@ -33,6 +34,7 @@ rank_of (NeverExits name) = 2
 rank_of (DeadStart name) = 3
 rank_of (UnusedGate gate definition) = 4
 rank_of (UnofferedGate gate side) = side_rank side
+rank_of (UnusedHidden gate) = 7
 
 -- the name of its process, its specification or its gate
 abbrev pub subject_of : Warning → Name
@@ -42,6 +44,7 @@ subject_of (NeverExits name) = name.name
 subject_of (DeadStart name) = name.name
 subject_of (UnusedGate gate definition) = gate.name
 subject_of (UnofferedGate gate side) = gate.name
+subject_of (UnusedHidden gate) = gate.name
 
 -- the name of its definition as it is shown, or the same name again
 abbrev pub context_of : Warning → Name
@@ -51,6 +54,7 @@ context_of (NeverExits name) = name.name
 context_of (DeadStart name) = name.name
 context_of (UnusedGate gate definition) = definition
 context_of (UnofferedGate gate side) = gate.name
+context_of (UnusedHidden gate) = gate.name
 
 -- the order
 abbrev pub warning_cmp : Warning → Warning → Ordering

@@ -1,6 +1,6 @@
 -- What an accepted specification has a warning about.
 use Rattle.std.specs.Prelude.{◌≡◌, ◌⊎◌, ℕ, List, [], ◌∷◌, Some, slice_get}
-use Rattle.lotos_text.specs.AstView.{BehaviourView, gates, prefix, par, call, DefinitionView, name_of, formals_of, declared_of, body_of}
+use Rattle.lotos_text.specs.AstView.{BehaviourView, gates, prefix, par, hide, call, DefinitionView, name_of, formals_of, declared_of, body_of}
 use Rattle.lotos_text.specs.declared.ast.Placed.{Placed}
 use Rattle.lotos_text.specs.declared.ast.Action.TheVariants.{Gate}
 use Rattle.lotos_text.specs.declared.ast.Functionality.TheVariants.{Exit}
@@ -14,7 +14,7 @@ use Rattle.lotos_warn.specs.FirstLabels.{IsDeadStart}
 use Rattle.lotos_warn.specs.declared.warning.Side.{Side}
 use Rattle.lotos_warn.specs.declared.warning.Side.TheVariants.{Left, Right}
 use Rattle.lotos_warn.specs.declared.warning.Warning.{Warning}
-use Rattle.lotos_warn.specs.declared.warning.Warning.TheVariants.{UncalledProcess, UnreachedProcess, NeverExits, DeadStart, UnusedGate, UnofferedGate}
+use Rattle.lotos_warn.specs.declared.warning.Warning.TheVariants.{UncalledProcess, UnreachedProcess, NeverExits, DeadStart, UnusedGate, UnofferedGate, UnusedHidden}
 
 -- the behaviour itself, and not only a part of it, offers the gate: in a prefix, or to the process that it calls
 pub data OffersGate : BehaviourView → Placed → Type 0 where
@@ -128,6 +128,16 @@ pub record IsUnofferedGate (whole : DefinitionView) (gate : Placed) (side : Side
   pub listed : IsFirstOfName gate list
   pub unoffered : OffersFree (operand side left right) gate.name → ⊥
 
+-- the gate is in the list of a hiding, and the behaviour inside does not use it
+pub record IsUnusedHidden (whole : DefinitionView) (gate : Placed) : Type 0 where
+  pub scope : Scope
+  pub in_scope : List Name
+  pub list : List Placed
+  pub body : BehaviourView
+  pub occurs : Occurs whole scope in_scope (hide list body)
+  pub listed : In gate list
+  pub unused : UsesFree body gate.name → ⊥
+
 -- the specification has this warning
 abbrev pub IsWarning : DefinitionView → Warning → Type 0
 IsWarning whole (UncalledProcess process) = IsUncalledProcess whole process
@@ -136,6 +146,7 @@ IsWarning whole (NeverExits name) = IsNeverExit whole name
 IsWarning whole (DeadStart name) = IsDeadStart whole name
 IsWarning whole (UnusedGate gate definition) = IsUnusedGate whole gate definition
 IsWarning whole (UnofferedGate gate side) = IsUnofferedGate whole gate side
+IsWarning whole (UnusedHidden gate) = IsUnusedHidden whole gate
 
 -- the gate is the first of its name in the list of a parallel composition in the behaviour, and the operand on that
 -- side does not offer it
@@ -156,3 +167,23 @@ IsListWarning behaviour (NeverExits name) = ⊥
 IsListWarning behaviour (DeadStart name) = ⊥
 IsListWarning behaviour (UnusedGate gate definition) = ⊥
 IsListWarning behaviour (UnofferedGate gate side) = IsUnofferedIn behaviour gate side
+IsListWarning behaviour (UnusedHidden gate) = ⊥
+
+-- the gate is in the list of a hiding in the behaviour, and the behaviour inside the hiding does not use it
+pub record IsUnusedHiddenIn (behaviour : BehaviourView) (gate : Placed) : Type 0 where
+  pub hidden : List Name
+  pub list : List Placed
+  pub body : BehaviourView
+  pub inside : IsSubexpression [] behaviour hidden (hide list body)
+  pub listed : In gate list
+  pub unused : UsesFree body gate.name → ⊥
+
+-- the behaviour has this warning about the list of a hiding
+abbrev pub IsHidingWarning : BehaviourView → Warning → Type 0
+IsHidingWarning behaviour (UncalledProcess process) = ⊥
+IsHidingWarning behaviour (UnreachedProcess process) = ⊥
+IsHidingWarning behaviour (NeverExits name) = ⊥
+IsHidingWarning behaviour (DeadStart name) = ⊥
+IsHidingWarning behaviour (UnusedGate gate definition) = ⊥
+IsHidingWarning behaviour (UnofferedGate gate side) = ⊥
+IsHidingWarning behaviour (UnusedHidden gate) = IsUnusedHiddenIn behaviour gate

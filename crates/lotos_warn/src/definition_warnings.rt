@@ -4,7 +4,7 @@ ghost use Rattle.lotos_text.specs.AstOf.{definition_view};
 ghost use Rattle.lotos_text.specs.AstView.{declared_of};
 ghost use Rattle.lotos_text.specs.declared.ast.Functionality.TheVariants.{Exit, NoExit};
 ghost use Rattle.lotos_check.specs.NameLists.{In};
-ghost use Rattle.lotos_warn.specs.Additions.{Adds, IsEndlessAt, IsEndlessWhole, IsGateWarning, IsGateWarningOfAny, IsProcessWarningOfAny, IsUncalledAt, IsUnreachedAt, IsUnusedAmong, IsUnusedIn};
+ghost use Rattle.lotos_warn.specs.Additions.{Adds, IsEndlessAt, IsEndlessWhole, IsGateWarning, IsGateWarningOfAny, IsProcessWarningOfAny, IsUncalledAt, IsUnreachedAt, IsUnusedAmong, IsUseWarning};
 
 use crate::offered_gates::warn_of_lists;
 use crate::shown_name::ShownName;
@@ -29,8 +29,8 @@ pub(crate) fn warn_of_gates(
     Ok(())
 }
 
-/// Appends the warnings about the gates of a definition: its formal gates that its body does not use, and the gates in
-/// the lists of its body that a side never offers.
+/// Appends the warnings about the gates of a definition: its formal gates that its body does not use, the gates that its
+/// body hides and does not use inside, and the gates in the lists of its body that a side never offers.
 fn warn_of_gates_in(
     alloc: Global,
     definition: &Definition,
@@ -44,17 +44,18 @@ fn warn_of_gates_in(
     warn_of_lists(alloc, &definition.body, &mut offered, warnings)
 }
 
-/// Appends the warnings about the formal gates of a definition that its body does not use.
+/// Appends the warnings about the formal gates of a definition that its body does not use, and about the gates that the
+/// body hides and does not use inside.
 fn warn_of_unused_gates(
     alloc: Global,
     definition: &Definition,
     warnings: &mut Vec<Warning>,
 ) -> Result<(), AllocError>
     ensures { OnOk result (Adds warnings.old.items warnings.new.items
-        (IsUnusedIn (definition_view definition.now))) }
+        (IsUseWarning (definition_view definition.now))) }
 {
     let mut used = IndexSet::new(alloc);
-    add_used(alloc, &definition.body, &mut used)?;
+    add_used(alloc, &definition.body, &mut used, warnings)?;
     warn_of_unused(
         alloc,
         definition.formals.as_slice(),

@@ -47,6 +47,8 @@ pub enum Warning {
     UnusedGate { gate: Placed, definition: ShownName },
     /// A gate in the list of a parallel composition, the first of its name there, that one side never offers.
     UnofferedGate { gate: Placed, side: Side },
+    /// A gate in the list of a hiding that the behaviour inside does not use.
+    UnusedHidden(Placed),
 }
 
 impl Warning {
@@ -61,6 +63,7 @@ impl Warning {
             Warning::DeadStart(name) => name.at,
             Warning::UnusedGate { gate, .. } => gate.at,
             Warning::UnofferedGate { gate, .. } => gate.at,
+            Warning::UnusedHidden(gate) => gate.at,
         }
     }
 
@@ -74,6 +77,7 @@ impl Warning {
             Warning::DeadStart(_) => 3,
             Warning::UnusedGate { .. } => 4,
             Warning::UnofferedGate { side, .. } => side.rank(),
+            Warning::UnusedHidden(_) => 7,
         }
     }
 
@@ -88,6 +92,7 @@ impl Warning {
             Warning::DeadStart(name) => &name.name,
             Warning::UnusedGate { gate, .. } => &gate.name,
             Warning::UnofferedGate { gate, .. } => &gate.name,
+            Warning::UnusedHidden(gate) => &gate.name,
         }
     }
 
@@ -102,6 +107,7 @@ impl Warning {
             Warning::DeadStart(name) => name.name.text(),
             Warning::UnusedGate { definition, .. } => definition.text(),
             Warning::UnofferedGate { gate, .. } => gate.name.text(),
+            Warning::UnusedHidden(gate) => gate.name.text(),
         }
     }
 }
@@ -181,6 +187,11 @@ impl fmt::Display for Warning {
                 "gate {} of `|[..]|` is never offered on the {}",
                 Shown(&gate.name),
                 side_text(*side)
+            ),
+            Warning::UnusedHidden(gate) => write!(
+                f,
+                "gate {} of `hide` is not used",
+                Shown(&gate.name)
             ),
         }
     }
