@@ -8,6 +8,8 @@ HINT = (
     r"lotosseq: (?:a gate of the specification has a similar name: \w+|\w+ is hidden at [0-9]+:[0-9]+, so it is not observed"
     r"|\w+ is hidden by --hide|\w+ is not in --only"
     r"|\w+ is a formal gate of the process \w+, and stands for the gate that a call gives|word [0-9]+, [!-~]+, may be meant as <[a-z]+>"
+    r"|word [0-9]+, [!-~]+, lacks a blank after <[a-z]+>"
+    r"|the names of --hide and --only are joined by commas, one between two names and no blanks"
     r"|a specification is read from standard input: lotosseq [a-z. ]+ <FILE)\n"
 )
 

@@ -26,7 +26,7 @@ pub(crate) const STATUSES: &str = "Statuses:
      be read
   3  the limit of lines is reached
   4  a prefix reaches too many terms, or there are too many states or sets
-  5  out of memory
+  5  out of memory, or an argument is not Unicode
   6  the output cannot be written";
 
 pub(crate) const CHECK_ABOUT: &str = "Checks the static rules and lists the processes";
@@ -47,7 +47,7 @@ the command `lotosseq check` lists
 pub(crate) const CHECK_STATUSES: &str = "Statuses:
   0  the specification is accepted
   2  the command or the specification is refused, or cannot be read
-  5  out of memory
+  5  out of memory, or an argument is not Unicode
   6  the output cannot be written";
 
 pub(crate) const CHECK_EXPLAIN_HELP: &str = "Explains a fault";
@@ -279,7 +279,7 @@ pub(crate) const SEARCH_STATUSES: &str = "Statuses:
      be read
   3  the limit of lines is reached
   4  a prefix reaches too many terms
-  5  out of memory
+  5  out of memory, or an argument is not Unicode
   6  the output cannot be written";
 
 pub(crate) const EVER_ABOUT: &str = "Finds a shortest match, of any length";
@@ -305,7 +305,7 @@ pub(crate) const EVER_STATUSES: &str = "Statuses:
   1  there is none, of any length
   2  the command, the pattern or the specification is refused, or cannot be read
   4  there are too many states
-  5  out of memory
+  5  out of memory, or an argument is not Unicode
   6  the output cannot be written";
 
 pub(crate) const STATES_HELP: &str = "The most states that may be reached, 1 to 100000000";
@@ -425,7 +425,7 @@ pub(crate) const NEXT_STATUSES: &str = "Statuses:
   1  the sequence cannot happen
   2  the command, a label or the specification is refused, or cannot be read
   4  a beginning of the sequence reaches too many terms
-  5  out of memory
+  5  out of memory, or an argument is not Unicode
   6  the output cannot be written";
 
 pub(crate) const NEXT_TERMS_LONG_HELP: &str = "The most terms that a prefix may reach, 1 to 1000000
@@ -482,7 +482,7 @@ pub(crate) const COVER_STATUSES: &str = "Statuses:
   2  the command, the mark or the specification is refused, or cannot be read
   3  the limit of lines is reached
   4  a prefix reaches too many terms, or there are too many sets
-  5  out of memory
+  5  out of memory, or an argument is not Unicode
   6  the output cannot be written";
 
 pub(crate) const COVER_TERMS_LONG_HELP: &str = "The most terms that a prefix may reach, 1 to 1000000

@@ -2,34 +2,18 @@
 //! a word is almost an element, a name is no gate, a command has no such option, or a fault of the text can be explained.
 //! A hint for which there is no memory is left out.
 
-use crate::messages::{Messages, NumberText};
+use crate::element_hints::write_element_hint;
+use crate::messages::Messages;
 use crate::name_hints::{NameHint, write_name_hint};
 use crate::option_hints::hint_at_option;
 use crate::refusal::Refusal;
 use lotos_command::CommandFault;
 use lotos_pattern::PatternFault;
-use std::alloc::{AllocError, Global};
+use std::alloc::Global;
 use std::io::Write;
-use strsim::levenshtein;
 
 /// What the name of a file with a specification may end in.
 const EXTENSIONS: [&str; 3] = [".lotos", ".lot", ".lts"];
-
-/// The words of elements that are not labels.
-const ELEMENT_WORDS: [&str; 9] = [
-    "<any>",
-    "<not>",
-    "<until>",
-    "<while>",
-    "<deadlock>",
-    "<refuses>",
-    "<livelock>",
-    "<forever>",
-    "<never>",
-];
-
-/// The most bytes of a word that may be almost an element.
-const LONGEST: usize = 16;
 
 /// A command that has words.
 #[derive(Clone, Copy, Debug)]
@@ -70,13 +54,23 @@ pub fn hint_after_refusal<E: Write>(
 ) {
     if let Some(refusal) = refusal {
         hint_at_word(alloc, command, refusal, words, &mut messages.stream);
-        hint_at_unknown_gate(refusal, hint, &mut messages.stream);
+        if let (Refusal::E49(_), Some(hint)) = (refusal, hint) {
+            write_name_hint(hint, &mut messages.stream);
+        }
+    }
+    hint_without_words(refusal, messages);
+}
+
+/// Gives a hint if a command, whatever its words, is refused for a name of its interface, or for a fault of the text.
+pub fn hint_without_words<E: Write>(refusal: Option<&Refusal>, messages: &mut Messages<E>) {
+    if let Some(Refusal::E52(name)) = refusal {
+        hint_at_list(name.as_str(), &mut messages.stream);
     }
     hint_at_explanation(refusal, messages);
 }
 
 /// Says at a terminal how to get an explanation, if a command is refused for a fault of the text.
-pub fn hint_at_explanation<E: Write>(refusal: Option<&Refusal>, messages: &mut Messages<E>) {
+fn hint_at_explanation<E: Write>(refusal: Option<&Refusal>, messages: &mut Messages<E>) {
     if messages.terminal && refusal.is_some_and(Refusal::is_of_text) {
         let _ = writeln!(
             messages.stream,
@@ -85,8 +79,8 @@ pub fn hint_at_explanation<E: Write>(refusal: Option<&Refusal>, messages: &mut M
     }
 }
 
-/// Gives a hint if the words fit no command: if the command does not have an option that another one has, or else if they
-/// are those of a command without words and a file. The first of the words is the program's own name.
+/// Gives a hint if the words fit no command: if the command does not have an option that another one has, or else if one
+/// of them names a file. The first of the words is the program's own name.
 pub fn hint_after_fault<E: Write>(fault: &CommandFault, words: &[&str], err: &mut E) {
     let CommandFault::Wrong(text) = fault else {
         return;
@@ -116,22 +110,18 @@ fn hint_at_word<E: Write>(
     if is_file_name(word.as_str()) {
         return write_hint(command.text(), err);
     }
-    if !command.has_elements() {
-        return;
-    }
-    if let Ok(Some(element)) = similar_element(alloc, word.as_str()) {
-        let number = NumberText(number);
-        let _ = writeln!(
-            err,
-            "lotosseq: word {number}, {word}, may be meant as {element}"
-        );
+    if command.has_elements() {
+        write_element_hint(alloc, number, word.as_str(), err);
     }
 }
 
-/// Says what could be meant if a word is refused because it names no gate.
-fn hint_at_unknown_gate<E: Write>(refusal: &Refusal, hint: &Option<NameHint>, err: &mut E) {
-    if let (Refusal::E49(_), Some(hint)) = (refusal, hint) {
-        write_name_hint(hint, err);
+/// Says how the names of `--hide` and `--only` are joined, if this one is empty or has a blank.
+fn hint_at_list<E: Write>(name: &str, err: &mut E) {
+    if name.is_empty() || name.contains(' ') {
+        let _ = writeln!(
+            err,
+            "lotosseq: the names of --hide and --only are joined by commas, one between two names and no blanks"
+        );
     }
 }
 
@@ -153,50 +143,23 @@ fn is_file_name(word: &str) -> bool {
     word.contains('/') || EXTENSIONS.iter().any(|end| word.ends_with(*end))
 }
 
-/// The first element's word that this one almost is: between the signs, at most two bytes are wrong and at most half of
-/// them; at most a quarter if the word has no sign, since it may be a name. A word that is not printed as it is almost
-/// is none.
-fn similar_element(alloc: Global, word: &str) -> Result<Option<&'static str>, AllocError> {
-    let bytes = word.as_bytes();
-    if bytes.len() > LONGEST || !bytes.iter().all(|byte| byte.is_ascii_graphic()) {
-        return Ok(None);
-    }
-    let lower = word.to_ascii_lowercase(alloc)?;
-    let name = lower.as_str().trim_matches(is_sign);
-    for element in ELEMENT_WORDS {
-        if lower.as_str() == element {
-            return Ok(None);
-        }
-        let meant = element.trim_matches(is_sign);
-        let most = if name.len() < bytes.len() {
-            (meant.len() / 2).min(2)
-        } else {
-            meant.len() / 4
-        };
-        if levenshtein(alloc, name, meant)? <= most {
-            return Ok(Some(element));
-        }
-    }
-    Ok(None)
-}
-
-fn is_sign(letter: char) -> bool {
-    letter == '<' || letter == '>'
-}
-
-/// The command without words that these words name, if one of the others is that of a file: one that is no option of
-/// `check`, or that may be the name of a file, as options of `cover` have values.
+/// The command that these words name, if one of the others is that of a file: one that is no option of `check`, or that
+/// may be the name of a file.
 fn command_of_file(words: &[&str]) -> Option<&'static str> {
-    match words {
-        [_program, command, others @ ..] => {
-            if *command == "check" && others.iter().any(|word| !word.starts_with("-")) {
-                Some("check")
-            } else if *command == "cover" && others.iter().any(|word| is_file_name(word)) {
-                Some("cover")
-            } else {
-                None
-            }
-        }
+    let [_program, command, others @ ..] = words else {
+        return None;
+    };
+    if *command == "check" && others.iter().any(|word| !word.starts_with("-")) {
+        return Some("check");
+    }
+    if !others.iter().any(|word| is_file_name(word)) {
+        return None;
+    }
+    match *command {
+        "search" => Some(WordCommand::Search.text()),
+        "ever" => Some(WordCommand::Ever.text()),
+        "after" => Some(WordCommand::After.text()),
+        "cover" => Some("cover"),
         _ => None,
     }
 }

@@ -6,6 +6,7 @@
 //! written there. Nothing here can fail: errors of the stream are ignored, and what there is no memory for is left out.
 #![tactic(auto)]
 
+mod element_hints;
 mod hints;
 mod messages;
 mod muted_stream;
@@ -17,7 +18,7 @@ mod progress_report;
 mod refusal;
 mod warning_lines;
 
-pub use hints::{WordCommand, hint_after_fault, hint_after_refusal, hint_at_explanation};
+pub use hints::{WordCommand, hint_after_fault, hint_after_refusal, hint_without_words};
 pub use messages::{
     Bounds, Messages, report_after_stop, report_ever_stop, report_failure, report_keyboard,
     report_label, report_refusal, report_stop, report_text, report_unread_arguments,

@@ -1,6 +1,7 @@
 //! Names in the words of a pattern that are no gates of a specification: warnings of them, and what could be meant. What
 //! there is no memory for is left out.
 
+use crate::element_hints::write_element_hint;
 use crate::messages::NumberText;
 use lotos_command::Interface;
 use lotos_explain::{formal_gate, hidden_gate, similar_name};
@@ -19,6 +20,8 @@ pub struct UnknownName<'a> {
     pub word: usize,
     /// The name as the word has it.
     pub name: &'a str,
+    /// Whether the word has no other name.
+    pub alone: bool,
 }
 
 /// Where it is looked for what could be meant by a name: the gates that the question is about, the text of the
@@ -54,7 +57,7 @@ enum Inside {
     Formal(Name),
 }
 
-/// Warns of each of these names that are no gates, and says what could be meant.
+/// Warns of each of these names that are no gates, and says what could be meant: an element, or a gate.
 pub fn warn_of_names<E: Write>(
     alloc: Global,
     names: &[UnknownName<'_>],
@@ -64,6 +67,9 @@ pub fn warn_of_names<E: Write>(
     for k in 0..names.len() {
         warn_of_name(&names[k], err);
         if k < MOST_HINTS {
+            if names[k].alone {
+                write_element_hint(alloc, names[k].word, names[k].name, err);
+            }
             if let Ok(hint) = hint_for(alloc, names[k].name, places) {
                 write_name_hint(&hint, err);
             }

@@ -15,6 +15,15 @@ const FRONT_WORDS: [&str; 6] = [
     "<never>",
 ];
 
+/// The words with which an end begins.
+const END_WORDS: [&str; 5] = [
+    "<deadlock>",
+    "<refuses>",
+    "<livelock>",
+    "<forever>",
+    "<never>",
+];
+
 /// Reports that there is no match of any length. If it is known how much was looked at, that is said too: how many
 /// states there are, and how far the pattern can be matched, whose words these are.
 pub fn report_no_match<E: Write>(err: &mut E, searched: &Option<Searched>, words: &[String]) {
@@ -53,7 +62,7 @@ impl fmt::Display for SearchedText<'_> {
         let before = words_before(self.words, self.searched.elements);
         let (last, wanted) = (NumberText(before), NumberText(before.saturating_add(1)));
         match before {
-            0 => write!(f, "; word {wanted} cannot be matched"),
+            0 => write!(f, "; {}", UnmatchedText(self.words)),
             1 => write!(
                 f,
                 "; word {last} can be matched, and then nothing that word {wanted} wants"
@@ -64,6 +73,40 @@ impl fmt::Display for SearchedText<'_> {
             ),
         }
     }
+}
+
+/// That the first element of the pattern with these words cannot be matched: a label, or an end, which no state is as.
+#[derive(Clone, Copy, Debug)]
+struct UnmatchedText<'a>(&'a [String]);
+
+impl fmt::Display for UnmatchedText<'_> {
+    fn fmt<W: fmt::Write>(&self, f: &mut fmt::Formatter<W>) -> fmt::Result {
+        let words = self.0;
+        if !is_end(words) {
+            return f.write_str("word 1 cannot be matched");
+        }
+        if !begins_with_until(words) {
+            f.write_str("at the start ")?;
+        }
+        match words.len() {
+            1 => f.write_str("no state is as word 1 demands"),
+            last => write!(f, "no state is as words 1 to {} demand", NumberText(last)),
+        }
+    }
+}
+
+/// Whether the words are those of an end, alone or after `<until>`.
+fn is_end(words: &[String]) -> bool {
+    let at = usize::from(begins_with_until(words));
+    words
+        .get(at)
+        .is_some_and(|word| is_among(word.as_str(), &END_WORDS))
+}
+
+fn begins_with_until(words: &[String]) -> bool {
+    words
+        .first()
+        .is_some_and(|word| word.as_str().eq_ignore_ascii_case("<until>"))
 }
 
 /// The number of words before the element that cannot be matched, where the first `done` elements are known to be
@@ -81,13 +124,11 @@ fn words_before(words: &[String], done: usize) -> usize {
             }
             left = left.saturating_sub(1);
         }
-        is_inside = is_front_word(word.as_str());
+        is_inside = is_among(word.as_str(), &FRONT_WORDS);
     }
     start
 }
 
-fn is_front_word(word: &str) -> bool {
-    FRONT_WORDS
-        .iter()
-        .any(|front| word.eq_ignore_ascii_case(front))
+fn is_among(word: &str, others: &[&str]) -> bool {
+    others.iter().any(|other| word.eq_ignore_ascii_case(other))
 }

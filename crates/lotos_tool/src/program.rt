@@ -24,7 +24,7 @@ use lotos_listing::Searched;
 use lotos_output::write_and_flush;
 use lotos_report::{
     AfterEnded, AfterWhy, Bounds, Ended, EverEnded, EverWhy, Messages, MutedStream, Visited, Why,
-    WordCommand, hint_after_fault, hint_after_refusal, hint_at_explanation, report_after_stop,
+    WordCommand, hint_after_fault, hint_after_refusal, hint_without_words, report_after_stop,
     report_ever_stop, report_failure, report_keyboard, report_label, report_no_match,
     report_refusal, report_stop, report_text,
 };
@@ -83,7 +83,7 @@ fn run_check<R: Source, W: Sink, E: Write>(
     let ended = check_text(alloc, reader, out);
     let mut stream = MutedStream::new(&mut messages.stream, out.is_unread());
     let status = report_check(&ended, &mut stream);
-    hint_at_explanation(ended.refusal(), messages);
+    hint_without_words(ended.refusal(), messages);
     status
 }
 
@@ -262,7 +262,7 @@ fn run_cover<R: Source, W: Sink, E: Write>(
     };
     let mut stream = MutedStream::new(&mut messages.stream, out.is_unread());
     let status = report_search(&ended, bounds, &mut stream);
-    hint_at_explanation(ended.refusal(), messages);
+    hint_without_words(ended.refusal(), messages);
     status
 }
 

@@ -41,7 +41,12 @@ fn add_unknown<'a>(
             continue;
         }
         if seen.insert(name.to_ascii_uppercase(alloc)?)? {
-            unknown.push(UnknownName { word: number, name })?;
+            let alone = name.len() == word.len();
+            unknown.push(UnknownName {
+                word: number,
+                name,
+                alone,
+            })?;
         }
     }
     Ok(())

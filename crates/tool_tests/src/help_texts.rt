@@ -52,7 +52,7 @@ Statuses:
      be read
   3  the limit of lines is reached
   4  a prefix reaches too many terms, or there are too many states or sets
-  5  out of memory
+  5  out of memory, or an argument is not Unicode
   6  the output cannot be written
 ";
 
@@ -237,7 +237,7 @@ Statuses:
      be read
   3  the limit of lines is reached
   4  a prefix reaches too many terms
-  5  out of memory
+  5  out of memory, or an argument is not Unicode
   6  the output cannot be written
 ";
 
@@ -395,7 +395,7 @@ Statuses:
   1  there is none, of any length
   2  the command, the pattern or the specification is refused, or cannot be read
   4  there are too many states
-  5  out of memory
+  5  out of memory, or an argument is not Unicode
   6  the output cannot be written
 ";
 
@@ -489,7 +489,7 @@ Statuses:
   1  the sequence cannot happen
   2  the command, a label or the specification is refused, or cannot be read
   4  a beginning of the sequence reaches too many terms
-  5  out of memory
+  5  out of memory, or an argument is not Unicode
   6  the output cannot be written
 ";
 
@@ -602,7 +602,7 @@ Statuses:
   2  the command, the mark or the specification is refused, or cannot be read
   3  the limit of lines is reached
   4  a prefix reaches too many terms, or there are too many sets
-  5  out of memory
+  5  out of memory, or an argument is not Unicode
   6  the output cannot be written
 ";
 
@@ -654,7 +654,7 @@ Options:
 Statuses:
   0  the specification is accepted
   2  the command or the specification is refused, or cannot be read
-  5  out of memory
+  5  out of memory, or an argument is not Unicode
   6  the output cannot be written
 ";
 

@@ -181,6 +181,18 @@ const ALMOST: &[(&[&str], &[u8])] = &[
         b"lotosseq: E42 word 1 needs a label or <deadlock> after it\n",
     ),
     (
+        &["lotosseq", "ever", "A", "<NOT>B"],
+        b"lotosseq: E41 word 2 is neither a label nor an element\nlotosseq: word 2, <NOT>B, lacks a blank after <not>\n",
+    ),
+    (
+        &["lotosseq", "search", "--depth", "1", "<while><any>"],
+        b"lotosseq: E41 word 1 is neither a label nor an element\nlotosseq: word 1, <while><any>, lacks a blank after <while>\n",
+    ),
+    (
+        &["lotosseq", "after", "A", "<not>B"],
+        b"lotosseq: E41 word 2 is no label\n",
+    ),
+    (
         &["lotosseq", "after", "A", "<untill>"],
         b"lotosseq: E41 word 2 is no label\n",
     ),

@@ -555,7 +555,7 @@ const NO_GATES: &[Row] = &[
         text: TURNS,
         words: &["lotosseq", "ever", "--hide", "", "WIN"],
         output: b"",
-        message: b"lotosseq: E52 \"\" is no gate of the specification\n",
+        message: b"lotosseq: E52 \"\" is no gate of the specification\nlotosseq: the names of --hide and --only are joined by commas, one between two names and no blanks\n",
         status: 2,
     },
     Row {
@@ -563,7 +563,7 @@ const NO_GATES: &[Row] = &[
         text: TURNS,
         words: &["lotosseq", "cover", "--only="],
         output: b"",
-        message: b"lotosseq: E52 \"\" is no gate of the specification\n",
+        message: b"lotosseq: E52 \"\" is no gate of the specification\nlotosseq: the names of --hide and --only are joined by commas, one between two names and no blanks\n",
         status: 2,
     },
     Row {
@@ -571,7 +571,7 @@ const NO_GATES: &[Row] = &[
         text: TURNS,
         words: &["lotosseq", "ever", "--hide", "WIN,,RIN", "BELL"],
         output: b"",
-        message: b"lotosseq: E52 \"\" is no gate of the specification\n",
+        message: b"lotosseq: E52 \"\" is no gate of the specification\nlotosseq: the names of --hide and --only are joined by commas, one between two names and no blanks\n",
         status: 2,
     },
     Row {
@@ -579,7 +579,7 @@ const NO_GATES: &[Row] = &[
         text: TURNS,
         words: &["lotosseq", "ever", "--only", "WIN,RIN,", "WIN"],
         output: b"",
-        message: b"lotosseq: E52 \"\" is no gate of the specification\n",
+        message: b"lotosseq: E52 \"\" is no gate of the specification\nlotosseq: the names of --hide and --only are joined by commas, one between two names and no blanks\n",
         status: 2,
     },
     Row {
@@ -587,7 +587,7 @@ const NO_GATES: &[Row] = &[
         text: TURNS,
         words: &["lotosseq", "ever", "--only", "WIN, RIN", "WIN"],
         output: b"",
-        message: b"lotosseq: E52 \\x20RIN is no gate of the specification\n",
+        message: b"lotosseq: E52 \\x20RIN is no gate of the specification\nlotosseq: the names of --hide and --only are joined by commas, one between two names and no blanks\n",
         status: 2,
     },
     Row {

@@ -70,7 +70,21 @@ const ROWS: &[Row] = &[
         words: &["<until> <deadlock>"],
         enough: "--states=2",
         fewer: Some("--states=1"),
-        message: b"lotosseq: it happens at no depth; 2 states; word 1 cannot be matched\n",
+        message: b"lotosseq: it happens at no depth; 2 states; no state is as words 1 to 2 demand\n",
+    },
+    Row {
+        text: BUFFER,
+        words: &["<deadlock>"],
+        enough: "--states=1",
+        fewer: None,
+        message: b"lotosseq: it happens at no depth; 1 state; at the start no state is as word 1 demands\n",
+    },
+    Row {
+        text: BUFFER,
+        words: &["<refuses> A,B"],
+        enough: "--states=1",
+        fewer: None,
+        message: b"lotosseq: it happens at no depth; 1 state; at the start no state is as words 1 to 2 demand\n",
     },
     // The word of a set belongs to its element, and `<until>` to the end.
     Row {

@@ -41,6 +41,20 @@ const WARNINGS: &[Row] = &[
         status: 1,
     },
     Row {
+        name: "almost an element",
+        words: &["lotosseq", "search", "--depth", "1", "While"],
+        output: b"",
+        message: b"lotosseq: word 1, While, is no gate of the specification and never matches\nlotosseq: word 1, While, may be meant as <while>\n",
+        status: 1,
+    },
+    Row {
+        name: "almost an element, in a set",
+        words: &["lotosseq", "search", "--depth", "1", "PUT,while"],
+        output: b"PUT\n",
+        message: b"lotosseq: word 1, while, is no gate of the specification and never matches\n",
+        status: 0,
+    },
+    Row {
         name: "in a set",
         words: &["lotosseq", "search", "--depth", "1", "PUT,TOKEN"],
         output: b"PUT\n",

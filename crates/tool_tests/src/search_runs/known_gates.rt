@@ -62,7 +62,7 @@ const MISSPELT: &[Row] = &[
         text: TWO_STEPS,
         words: &["lotosseq", "search", "--depth", "3", "until", "B"],
         output: b"",
-        message: b"lotosseq: word 1, until, is no gate of the specification and never matches\n",
+        message: b"lotosseq: word 1, until, is no gate of the specification and never matches\nlotosseq: word 1, until, may be meant as <until>\n",
         status: 1,
     },
     Row {
