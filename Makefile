@@ -19,7 +19,7 @@ build: ## proves and builds the program if a source has changed
 try: ## runs the tests without a proof, in minutes
 	tools/try-tests
 
-test: ## runs the gate, tools/edits-fit, tools/mains-alike and rt ci
+test: ## runs the gate, tools/check and then rt ci
 	.ci/run
 
 edits: ## tries every edit that makes code wrong, not only those of the gate
@@ -46,7 +46,7 @@ clean: ## removes all that was proved and built; the next build proves everythin
 	rm -rf crates/*/out
 
 docs: build ## runs the commands of README.md and the tutorial and compares
-	tools/run-docs ./lotosseq
+	tools/ask run-docs ./lotosseq
 
 examples: build ## asks the questions of the examples and compares
 	examples/run
@@ -58,7 +58,8 @@ bench: build ## measures time and memory
 	bench/ever
 	bench/growth
 
-extra: build ## runs every tool that is not part of the gate
-	tools/extra
+extra: build ## checks the texts and asks the program
+	tools/check
+	tools/ask
 
 .PHONY: help build try test edits install uninstall clean docs examples bench extra

@@ -5,6 +5,7 @@ the record R, or its constructors if it is no record. After "law" or "laws" come
 section they are, or that "of" names. Names before "in" and a file are defined in that file. A path is that of a file. Every other name
 is defined in some file, or is one of WORDS.
 """
+import functools
 import glob
 import os
 import re
@@ -24,6 +25,11 @@ FIELDS = re.compile(rf"`(\w+)`: ({SEVERAL})")
 LAWS = re.compile(rf"\blaws? (?:are )?({SEVERAL})(?: of `(\w+)`)?")
 IN_FILE = re.compile(rf"({SEVERAL})(?:, (?:both|all))? in `([\w/+]+\.(?:rt|antt))`")
 PATH = re.compile(r"[\w.*+-]*(?:/[\w.*+-]*)+$|[\w.-]+\.(?:rt|antt|md|txt|py|edit)$")
+
+# What a path may be named without: folders, and those whose inner folders may be left out too.
+FLAT = [re.compile(it) for it in ("crates/", "docs/", "crates/[^/]+/", "crates/[^/]+/specs/")]
+DEEP = [re.compile(it) for it in ("crates/[^/]+/src/", "crates/[^/]+/proofs/")]
+BASES = FLAT + DEEP
 
 # Of code: a function, the type or the trait that has it, and any other item.
 FUNCTION = re.compile(r"^[ \t]*(?:pub(?:\(crate\))? )?fn (\w+)", re.M)
@@ -48,7 +54,7 @@ class Names:
             self.add_code(os.path.relpath(path, os.path.join(TOP, "crates")), re.sub(r"(^|\s)//.*", r"\1", read(path)))
         for path in self.paths("specs", "antt") + self.paths("proofs", "antt"):
             self.add_theory(os.path.relpath(path, os.path.join(TOP, "crates")), read(path).split("\n"))
-        self.known = set().union(*self.by_file.values())
+        self.known = WORDS.union(*self.by_file.values())
         self.known |= {clause for files in self.clauses.values() for clauses in files.values() for clause in clauses}
         self.known |= {os.path.splitext(os.path.basename(file))[0] for file in self.by_file}
         self.known |= {os.path.basename(path) for folder in ("*", "crates/*") for path in glob.glob(os.path.join(TOP, folder))}
@@ -98,13 +104,34 @@ class Names:
         return any(clause in own for own in self.clauses.get(owner, {}).values()) or clause in self.parts.get(owner, ())
 
 
+def all_paths():
+    """The paths of all files and folders that are no work of git or of rt."""
+    for folder, inner, files in os.walk(TOP):
+        inner[:] = [it for it in inner if it not in (".git", "out")]
+        base = os.path.relpath(folder, TOP)
+        yield from (os.path.normpath(os.path.join(base, it)) for it in [*inner, *files])
+
+
+@functools.cache
+def path_names():
+    """The names of files and folders: their paths, and the ends of these below one of BASES."""
+    paths = list(all_paths())
+    return {*paths, *(path[end:] for path in paths for base in BASES for end in ends_of(base, path))}
+
+
+def ends_of(base, path):
+    """Where in a path that begins with a base the rest begins, also behind each further folder if it is a base with all folders below."""
+    begun = base.match(path)
+    if begun:
+        yield begun.end()
+        yield from (it.end() for it in re.finditer("/", path) if it.end() > begun.end() and base in DEEP)
+
+
 def is_path(word):
     """Whether there is such a file or folder, by its path or, in a crate, by its end; capitals stand for any name."""
     word = re.sub(r"\b[A-Z]{3,}(?=/|$)", "*", word).rstrip("/")
-    return any(
-        glob.glob(os.path.join(TOP, base, word), recursive=True)
-        for base in ("", "crates", "docs", "crates/*", "crates/*/src/**", "crates/*/specs", "crates/*/proofs/**")
-    )
+    pattern = re.compile(re.escape(word).replace(r"\*\*/", "(?:.*/)?").replace(r"\*", "[^/]*"))
+    return any(map(pattern.fullmatch, path_names())) if "*" in word else word in path_names()
 
 
 def faults_of(names, document):
@@ -158,5 +185,5 @@ def faults_in(names, line, crate):
         if PATH.match(word):
             if not is_path(word):
                 yield f"there is no file {word}"
-        elif NAME.match(word) and word not in placed and not ({word, word.split("::")[-1]} & (WORDS | names.known)):
+        elif NAME.match(word) and word not in placed and not ({word, word.split("::")[-1]} & names.known):
             yield f"nothing is named {word}"
