@@ -85,8 +85,8 @@ class Edit:
             raise Misfit("it changes nothing")
 
 
-def misfit_of(top, crate, tier, name):
-    """Returns why an edit does not fit the files of its crate, or None if it does."""
+def texts_of(top, crate, tier, name):
+    """Returns the texts of the files that an edit changes, by their paths in the crate, as it leaves them, or says why it does not fit."""
     folder = os.path.join(top, "crates", crate)
     edit = Edit(folder)
     try:
@@ -94,7 +94,5 @@ def misfit_of(top, crate, tier, name):
             edit.read(line)
         edit.end()
     except (OSError, UnicodeDecodeError) as error:
-        return f"it, or a file that it names, cannot be read: {error}"
-    except Misfit as why:
-        return str(why)
-    return None
+        raise Misfit(f"it, or a file that it names, cannot be read: {error}") from error
+    return edit.texts
