@@ -14,3 +14,10 @@ pub mod AlongRuns
 pub mod FollowedRuns
 pub mod WaysBack
 pub mod StoredOrigins
+pub mod Contexts
+pub mod GoingRound
+pub mod WrappedTerms
+pub mod Likenesses
+pub mod TurnBounds
+pub mod PlacesInRuns
+pub mod ClosedRounds

@@ -3,3 +3,7 @@ pub mod Parts
 pub mod OriginSearch
 pub mod RunLayers
 pub mod FollowedRuns
+pub mod Contexts
+pub mod Rounds
+pub mod Wrappers
+pub mod Likenesses

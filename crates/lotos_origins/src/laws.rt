@@ -1,12 +1,14 @@
 //! Laws of the definitions, each as the contract of an empty function.
-ghost use Rattle.std.specs.Prelude.{ℕ, List, length};
+ghost use Rattle.std.specs.Prelude.{◌≡◌, ℕ, List, length};
 ghost use Rattle.lotos_store.specs.Terms.{IsTerm, Process, Term as TermOf};
 ghost use Rattle.lotos_store.specs.declared.label.Label.{Label};
 ghost use Rattle.lotos_store.specs.declared.label.Label.TheVariants as labels;
 ghost use Rattle.lotos_terms.specs.Steps.{Step};
 ghost use Rattle.lotos_terms.specs.TableView.{Grows, IsSoundView, TableView};
+ghost use Rattle.lotos_origins.specs.Contexts.{AreAlikeIn, Context, DoAlike, Does, Event, seen_through, under};
 ghost use Rattle.lotos_origins.specs.FollowedRuns.{AreAlike, IsFollowed};
 ghost use Rattle.lotos_origins.specs.Origins.{DerivesBy, DerivesByNumber, InternalStep, IsOriginOver};
+ghost use Rattle.lotos_origins.specs.Rounds.{GoesRoundBy};
 ghost use Rattle.lotos_origins.specs.declared.followed_run.FollowedRun.{FollowedRun as FollowedRunOf};
 ghost use Rattle.lotos_origins.specs.declared.origin.Origin.{Origin as OriginOf};
 
@@ -50,6 +52,28 @@ pub fn alike_terms_have_the_same_steps()
         (t' : TermOf) × Step system t k t' × AreAlike system t' u' }
 {
     steps_keep_bisimilarity();
+}
+
+/// Terms that are alike in contexts have the same steps, with the same origins of the internal ones: for each step of
+/// the first there is one of the second of which its context makes the same, and the terms that the two lead to are
+/// alike. They are alike in larger contexts too.
+pub fn alike_steps_have_the_same_origins()
+    ensures step { (system : List Process) (c d : Context) (t u t' : TermOf) (e : Event) →
+        AreAlikeIn system c t d u → Does system t e t' →
+        (f : Event) × (u' : TermOf) × Does system u f u' × (seen_through c e ≡ seen_through d f) ×
+        AreAlikeIn system c t' d u' }
+    ensures context { (system : List Process) (c d outer : Context) (t u : TermOf) →
+        AreAlikeIn system c t d u → AreAlikeIn system (under outer c) t (under outer d) u }
+{}
+
+/// A loop that leads from a term to one that does alike can be taken as often as one likes, each time with the same
+/// origins.
+pub fn alike_terms_go_round()
+    ensures { (system : List Process) (t x y : TermOf) (row turn : List Label)
+        (before around : List OriginOf) → DerivesBy system t row before x → DerivesBy system x turn around y →
+        DoAlike system x y → GoesRoundBy system t row turn before around }
+{
+    alike_steps_have_the_same_origins();
 }
 
 /// A run that was followed stays followed as the table grows.
