@@ -1,19 +1,20 @@
 -- The texts of derivations, with what makes their internal steps.
-use Rattle.std.proofs.Common.{◌++◌, ◌∷◌, [], List, length, refl}
+use Rattle.std.proofs.Common.{◌++◌, ◌∷◌, [], ℕ, zero, suc, List, length, refl}
 use Rattle.std.specs.Prelude.{codes}
 use Rattle.lotos_check.specs.NameLists.{Name}
-use Rattle.lotos_store.specs.Terms.{IsTerm, Term}
+use Rattle.lotos_store.specs.Terms.{IsTerm, Process, Term}
 use Rattle.lotos_store.specs.declared.label.Label.{Label as TermLabel}
 use Rattle.lotos_store.specs.declared.label.Label.TheVariants as l
 use Rattle.lotos_terms.specs.Steps.{Step}
 use Rattle.lotos_terms.specs.TableView.{IsLabel, TableView}
 use Rattle.lotos_terms.proofs.PrintedLabels.{has_text}
+use Rattle.lotos_listing.specs.Ends.{repeated}
 use Rattle.lotos_listing.specs.Order.{Label}
 use Rattle.lotos_origins.specs.Origins.{DerivesBy, InternalStep, IsOriginOver, ends, internally, observably}
 use Rattle.lotos_origins.specs.declared.origin.Origin.{Origin}
 use Rattle.lotos_origins.specs.declared.origin.Origin.TheVariants as origin
 use Rattle.lotos_origins.proofs.InternalSteps.{is_step}
-use Rattle.lotos_output.specs.NamedRuns.{AreNamed, IsOriginText, inside, more_named, none_named, observed}
+use Rattle.lotos_output.specs.NamedRuns.{AreNamed, IsNamedStep, IsOriginText, inside, more_named, none_named, observed}
 
 -- the term is one over the gates and the processes of the table
 abbrev pub IsOver : TableView → Term → Type 0
@@ -44,25 +45,36 @@ module _ (held : TableView)
       let (texts, named) = shown_along rest (stays t u l.Internal is (is_step held.processes inner)) in
       (text ∷ texts, more_named (inside shows) named)
 
--- the texts of two runs, one after the other
-pub record AreSplit (names : List Name) (first second : List TermLabel) (origins left : List Origin) : Type 0 where
-  pub first_texts : List Label
-  pub second_texts : List Label
-  pub rest : List Origin
-  pub first_named : AreNamed names first origins first_texts rest
-  pub second_named : AreNamed names second rest second_texts left
+-- what follows a derivation has texts by the origins that are left
+pub named_after : (names : List Name) (processes : List Process) {t u : Term} {run : List TermLabel} {before : List Origin} →
+    DerivesBy processes t run before u → (next : List TermLabel) (more left : List Origin) (texts : List Label) →
+    AreNamed names (run ++ next) (before ++ more) texts left → (shown : List Label) × AreNamed names next more shown left
+named_after names processes ends next more left texts named = (texts, named)
+named_after names processes (observably other step rest) next more left _ (more_named (observed {os = os} apart shows) named) =
+    named_after names processes rest next more left _ named
+named_after names processes (observably other step rest) next more left _ (more_named (inside shows) named) = absurd (other refl)
+named_after names processes (internally inner rest) next more left _ (more_named (observed apart shows) named) = absurd (apart refl)
+named_after names processes (internally inner rest) next more left _ (more_named (inside shows) named) =
+    named_after names processes rest next more left _ named
 
--- if two runs have texts one after the other, each has texts, the second by the origins that the first one leaves
-pub named_split : (names : List Name) (first second : List TermLabel) (origins left : List Origin) (texts : List Label) →
-    AreNamed names (first ++ second) origins texts left → AreSplit names first second origins left
-named_split names [] second origins left texts named =
-    record { first_texts = []; second_texts = texts; rest = origins; first_named = none_named; second_named = named }
-named_split names (k ∷ first) second origins left _ (more_named {text = text} {rest = rest} step named) =
-    let split = named_split names first second rest left _ named in
-    record {
-      first_texts = text ∷ split.first_texts;
-      second_texts = split.second_texts;
-      rest = split.rest;
-      first_named = more_named step split.first_named;
-      second_named = split.second_named;
-    }
+module _ (names : List Name) where
+  -- the text of a step stays where more origins follow
+  step_before : {k : TermLabel} {origins rest : List Origin} {text : Label} (more : List Origin) → IsNamedStep names k origins text rest →
+      IsNamedStep names k (origins ++ more) text (rest ++ more)
+  step_before more (observed other shows) = observed other shows
+  step_before more (inside shows) = inside shows
+
+  -- two runs that have texts have them one after the other
+  pub named_append : (first second : List TermLabel) (origins more left : List Origin) (texts others : List Label) →
+      AreNamed names first origins texts [] → AreNamed names second more others left →
+      AreNamed names (first ++ second) (origins ++ more) (texts ++ others) left
+  named_append _ second _ more left _ others none_named named = named
+  named_append (k ∷ first) second origins more left (text ∷ texts) others (more_named {rest = rest} step first_named) named =
+      more_named (step_before more step) (named_append first second rest more left texts others first_named named)
+
+  -- and so do the turns of a loop
+  pub named_repeated : (n : ℕ) (turn : List TermLabel) (origins : List Origin) (texts : List Label) → AreNamed names turn origins texts [] →
+      AreNamed names (repeated n turn) (repeated n origins) (repeated n texts) []
+  named_repeated zero turn origins texts named = none_named
+  named_repeated (suc n) turn origins texts named =
+      named_append turn (repeated n turn) origins (repeated n origins) [] texts (repeated n texts) named (named_repeated n turn origins texts named)

@@ -1,15 +1,17 @@
 -- Runs as text, with what makes their internal steps.
-use Rattle.std.specs.Prelude.{◌≡◌, ◌≢◌, Bool, true, false, List, [], ◌∷◌, ◌++◌, codes}
+use Rattle.std.specs.Prelude.{◌≡◌, ◌≢◌, ℕ, Bool, true, false, List, [], ◌∷◌, ◌++◌, codes}
 use Rattle.lotos_check.specs.NameLists.{Name}
 use Rattle.lotos_store.specs.Terms.{Process, Term}
 use Rattle.lotos_store.specs.declared.label.Label.{Label as TermLabel}
 use Rattle.lotos_store.specs.declared.label.Label.TheVariants as l
 use Rattle.lotos_terms.specs.TableView.{IsPrintedAs}
+use Rattle.lotos_listing.specs.Ends.{repeated}
 use Rattle.lotos_listing.specs.Order.{Label}
 use Rattle.lotos_listing.specs.Question.{ArePrinted}
 use Rattle.lotos_origins.specs.Origins.{DerivesBy}
 use Rattle.lotos_origins.specs.declared.origin.Origin.{Origin}
 use Rattle.lotos_origins.specs.declared.origin.Origin.TheVariants as origin
+use Rattle.lotos_origins.specs.declared.rounds.Round.{Round}
 use Rattle.lotos_command.specs.declared.command.Runs.{Runs}
 use Rattle.lotos_command.specs.declared.command.Runs.TheVariants.{Labels, Omitted, Origins}
 
@@ -35,6 +37,11 @@ pub data AreNamed (names : List Name) : List TermLabel → List Origin → List 
       IsNamedStep names k os text rest → AreNamed names ks rest texts left →
       AreNamed names (k ∷ ks) os (text ∷ texts) left
 
+-- the texts are those of the row and of the loop, each with the origins of its internal steps
+pub record AreRoundNamed (names : List Name) (round : Round) (row_shown turn_shown : List Label) : Type 0 where
+  pub row : AreNamed names round.row.items round.row_origins.items row_shown []
+  pub turn : AreNamed names round.turn.items round.turn_origins.items turn_shown []
+
 -- whether lines have runs
 abbrev pub writes_runs : Runs → Bool
 writes_runs Omitted = false
@@ -49,14 +56,10 @@ module _ (names : List Name) (processes : List Process) where
     pub derives : DerivesBy processes t labels origins u
     pub named : AreNamed names labels origins shown []
 
-  -- the same of steps by the labels of a row and then by those of a loop
-  pub record GoesNamed (t : Term) (row loop : List TermLabel) (row_shown loop_shown : List Label) : Type 0 where
-    pub origins : List Origin
-    pub rest : List Origin
-    pub last : Term
-    pub derives : DerivesBy processes t (row ++ loop) origins last
-    pub row_named : AreNamed names row origins row_shown rest
-    pub loop_named : AreNamed names loop rest loop_shown []
+  -- for each number, the same of steps by the labels of a row and then so many times by those of a loop
+  abbrev pub GoesNamed : Term → (row loop : List TermLabel) → (row_shown loop_shown : List Label) → Type 0
+  GoesNamed t row loop row_shown loop_shown =
+      (n : ℕ) → (u : Term) × DerivesNamed t (row ++ repeated n loop) (row_shown ++ repeated n loop_shown) u
 
   -- the second texts are those of a derivation by the run with the first ones, where those of internal steps say what
   -- makes them; it may end where it does

@@ -2,10 +2,10 @@
 ghost use Rattle.std.specs.Prelude.{◌≡◌, ◌++◌, ◌∷◌, [], IfOk, List, OnOk, drop, flat_map, string_bytes, true};
 ghost use Rattle.lotos_listing.specs.Order.{Label as Text};
 ghost use Rattle.lotos_origins.specs.declared.origin.Origin.{Origin as OriginOf};
-ghost use Rattle.lotos_output.specs.NamedRuns.{AreNamed, IsNamedStep, IsOriginText};
+ghost use Rattle.lotos_output.specs.NamedRuns.{AreNamed, AreRoundNamed, IsNamedStep, IsOriginText};
 ghost use Rattle.lotos_output.specs.OutputLines.{round_text, row_text, run_text, sequence_text};
 
-use lotos_origins::Origin;
+use lotos_origins::{Origin, Round};
 use lotos_terms::{Label, label_text};
 use lotos_text::Name;
 use std::alloc::AllocError;
@@ -27,47 +27,52 @@ pub fn append_named_run(
     Ok(())
 }
 
-/// Appends steps that go round, as [`crate::append_round`] does, where internal steps are written by what makes them. The
-/// origins are those of the row and then of the loop.
+/// Appends steps that go round, as [`crate::append_round`] does, where internal steps are written by what makes them.
 pub fn append_named_round(
     gates: &[Name],
-    row: &[Label],
-    turn: &[Label],
-    origins: &[Origin],
+    round: &Round,
     line: &mut String,
 ) -> Result<(), AllocError>
-    requires { (r s : List Text) × (rest : List OriginOf) × AreNamed gates.now row.now origins.now r rest
-        × AreNamed gates.now turn.now rest s [] }
-    ensures { OnOk result ((r s : List Text) (rest : List OriginOf) →
-        AreNamed gates.now row.now origins.now r rest → AreNamed gates.now turn.now rest s [] →
+    requires { (r s : List Text) × AreRoundNamed gates.now round.now r s }
+    ensures { OnOk result ((r s : List Text) → AreRoundNamed gates.now round.now r s →
         string_bytes line.new ≡ string_bytes line.old ++ round_text r s) }
 {
     line.push_str(" <forever> ")?;
-    let used = append_row(gates, row, origins, line)?;
+    append_row(
+        gates,
+        round.row.as_slice(),
+        round.row_origins.as_slice(),
+        line,
+    )?;
     line.push_str("[")?;
-    append_sequence(gates, turn, origins, used, line)?;
+    append_sequence(
+        gates,
+        round.turn.as_slice(),
+        round.turn_origins.as_slice(),
+        0,
+        line,
+    )?;
     line.push_str("]")?;
     Ok(())
 }
 
-/// Appends the steps of a row and a blank, if there are any steps. Returns how many origins are used.
+/// Appends the steps of a row and a blank, if there are any steps.
 fn append_row(
     gates: &[Name],
     row: &[Label],
     origins: &[Origin],
     line: &mut String,
-) -> Result<usize, AllocError>
-    requires { (r : List Text) × (rest : List OriginOf) × AreNamed gates.now row.now origins.now r rest }
-    ensures { IfOk result (λ used. (r : List Text) (rest : List OriginOf) →
-        AreNamed gates.now row.now origins.now r rest →
-        (drop used origins.now ≡ rest) × (string_bytes line.new ≡ string_bytes line.old ++ row_text r)) }
+) -> Result<(), AllocError>
+    requires { (r : List Text) × AreNamed gates.now row.now origins.now r [] }
+    ensures { OnOk result ((r : List Text) → AreNamed gates.now row.now origins.now r [] →
+        string_bytes line.new ≡ string_bytes line.old ++ row_text r) }
 {
     if row.is_empty() {
-        return Ok(0);
+        return Ok(());
     }
-    let used = append_sequence(gates, row, origins, 0, line)?;
+    append_sequence(gates, row, origins, 0, line)?;
     line.push_str(" ")?;
-    Ok(used)
+    Ok(())
 }
 
 /// Appends the steps of a run, as the text of a sequence. The first origins are used; returns how many are used then.

@@ -40,8 +40,8 @@ pub enum Refusal {
     /// The input cannot be read.
     #[error("E47 input cannot be read")]
     E47,
-    /// The word of the pattern or the sequence with this number, counted from 1, is the first that names a gate not in
-    /// the specification's own list.
+    /// The word of the pattern or the sequence with this number, counted from 1, is the first that names no gate of the
+    /// system that is asked: none of the specification's own list, or one that `--hide` or `--only` hides.
     #[error("E49 word {0} is no gate of the specification")]
     E49(usize),
     /// The name, as an option of the command line gives it, is the first one there that is no gate of the specification's

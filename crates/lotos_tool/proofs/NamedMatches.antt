@@ -12,15 +12,15 @@ use Rattle.lotos_listing.specs.Lookups.{term_at}
 use Rattle.lotos_listing.specs.Order.{Label}
 use Rattle.lotos_origins.specs.Origins.{DerivesBy, InternalStep, IsOriginOver, ends, internally, observably}
 use Rattle.lotos_origins.specs.declared.origin.Origin.{Origin}
+use Rattle.lotos_origins.specs.declared.rounds.Round.{Round}
 use Rattle.lotos_origins.proofs.InternalSteps.{is_step}
 use Rattle.lotos_ever.specs.MatchQuestions.{match_question_of}
-use Rattle.lotos_ever.specs.NamedRuns.{IsNamedRoundAt, IsNamedRun}
-use Rattle.lotos_ever.specs.declared.named_run.NamedRound.{NamedRound}
+use Rattle.lotos_ever.specs.NamedRuns.{IsNamedRoundAt, IsNamedRoundOf, IsNamedRun}
 use Rattle.lotos_ever.specs.declared.named_run.NamedRun.{NamedRun}
 use Rattle.lotos_ever.proofs.SearchAnswers.{start_is}
-use Rattle.lotos_output.specs.NamedRuns.{AreNamed}
+use Rattle.lotos_output.specs.NamedRuns.{AreNamed, AreRoundNamed}
 use Rattle.lotos_output.specs.OutputLines.{round_text, round_text_if, run_text}
-use Rattle.lotos_output.proofs.NamedTexts.{AreSplit, IsOver, named_split, shown_along}
+use Rattle.lotos_output.proofs.NamedTexts.{IsOver, named_after, shown_along}
 use Rattle.lotos_tool.specs.EverOutcome.{MatchTexts}
 use Rattle.lotos_tool.specs.EverParts.{AreNamedTextsOf, question_about}
 use Rattle.lotos_tool.proofs.MatchOutcomes.{round_named}
@@ -44,13 +44,35 @@ module _ (held : TableView) (sound : IsSoundView held)
     pub run_shown : (texts : List Label) × AreNamed held.names run named.origins.items texts []
     run_shown = shown_along held labelled stays over is.derives start_over
 
-    -- and so have steps that go round where it ends
-    pub round_shown : (round : NamedRound) → named.round ≡ Some round →
-        AreSplit held.names round.row.items round.turn.items round.origins.items []
+    -- what goes round where it ends
+    round_at : (round : Round) → named.round ≡ Some round → IsNamedRoundOf (match_question_of held p.pattern) p.kind is.last round
+    round_at round there = subst (λ o. IsNamedRoundAt (match_question_of held p.pattern) p.kind is.last o) there is.round
+
+    -- and that has texts too
+    pub round_shown : (round : Round) → named.round ≡ Some round → (r s : List Label) × AreRoundNamed held.names round r s
     round_shown round there =
-        let at = subst (λ o. IsNamedRoundAt (match_question_of held p.pattern) p.kind is.last o) there is.round in
-        let (texts, all) = shown_along held labelled stays over at.derives (over_along is.derives start_over) in
-        named_split held.names round.row.items round.turn.items round.origins.items [] texts all
+        let at = round_at round there in
+        let last_over = over_along is.derives start_over in
+        let row = round.row.items in
+        let turn = round.turn.items in
+        let before = round.row_origins.items in
+        let around = round.turn_origins.items in
+        let (u, once) = at.goes_named 0 in
+        let (v, twice) = at.goes_named 1 in
+        let along : DerivesBy held.processes is.last row before u =
+        subst (λ ks. DerivesBy held.processes is.last ks before u) (append-nil row)
+        (subst (λ os. DerivesBy held.processes is.last (row ++ []) os u) (append-nil before) once) in
+        let (r, row_named) = shown_along held labelled stays over along last_over in
+        let (z, all) = shown_along held labelled stays over twice last_over in
+        let (s, turn_named) = named_after held.names held.processes along (turn ++ []) (around ++ []) [] z all in (
+          r,
+          s,
+          record {
+            row = row_named;
+            turn = subst (λ ks. AreNamed held.names ks around s []) (append-nil turn)
+                (subst (λ os. AreNamed held.names (turn ++ []) os s []) (append-nil around) turn_named);
+          },
+        )
 
     -- with the names of the gates and the origins as they are lent
     pub run_in : (gates : List Name) (lent : List Origin) → gates ≡ held.names → lent ≡ named.origins.items → AreNamed gates run lent run_shown.0 []
@@ -71,36 +93,25 @@ module _ (held : TableView) (sound : IsSoundView held)
       written ∙ sym (append-nil (text ++ run_text true run_shown.0)),
     )
 
-    module _ (round : NamedRound) (there : named.round ≡ Some round) (gates : List Name) (row turn : List TermLabel) (lent : List Origin)
-        (same : gates ≡ held.names) (row_is : row ≡ round.row.items) (turn_is : turn ≡ round.turn.items) (lent_is : lent ≡ round.origins.items) where
-      pub split : AreSplit held.names round.row.items round.turn.items round.origins.items []
-      split = round_shown round there
-
-      pub row_in : AreNamed gates row lent split.first_texts split.rest
-      unfolding split
-      row_in = rw (same, row_is, lent_is) split.first_named
-
-      pub turn_in : AreNamed gates turn split.rest split.second_texts []
-      unfolding split
-      turn_in = rw (same, turn_is) split.second_named
-
+    module _ (round : Round) (there : named.round ≡ Some round) (gates : List Name) (same : gates ≡ held.names) where
       -- the texts of such steps
-      pub round_in : (r s : List Label) × (rest : List Origin) × AreNamed gates row lent r rest × AreNamed gates turn rest s []
-      round_in = (split.first_texts, split.second_texts, split.rest, row_in, turn_in)
+      pub round_in : (r s : List Label) × AreRoundNamed gates round r s
+      round_in =
+          let (r, s, shown) = round_shown round there in
+          (r, s, subst (λ names. AreRoundNamed names round r s) (sym same) shown)
 
       -- what is written if they are demanded
       pub texts_with_round : (text middle made : List ℕ) → middle ≡ text ++ run_text true run_shown.0 →
-          ((r s : List Label) (rest : List Origin) → AreNamed gates row lent r rest → AreNamed gates turn rest s [] → made ≡ middle ++ round_text r s) →
+          ((r s : List Label) → AreRoundNamed gates round r s → made ≡ middle ++ round_text r s) →
           (texts : MatchTexts) × AreNamedTextsOf (question_about held p) run texts × (made ≡ text ++ run_text true texts.run ++ round_text_if true texts.round)
-      texts_with_round text middle made first written = (
-        record { run = run_shown.0; round = Some (split.first_texts, split.second_texts) },
-        record {
-          last = is.last;
-          derives = record { origins = named.origins.items; derives = is.derives; named = run_shown.1 };
-          ends = is.ends;
-          goes_round = round_named (question_about held p) is.last round.row.items round.turn.items round.origins.items split.rest split.first_texts
-              split.second_texts (subst (λ o. IsNamedRoundAt (match_question_of held p.pattern) p.kind is.last o) there is.round) split.first_named
-              split.second_named;
-        },
-        written split.first_texts split.second_texts split.rest row_in turn_in ∙ ap (λ x. x ++ round_text split.first_texts split.second_texts) first,
-      )
+      texts_with_round text middle made first written =
+          let (r, s, shown) = round_shown round there in (
+            record { run = run_shown.0; round = Some (r, s) },
+            record {
+              last = is.last;
+              derives = record { origins = named.origins.items; derives = is.derives; named = run_shown.1 };
+              ends = is.ends;
+              goes_round = round_named (question_about held p) is.last round r s (round_at round there) shown;
+            },
+            written r s (subst (λ names. AreRoundNamed names round r s) (sym same) shown) ∙ ap (λ x. x ++ round_text r s) first,
+          )

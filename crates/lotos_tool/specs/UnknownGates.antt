@@ -1,4 +1,4 @@
--- Words of a pattern that name gates not in a specification's own list.
+-- Words of a pattern that name gates not in a list, which is that of the system that is asked.
 use Rattle.std.specs.Prelude.{◌≡◌, ℕ, ◌<◌, List, Some, map, slice_get}
 use Rattle.std.specs.Char.{to_ascii_uppercase}
 use Rattle.lotos_check.specs.NameLists.{In, Name}

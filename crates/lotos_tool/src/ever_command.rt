@@ -247,13 +247,7 @@ fn append_origins(
     append_named_run(table.gates(), run, named.origins.as_slice(), line)?;
     match &named.round {
         None => Ok(()),
-        Some(round) => append_named_round(
-            table.gates(),
-            round.row.as_slice(),
-            round.turn.as_slice(),
-            round.origins.as_slice(),
-            line,
-        ),
+        Some(round) => append_named_round(table.gates(), round, line),
     }
 }
 

@@ -58,7 +58,7 @@ pub fn read_mark(
     }
 }
 
-/// Refuses words of which one names a gate not in the specification's own list, with E49 and the number of the first, if
+/// Refuses words of which one names no gate of the system that is asked, with E49 and the number of the first, if
 /// `refuses` is set.
 pub fn refuse_unknown_gates(
     alloc: Global,

@@ -2,8 +2,7 @@
 use super::accepted_text::normal_table_of_text;
 use super::named_match_run::{NamedMatch, named_match};
 use super::set_texts::{HIDDEN_LOOP, MEETING, SERVER};
-use lotos_ever::NamedRound;
-use lotos_origins::Origin;
+use lotos_origins::{Origin, Round};
 use lotos_pattern::EverPattern;
 use lotos_terms::Label;
 use lotos_text::Name;
@@ -140,15 +139,14 @@ fn add_origin(
     }
 }
 
-/// Appends the labels, the internal ones by the origins from an index on, and returns the index after these.
+/// Appends the labels, the internal ones by the origins.
 fn add_labels(
     names: &[Name],
     labels: &[Label],
     origins: &[Origin],
-    from: usize,
     into: &mut String,
-) -> Result<usize, AllocError> {
-    let mut index = from;
+) -> Result<(), AllocError> {
+    let mut index = 0usize;
     for label in labels {
         add_blank(into)?;
         match label {
@@ -160,31 +158,34 @@ fn add_labels(
             }
         }
     }
-    Ok(index)
+    Ok(())
 }
 
 /// Appends the steps that never end.
-fn add_round(names: &[Name], round: &NamedRound, into: &mut String) -> Result<(), AllocError> {
-    let origins = round.origins.as_slice();
+fn add_round(names: &[Name], round: &Round, into: &mut String) -> Result<(), AllocError> {
     add_blank(into)?;
     into.push_str("<forever>")?;
-    let index = add_labels(names, round.row.as_slice(), origins, 0, into)?;
+    add_labels(
+        names,
+        round.row.as_slice(),
+        round.row_origins.as_slice(),
+        into,
+    )?;
     into.push_str(" [")?;
-    add_labels(names, round.turn.as_slice(), origins, index, into)?;
+    add_labels(
+        names,
+        round.turn.as_slice(),
+        round.turn_origins.as_slice(),
+        into,
+    )?;
     into.push_str(" ]")
 }
 
 /// The run and the steps that never end, as rows have them.
 fn text_of(alloc: Global, names: &[Name], found: &NamedMatch) -> Result<String, AllocError> {
     let mut text = String::new(alloc);
-    let origins = found.named.origins.as_slice();
-    add_labels(
-        names,
-        found.ended.found.word.as_slice(),
-        origins,
-        0,
-        &mut text,
-    )?;
+    let run = found.ended.found.word.as_slice();
+    add_labels(names, run, found.named.origins.as_slice(), &mut text)?;
     if let Some(round) = &found.named.round {
         add_round(names, round, &mut text)?;
     }

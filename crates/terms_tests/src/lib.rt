@@ -55,6 +55,8 @@ mod refused_label_tests;
 #[cfg(test)]
 mod regrouping_tests;
 #[cfg(test)]
+mod round_tests;
+#[cfg(test)]
 mod step_tests;
 #[cfg(test)]
 mod term_equality;

@@ -171,7 +171,7 @@ const ROWS: &[Row] = &[
 ];
 
 /// Appends the text of an internal step, by what makes it.
-fn add_text(names: &[String], origin: Origin, into: &mut String) -> Result<(), AllocError> {
+pub fn add_text(names: &[String], origin: Origin, into: &mut String) -> Result<(), AllocError> {
     match origin {
         Origin::Text => into.push_str("i"),
         Origin::Termination => into.push_str("i(exit)"),
@@ -343,7 +343,11 @@ fn label_of(names: &[String], word: &str) -> Label {
 }
 
 /// The labels with these texts.
-fn labels_of(alloc: Global, names: &[String], words: &[&str]) -> Result<Vec<Label>, AllocError> {
+pub fn labels_of(
+    alloc: Global,
+    names: &[String],
+    words: &[&str],
+) -> Result<Vec<Label>, AllocError> {
     let mut labels = Vec::new(alloc);
     for word in words {
         labels.push(label_of(names, word))?;

@@ -28,6 +28,33 @@ const ROUND: &[u8] =
     b"specification S [a] : noexit behaviour hide t, u, v in (t; a; stop [] u; Q [v])
 where process Q [x] : noexit := x; Q [x] endproc endspec";
 
+/// An internal step that leads out of a loop, beside the loop.
+const QUITTING: &[u8] =
+    b"specification S [go] : noexit behaviour hide quit, retry in go; P [quit, retry]
+where process P [x, y] : noexit := x; stop [] y; P [x, y] endproc endspec";
+
+/// Two internal steps out of a loop, one before it and one after it.
+const WAITING: &[u8] =
+    b"specification S [req] : noexit behaviour hide ans, retry, give_up in req; P [ans, retry, give_up]
+where process P [x, y, z] : noexit := x; stop [] y; P [x, y, z] [] z; stop endproc endspec";
+
+/// A label after each of two internal steps; only after one of them it comes again.
+const ONCE: &[u8] = b"specification S [c] : noexit behaviour hide a, b in P [a, b, c]
+where process P [x, y, z] : noexit := x; z; stop [] y; z; P [x, y, z] endproc endspec";
+
+/// A label after each of two internal steps; only after one of them it goes on.
+const ENTERED: &[u8] =
+    b"specification S [b] : noexit behaviour hide a, c in (a; b; stop [] c; Q [b])
+where process Q [x] : noexit := x; Q [x] endproc endspec";
+
+/// A process that calls itself with its gates exchanged, below their hiding.
+const EXCHANGED: &[u8] = b"specification S [g] : noexit behaviour hide a, b in (g; P [a, b])
+where process P [x, y] : noexit := x; P [y, x] endproc endspec";
+
+/// A process that hides a gate in its call of itself.
+const NESTED: &[u8] = b"specification S [g] : noexit behaviour hide a in P [a]
+where process P [x] : noexit := hide b in (x; P [b]) endproc endspec";
+
 /// Matches: what makes an internal step, and by which name it goes.
 const MATCHES: &[Row] = &[
     Row {
@@ -182,6 +209,58 @@ const ENDS: &[Row] = &[
     },
 ];
 
+/// Loops: the internal steps that are named come again.
+const LOOPS: &[Row] = &[
+    Row {
+        name: "not the step that leads out of the loop",
+        text: QUITTING,
+        words: &["lotosseq", "ever", "--hidden", "GO", "<livelock>"],
+        output: b"GO : GO <forever> [i(RETRY)]\n",
+        message: b"",
+        status: 0,
+    },
+    Row {
+        name: "neither of two such steps",
+        text: WAITING,
+        words: &["lotosseq", "ever", "--hidden", "<until>", "<livelock>"],
+        output: b"REQ : REQ <forever> [i(RETRY)]\n",
+        message: b"",
+        status: 0,
+    },
+    Row {
+        name: "not the step after which the label comes once",
+        text: ONCE,
+        words: &["lotosseq", "ever", "--hidden", "<forever>", "C"],
+        output: b"<empty> : <empty> <forever> [i(B) C]\n",
+        message: b"",
+        status: 0,
+    },
+    Row {
+        name: "the step that leads to the loop",
+        text: ENTERED,
+        words: &["lotosseq", "ever", "--hidden", "<forever>", "B"],
+        output: b"<empty> : <empty> <forever> i(C) [B]\n",
+        message: b"",
+        status: 0,
+    },
+    Row {
+        name: "two turns, if what is hidden alternates",
+        text: EXCHANGED,
+        words: &["lotosseq", "ever", "--hidden", "G", "<livelock>"],
+        output: b"G : G <forever> [i(A) i(B)]\n",
+        message: b"",
+        status: 0,
+    },
+    Row {
+        name: "a first turn, if what is hidden stays the same only then",
+        text: NESTED,
+        words: &["lotosseq", "ever", "--hidden", "<livelock>"],
+        output: b"<empty> : <empty> <forever> i(A) [i(B)]\n",
+        message: b"",
+        status: 0,
+    },
+];
+
 /// Listings.
 const LISTINGS: &[Row] = &[
     Row {
@@ -292,4 +371,9 @@ fn ends(rt: HostRuntime) {
 #[test]
 fn listings(rt: HostRuntime) {
     expect_rows(&rt, rt.alloc(), LISTINGS);
+}
+
+#[test]
+fn loops(rt: HostRuntime) {
+    expect_rows(&rt, rt.alloc(), LOOPS);
 }

@@ -1,13 +1,12 @@
 use Rattle.std.proofs.Common.{◌∙◌, ◌++◌, [], ap, codes, string_bytes, subst, sym}
-use Rattle.lotos_output.specs.NamedRuns.{AreNamed}
 use Rattle.lotos_output.specs.OutputLines.{row_text, sequence_text}
 use Rattle.lotos_output.proofs.NamedLines.{round_joined}
 use Rattle.lotos_output.proofs.named_runs.append_named_round.Goals as goal
 
 pub returns : goal.returns
-returns c = λ r s rest row_named turn_named.
-    let (same, row) = c.in_ok-used.ensures r rest row_named in
-    let (all, turn) = c.in_ok-append_sequence.ensures s [] (subst (λ os. AreNamed c.args.gates.now c.args.turn.now os s []) (sym same) turn_named) in
+returns c = λ r s named.
+    let row = c.in_ok-append_row.ensures r named.row in
+    let (all, turn) = c.in_ok-append_sequence.ensures s [] named.turn in
     let begun = c.in_ok-push_str.ensures.bytes in
     let opened = c.in_ok-push_str-2.ensures.bytes in
     let closed = c.in_ok-push_str-3.ensures.bytes in

@@ -38,9 +38,8 @@ append_named_round-requires c =
     let sound = c.recall_sound.ensures.sound in
     round_in held sound (c.steps_stay_in_table.ensures.label held sound) (c.steps_stay_in_table.ensures.term held sound)
     (c.origins_stay_in_table.ensures held sound) c.args.pattern.now c.args.run.now c.in_ok-named.named c.recall_sound.ensures.start
-    c.in_ok-named.ensures.named c.in-Some.round c.in-Some.is c.gates-in-Some.result.now c.as_slice-in-Some.result.now c.as_slice-in-Some-2.result.now
-    c.as_slice-in-Some-3.result.now (c.gates-in-Some.ensures ∙ c.in_ok-named.ensures.grows.names) c.as_slice-in-Some.ensures.value
-    c.as_slice-in-Some-2.ensures.value c.as_slice-in-Some-3.ensures.value
+    c.in_ok-named.ensures.named c.in-Some.round c.in-Some.is c.gates-in-Some.result.now
+    (c.gates-in-Some.ensures ∙ c.in_ok-named.ensures.grows.names)
 
 pub returns : goal.returns
 returns c =
@@ -56,8 +55,7 @@ returns c =
     on_ok_weaker c.append_named_round.result (λ written.
     texts_with_round held sound (c.steps_stay_in_table.ensures.label held sound) (c.steps_stay_in_table.ensures.term held sound)
     (c.origins_stay_in_table.ensures held sound) c.args.pattern.now c.args.run.now c.in_ok-named.named c.recall_sound.ensures.start
-    c.in_ok-named.ensures.named c.in-Some.round c.in-Some.is c.gates-in-Some.result.now c.as_slice-in-Some.result.now
-    c.as_slice-in-Some-2.result.now c.as_slice-in-Some-3.result.now (c.gates-in-Some.ensures ∙ c.in_ok-named.ensures.grows.names)
-    c.as_slice-in-Some.ensures.value c.as_slice-in-Some-2.ensures.value c.as_slice-in-Some-3.ensures.value (string_bytes c.args.line.now)
-    (string_bytes c.append_named_run.new.line) (string_bytes c.append_named_round.new.line) (c.in_ok-append_named_run.ensures shown.0 named) written)
+    c.in_ok-named.ensures.named c.in-Some.round c.in-Some.is c.gates-in-Some.result.now
+    (c.gates-in-Some.ensures ∙ c.in_ok-named.ensures.grows.names) (string_bytes c.args.line.now) (string_bytes c.append_named_run.new.line)
+    (string_bytes c.append_named_round.new.line) (c.in_ok-append_named_run.ensures shown.0 named) written)
     c.append_named_round.ensures
