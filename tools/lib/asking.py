@@ -22,7 +22,7 @@ class OneByOne:
         self.program = program
 
     def ask(self, words, text, then):
-        ran = subprocess.run([self.program, *words], input=text.encode(), capture_output=True, timeout=60, check=False)
+        ran = subprocess.run([self.program, *words], input=text.encode(), capture_output=True, timeout=600, check=False)
         then((ran.stdout.decode(), ran.returncode, message_of(ran.stderr.decode())))
 
     def finish(self):
