@@ -78,6 +78,13 @@ ROWS = [
         ["<empty> : <empty> <forever> [i(H)]", "<empty> : <empty> <forever> [i(K) i(H)]", "<empty> : <empty> <forever> i(H) [i(K)]"],
     ),
     (
+        "steps of another side, which are over after two",
+        system(hide("HK", ("par", call(0, "K"), (), then("H", "H", STOP))), ("X", then("X", call(0, "X")))),
+        ["<livelock>"],
+        ["<empty> : <empty> <forever> [i(K)]", "<empty> : <empty> <forever> i(H) i(K) i(H) [i(K)]"],
+        ["<empty> : <empty> <forever> [i(H)]", "<empty> : <empty> <forever> i(H) [i(K) i(H)]", "<empty> : <empty> <forever> i(H) i(H) [i(H)]"],
+    ),
+    (
         "the gate by its name at the hide",
         system(call(0, "A"), ("X", hide("H", then("H", call(1, "H")))), ("X", then("X", call(0, "X")))),
         ["<livelock>"],
