@@ -5,6 +5,7 @@ A question is a row of words and a text, and has a function that is given the an
 import os
 import re
 import subprocess
+import sys
 import tempfile
 
 from hints import without_hints
@@ -40,14 +41,28 @@ class AllAtOnce:
     def ask(self, words, text, then):
         self.questions.append((words, text, then))
 
+    def launched(self, folder):
+        """What the launcher writes, which is told if it is no longer waited for."""
+        launcher = subprocess.Popen([self.launcher, "--unproved", "--cases", folder], stdout=subprocess.PIPE, text=True)
+        try:
+            output, _ = launcher.communicate()
+        except KeyboardInterrupt:
+            launcher.terminate()
+            launcher.wait()
+            raise
+        if launcher.returncode:
+            sys.exit("the launcher has no answers")
+        return output
+
     def finish(self):
         with tempfile.TemporaryDirectory() as folder:
             for number, (words, text, _) in enumerate(self.questions):
                 for name, content in ((f"{number:06}", text), (f"{number:06}.args", "".join(f"{word}\n" for word in words))):
                     with open(os.path.join(folder, name), "w", encoding="utf-8") as file:
                         file.write(content)
-            ran = subprocess.run([self.launcher, "--unproved", "--cases", folder], stdout=subprocess.PIPE, text=True, check=True)
-        answers = ran.stdout[: ran.stdout.rindex("\n", 0, -1) + 1]
+            output = self.launched(folder)
+        # The last line counts the questions.
+        answers = output[: output.rindex("\n", 0, -1) + 1]
         found = [(m[3], int(m[2]), message_of(m[4] or "")) for m in self.ANSWER.finditer(answers)]
         assert len(found) == len(self.questions)
         for (_, _, then), answer in zip(self.questions, found):
