@@ -27,7 +27,7 @@ fn expect_search(rt: &impl Abort, ended: Ended, message: &[u8], status: u8) {
 }
 
 /// Expects this message and this status.
-fn expect_report(rt: &impl Abort, err: &ArrayWriter, message: &[u8], found: u8, status: u8) {
+pub fn expect_report(rt: &impl Abort, err: &ArrayWriter, message: &[u8], found: u8, status: u8) {
     assert_eq!(rt; err.got(), message);
     assert_eq!(rt; found, status);
 }
@@ -303,7 +303,7 @@ fn faults_of_the_words(rt: HostRuntime) -> Result<(), AllocError> {
 }
 
 /// Expects the text of a fault of a library.
-fn expect_text<T: Display>(rt: &impl Abort, fault: &T, text: &[u8]) {
+pub fn expect_text<T: Display>(rt: &impl Abort, fault: &T, text: &[u8]) {
     let mut err = ArrayWriter::new(4096);
     let written = write!(err, "{fault}");
     assert!(rt; written.is_ok());
