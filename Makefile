@@ -42,8 +42,11 @@ uninstall: ## removes what install has put there
 	rm -f '$(VIMFILES)/ftdetect/lotos.vim' '$(VIMFILES)/syntax/lotos.vim'
 	rm -rf '$(BELOW)/share/lotosseq'
 
+dist: build ## packs what install installs, with its origin, into lotosseq-VERSION-linux-x86_64.tar.gz
+	tools/pack
+
 clean: ## removes all that was proved and built; the next build proves everything
-	rm -rf crates/*/out
+	rm -rf crates/*/out lotosseq-*-linux-x86_64.tar.gz
 
 docs: build ## runs the commands of README.md and the tutorial and compares
 	tools/ask run-docs ./lotosseq
@@ -62,4 +65,4 @@ extra: build ## checks the texts and asks the program
 	tools/check
 	tools/ask
 
-.PHONY: help build try test edits install uninstall clean docs examples bench extra
+.PHONY: help build try test edits install uninstall dist clean docs examples bench extra

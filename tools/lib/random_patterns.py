@@ -22,8 +22,8 @@ def end(rng, labels, is_later):
     return rng.choice([demand, ("<until>", *demand), ("<until>", *demand)])
 
 
-def elements(rng, strong, unknown, is_later):
-    labels = GATES + ["exit", *unknown] + (["i", "I"] if strong else [])
+def elements(rng, strong, gates, unknown, is_later):
+    labels = [*gates, "exit", *unknown] + (["i", "I"] if strong else [])
     found = []
     # What can come is asked where a pattern is matched, which few elements often are.
     for _ in range(rng.choice([0, 0, 1, 2]) if is_later else rng.randint(0, 4)):
@@ -42,9 +42,9 @@ def elements(rng, strong, unknown, is_later):
     return found
 
 
-def pattern_words(rng, strong, later, unknown=("D",)):
+def pattern_words(rng, strong, later, gates=GATES, unknown=("D",)):
     """The words of a pattern; sometimes one is left out or put in. With this probability its end is about what can come after it."""
-    words = [word for element in elements(rng, strong, unknown, rng.random() < later) for word in element]
+    words = [word for element in elements(rng, strong, gates, unknown, rng.random() < later) for word in element]
     if rng.random() < 0.1:
         at = rng.randint(0, len(words))
         words[at : at + rng.randint(0, 1)] = rng.choice([[], [rng.choice([*KINDS, *LATER, "A", "i", "A,"])]])

@@ -10,7 +10,6 @@ class TooMany(Exception):
     """There are more terms, or more derivations, than are looked at."""
 
 
-
 # ---- specifications
 
 
@@ -19,7 +18,7 @@ class Maker:
 
     def __init__(self, rng):
         self.rng = rng
-        self.processes = []
+        self.processes, self.gates = [], GATES
 
     def names(self, known, least=1):
         return [self.rng.choice(known) for _ in range(self.rng.randint(least, 2))]
@@ -98,7 +97,18 @@ def text_of(made):
 # ---- the inference rules
 
 
-def steps(processes, t):
+def is_internal(name):
+    return name[0] == "i"
+
+
+def label_of(name):
+    """The label of a step with this name."""
+    return "i" if is_internal(name) else name
+
+
+def named_steps(processes, t):
+    """The steps of a term. The name of an internal one is what makes it: `i`, or `i(GATE)` with the name that the gate has at the `hide`, or
+    `i(exit)`; that of any other step is its label."""
     match t:
         case ("stop",):
             return []
@@ -107,24 +117,37 @@ def steps(processes, t):
         case ("prefix", action, body):
             return [(action, body)]
         case ("choice", left, right):
-            return steps(processes, left) + steps(processes, right)
+            return named_steps(processes, left) + named_steps(processes, right)
         case ("par", left, sync, right):
-            together = lambda k: k == "exit" or k != "i" and (sync is None or k in sync)
-            lefts, rights = steps(processes, left), steps(processes, right)
+            together = lambda k: k == "exit" or not is_internal(k) and (sync is None or k in sync)
+            lefts, rights = named_steps(processes, left), named_steps(processes, right)
             found = [(k, ("par", u, sync, v)) for k, u in lefts for j, v in rights if k == j and together(k)]
             found += [(k, ("par", u, sync, right)) for k, u in lefts if not together(k)]
             return found + [(k, ("par", left, sync, v)) for k, v in rights if not together(k)]
         case ("hide", gates, body):
-            return [("i" if k in gates else k, ("hide", gates, u)) for k, u in steps(processes, body)]
+            return [(f"i({k})" if k in gates else k, ("hide", gates, u)) for k, u in named_steps(processes, body)]
         case ("enable", left, right):
-            return [("i", right) if k == "exit" else (k, ("enable", u, right)) for k, u in steps(processes, left)]
+            lefts = named_steps(processes, left)
+            return [("i(exit)", right) if k == "exit" else (k, ("enable", u, right)) for k, u in lefts]
         case ("disable", left, right):
-            found = [(k, u if k == "exit" else ("disable", u, right)) for k, u in steps(processes, left)]
-            return found + steps(processes, right)
+            found = [(k, u if k == "exit" else ("disable", u, right)) for k, u in named_steps(processes, left)]
+            return found + named_steps(processes, right)
         case ("call", process, gates):
             pairs = tuple(zip(processes[process]["formals"], gates))
-            return steps(processes, ("relabel", pairs, processes[process]["body"]))
+            return named_steps(processes, ("relabel", pairs, processes[process]["body"]))
         case ("relabel", pairs, body):
-            return [(dict(pairs[::-1]).get(k, k), ("relabel", pairs, u)) for k, u in steps(processes, body)]
+            return [(dict(pairs[::-1]).get(k, k), ("relabel", pairs, u)) for k, u in named_steps(processes, body)]
         case ("map", pairs, body):
-            return [(dict(pairs).get(k, k), ("map", pairs, u)) for k, u in steps(processes, body)]
+            return [(dict(pairs).get(k, k), ("map", pairs, u)) for k, u in named_steps(processes, body)]
+
+
+def steps(processes, t):
+    return [(label_of(name), u) for name, u in named_steps(processes, t)]
+
+
+def derived(processes, start, names):
+    """The terms to which derivations by these names, or by labels where only these are known, lead."""
+    terms = {start}
+    for name in names:
+        terms = {u for t in terms for k, u in named_steps(processes, t) if k == name}
+    return terms

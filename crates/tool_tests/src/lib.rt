@@ -58,6 +58,8 @@ mod progress_runs;
 #[cfg(test)]
 mod quoted_words;
 #[cfg(test)]
+mod refusal_texts;
+#[cfg(test)]
 mod report_intervals;
 #[cfg(test)]
 mod rows;

@@ -27,7 +27,7 @@ fn expect_search(rt: &impl Abort, ended: Ended, message: &[u8], status: u8) {
 }
 
 /// Expects this message and this status.
-fn expect_report(rt: &impl Abort, err: &ArrayWriter, message: &[u8], found: u8, status: u8) {
+pub fn expect_report(rt: &impl Abort, err: &ArrayWriter, message: &[u8], found: u8, status: u8) {
     assert_eq!(rt; err.got(), message);
     assert_eq!(rt; found, status);
 }
@@ -243,38 +243,93 @@ fn sequences_that_are_followed(rt: HostRuntime) {
     }
 }
 
-/// The two words of a sequence.
-fn two_words(alloc: Global) -> Result<Vec<String>, AllocError> {
+/// The three words of a sequence.
+fn three_words(alloc: Global) -> Result<Vec<String>, AllocError> {
     let mut words = Vec::new(alloc);
     words.push(String::from_str(alloc, "put")?)?;
     words.push(String::from_str(alloc, "PUT")?)?;
+    words.push(String::from_str(alloc, "Get")?)?;
     Ok(words)
 }
 
-/// Expects this message, and status 1, of the label with this number of the two words.
+/// The number of a label of the three words that cannot come, the labels that can, and the message.
+const LABELS: &[(usize, Option<&str>, &[u8])] = &[
+    (
+        1,
+        None,
+        b"lotosseq: label 1, put, cannot come here, and no other can\n",
+    ),
+    (
+        1,
+        Some("GET"),
+        b"lotosseq: label 1, put, cannot come here; what can: GET\n",
+    ),
+    (
+        1,
+        Some("GET exit"),
+        b"lotosseq: label 1, put, cannot come here; what can: GET exit\n",
+    ),
+    (
+        2,
+        None,
+        b"lotosseq: label 2, PUT, cannot come here, and no other can\n",
+    ),
+    (
+        2,
+        Some("exit"),
+        b"lotosseq: label 2, PUT, cannot come here; what can: exit\n",
+    ),
+    (
+        2,
+        Some("ACK i"),
+        b"lotosseq: label 2, PUT, cannot come here; what can: ACK i\n",
+    ),
+    (
+        3,
+        None,
+        b"lotosseq: label 3, Get, cannot come here, and no other can\n",
+    ),
+    (
+        3,
+        Some("PUT"),
+        b"lotosseq: label 3, Get, cannot come here; what can: PUT\n",
+    ),
+    (
+        3,
+        Some("ACK PUT"),
+        b"lotosseq: label 3, Get, cannot come here; what can: ACK PUT\n",
+    ),
+];
+
+/// Expects this message, and status 1, of the label with this number of the words.
 fn expect_label(
     rt: &impl Abort,
     alloc: Global,
+    words: &[String],
     number: usize,
     instead: Option<&str>,
     message: &[u8],
 ) -> Result<(), AllocError> {
-    let words = two_words(alloc)?;
     let instead = match instead {
         Some(labels) => Some(String::from_str(alloc, labels)?),
         None => None,
     };
     let ended = AfterEnded::CannotCome { number, instead };
-    expect_after(rt, ended, words.as_slice(), message, 1);
+    expect_after(rt, ended, words, message, 1);
+    Ok(())
+}
+
+fn expect_labels(rt: &impl Abort, alloc: Global, words: &[String]) -> Result<(), AllocError> {
+    for (number, instead, message) in LABELS {
+        expect_label(rt, alloc, words, *number, *instead, *message)?;
+    }
     Ok(())
 }
 
 #[test]
 fn labels_that_cannot_come(rt: HostRuntime) -> Result<(), AllocError> {
-    let first = b"lotosseq: label 1, put, cannot come here, and no other can\n";
-    expect_label(&rt, rt.alloc(), 1, None, first)?;
-    let second = b"lotosseq: label 2, PUT, cannot come here; what can: GET exit\n";
-    expect_label(&rt, rt.alloc(), 2, Some("GET exit"), second)
+    let words = three_words(rt.alloc())?;
+    expect_labels(&rt, rt.alloc(), words.as_slice())
 }
 
 /// Expects what is written for a fault of the words.
@@ -303,7 +358,7 @@ fn faults_of_the_words(rt: HostRuntime) -> Result<(), AllocError> {
 }
 
 /// Expects the text of a fault of a library.
-fn expect_text<T: Display>(rt: &impl Abort, fault: &T, text: &[u8]) {
+pub fn expect_text<T: Display>(rt: &impl Abort, fault: &T, text: &[u8]) {
     let mut err = ArrayWriter::new(4096);
     let written = write!(err, "{fault}");
     assert!(rt; written.is_ok());
