@@ -1,5 +1,5 @@
 -- The texts of derivations, with what makes their internal steps.
-use Rattle.std.proofs.Common.{◌++◌, ◌∷◌, [], ℕ, zero, suc, List, length, refl}
+use Rattle.std.proofs.Common.{◌≡◌, ◌≢◌, ◌++◌, ◌∷◌, [], ℕ, zero, suc, List, length, refl, subst}
 use Rattle.std.specs.Prelude.{codes}
 use Rattle.lotos_check.specs.NameLists.{Name}
 use Rattle.lotos_store.specs.Terms.{IsTerm, Process, Term}
@@ -45,17 +45,26 @@ module _ (held : TableView)
       let (texts, named) = shown_along rest (stays t u l.Internal is (is_step held.processes inner)) in
       (text ∷ texts, more_named (inside shows) named)
 
+-- a step that is observed leaves all origins
+left_by_observed : {names : List Name} {k : TermLabel} {os rest : List Origin} {text : Label} → IsNamedStep names k os text rest → k ≢ l.Internal →
+    rest ≡ os
+left_by_observed (observed other shows) apart = refl
+left_by_observed (inside shows) apart = absurd (apart refl)
+
+-- an internal step leaves all but the first one
+left_by_internal : {names : List Name} {o : Origin} {os rest : List Origin} {text : Label} → IsNamedStep names l.Internal (o ∷ os) text rest → rest ≡ os
+left_by_internal (observed apart shows) = absurd (apart refl)
+left_by_internal (inside shows) = refl
+
 -- what follows a derivation has texts by the origins that are left
 pub named_after : (names : List Name) (processes : List Process) {t u : Term} {run : List TermLabel} {before : List Origin} →
     DerivesBy processes t run before u → (next : List TermLabel) (more left : List Origin) (texts : List Label) →
     AreNamed names (run ++ next) (before ++ more) texts left → (shown : List Label) × AreNamed names next more shown left
 named_after names processes ends next more left texts named = (texts, named)
-named_after names processes (observably other step rest) next more left _ (more_named (observed {os = os} apart shows) named) =
-    named_after names processes rest next more left _ named
-named_after names processes (observably other step rest) next more left _ (more_named (inside shows) named) = absurd (other refl)
-named_after names processes (internally inner rest) next more left _ (more_named (observed apart shows) named) = absurd (apart refl)
-named_after names processes (internally inner rest) next more left _ (more_named (inside shows) named) =
-    named_after names processes rest next more left _ named
+named_after names processes (observably {run = run} other step rest) next more left _ (more_named {texts = texts} one named) =
+    named_after names processes rest next more left texts (subst (λ os. AreNamed names (run ++ next) os texts left) (left_by_observed one other) named)
+named_after names processes (internally {run = run} inner rest) next more left _ (more_named {texts = texts} one named) =
+    named_after names processes rest next more left texts (subst (λ os. AreNamed names (run ++ next) os texts left) (left_by_internal one) named)
 
 module _ (names : List Name) where
   -- the text of a step stays where more origins follow

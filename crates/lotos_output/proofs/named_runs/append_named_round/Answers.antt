@@ -5,8 +5,8 @@ use Rattle.lotos_output.proofs.named_runs.append_named_round.Goals as goal
 
 pub returns : goal.returns
 returns c = λ r s named.
-    let row = c.in_ok-append_row.ensures r named.row in
-    let (all, turn) = c.in_ok-append_sequence.ensures s [] named.turn in
+    let row = c.in_ok-append_row.ensures r (rw (c.as_slice.ensures.value, c.as_slice-2.ensures.value) named.row) in
+    let (all, turn) = c.in_ok-append_sequence.ensures s [] (rw (c.as_slice-3.ensures.value, c.as_slice-4.ensures.value) named.turn) in
     let begun = c.in_ok-push_str.ensures.bytes in
     let opened = c.in_ok-push_str-2.ensures.bytes in
     let closed = c.in_ok-push_str-3.ensures.bytes in
