@@ -10,7 +10,8 @@ import glob
 import os
 import re
 
-TOP = os.path.dirname(os.path.dirname(os.path.dirname(os.path.realpath(__file__))))
+from crates import TOP, read
+
 # What no file defines: words of the language, of the command line and of texts, other programs, and what they define.
 WORDS = set(
     "specification behaviour process where endproc endspec in exit noexit stop hide i f c "
@@ -38,11 +39,6 @@ ITEM = re.compile(r"^[ \t]*(?:pub(?:\(crate\))? )?(?:struct|enum|trait|const|gho
 # Of a theory: a type, and any other definition, a lemma, a field or a constructor.
 TYPE = re.compile(r"\s*(?:pub )?(?:record|data) ([^\s:({]+)")
 OTHER = re.compile(r"\s*(?:abbrev |unfoldable )?(?:pub )?([^\s:(){}|]+) :(?:\s|$)")
-
-
-def read(path):
-    with open(path, encoding="utf-8") as given:
-        return given.read()
 
 
 class Names:
@@ -134,8 +130,8 @@ def is_path(word):
     return any(map(pattern.fullmatch, path_names())) if "*" in word else word in path_names()
 
 
-def faults_of(names, document):
-    """What is wrong with the names of a document, and with its tables, each with the number of the line."""
+def faults_of(names, document, column=None):
+    """What is wrong with the names of a document, or of that column of its tables, and with its tables, each with the number of the line."""
     lines = read(os.path.join(TOP, "docs", document)).split("\n")
     crate, cells = None, 0
     for number, line in enumerate(lines, 1):
@@ -144,7 +140,8 @@ def faults_of(names, document):
             crate = section.group(1) if section else None
         own = len(re.findall(r"(?<!\\)\|", line)) if line.startswith("|") else 0
         begins = own and not cells
-        faults = list(faults_in(names, line, crate))
+        named = line if column is None else re.split(r"(?<!\\)\|", line)[column] if own else ""
+        faults = list(faults_in(names, named, crate))
         if begins and not re.match(r"[|: -]+$", lines[number]):
             faults.append("a table begins without a head")
         elif cells and own and own != cells:
