@@ -1,5 +1,5 @@
 # The program is proved and built by the launcher ./lotosseq, and kept up to date by it.
-PREFIX = /usr/local
+PREFIX ?= /usr/local
 # DESTDIR and PREFIX are folders and not text of make or of a shell: no `$` in them is expanded. All that begins with BELOW is
 # written between single quotes.
 BELOW = $(subst ','\'',$(value DESTDIR)$(value PREFIX))
