@@ -33,7 +33,8 @@ pub struct Round {
 /// steps alternates. Terms are followed as they are, one for each normal form after each step. Terms without a number
 /// get one. If an allocation fails, the table may have grown all the same.
 ///
-/// It ends where the loop can be taken as often as one likes.
+/// The labels have to go round from the start, as those of a lasso do. Where they do not, it goes on until an allocation
+/// fails.
 pub fn find_round(
     alloc: Global,
     table: &mut NormalTable,
