@@ -1,3 +1,4 @@
+pub mod DeviceStates
 pub mod DeviceContracts
 pub mod TextInput
 pub mod WrappedDevices

@@ -1,6 +1,7 @@
 -- What reading a whole text returns, and how much it takes.
-use Rattle.std.specs.Prelude.{◌≡◌, ℕ, ◌≤◌, Bool, true, false, List, length, Option, Result, Err}
+use Rattle.std.specs.Prelude.{◌≡◌, ℕ, ◌+◌, ◌≤◌, Bool, true, false, List, length, Option, Result, Err}
 use Rattle.std.specs.Io.KnownBytes.{Consumes, IsAtEnd}
+use Rattle.lotos_device.specs.DeviceStates.{SourceState}
 use Rattle.lotos_device.specs.declared.text_input.ReadFault.{ReadFault}
 use Rattle.lotos_device.specs.declared.text_input.ReadFault.TheVariants.{Device}
 
@@ -13,6 +14,11 @@ pub record ReadsAll (old new : Option (List ℕ)) (limit : ℕ) (text : List ℕ
 -- at most `n` bytes were taken
 abbrev pub TakesAtMost : Option (List ℕ) → Option (List ℕ) → ℕ → Type 0
 TakesAtMost old new n = (taken : List ℕ) × (length taken ≤ n) × Consumes old new taken
+
+-- at most `n` bytes were taken, and no more were given, whatever remains
+pub record TakesWithin (old new : SourceState) (n : ℕ) : Type 0 where
+  pub taken : TakesAtMost old.remaining new.remaining n
+  pub given : new.given ≤ old.given + n
 
 -- exactly `n` bytes were taken
 abbrev pub TakesExactly : Option (List ℕ) → Option (List ℕ) → ℕ → Type 0

@@ -3,10 +3,11 @@
 //! A device remembers whether one of its calls has failed. Contracts speak of the bytes that remain in a source and of
 //! those written to a sink, if these are known. They are known for devices in memory. Files, terminals and the standard
 //! streams report none, so there the contracts speak only of the numbers of bytes and of failures.
-ghost use Rattle.std.specs.Prelude.{◌≡◌, ℕ, Bool, IsTrue, false, true, List, Option};
+ghost use Rattle.std.specs.Prelude.{◌≡◌, IsTrue, false, true};
 ghost use Rattle.std.specs.Io.KnownBytes.{Keeps};
 ghost use Rattle.lotos_device.specs.DeviceContracts.{CountsGiven, Reads, Accepts, SetsFailed};
-ghost use Rattle.lotos_device.specs.WrappedDevices.{wrapped_reader, reader_failed, reader_given, wrapped_writer, writer_failed};
+ghost use Rattle.lotos_device.specs.DeviceStates.{SinkState, SourceState};
+ghost use Rattle.lotos_device.specs.WrappedDevices.{reader_failed, reader_given, sink_of, source_of, wrapped_reader, wrapped_writer, writer_failed};
 
 use std::io::{ErrorKind, Read, Write};
 
@@ -16,53 +17,44 @@ pub struct DeviceFailed;
 
 /// Where bytes come from.
 pub trait Source {
-    /// The bytes that remain, if they are known.
-    ghost remaining: { Self → Option (List ℕ) };
-
-    /// The number of bytes that it has given since it was made, whether or not it is known what remains.
-    ghost given: { Self → ℕ };
-
-    /// Whether a call has failed.
-    ghost has_failed: { Self → Bool };
+    /// The bytes that remain, if they are known; how many it has given; and whether a call has failed.
+    ghost state: { Self → SourceState };
 
     /// Moves bytes to the front of `into` and returns how many. Into a buffer that is not empty it moves none only at
     /// the end. A call that fails moves none.
     fn read(&mut self, into: &mut [u8]) -> Result<usize, DeviceFailed>
-        ensures bytes { Reads (remaining self.old) (remaining self.new) result into.new }
-        ensures given { CountsGiven (given self.old) (given self.new) result }
-        ensures flag { SetsFailed (has_failed self.old) (has_failed self.new) result };
+        ensures bytes { Reads (state self.old).remaining (state self.new).remaining result into.new }
+        ensures given { CountsGiven (state self.old).given (state self.new).given result }
+        ensures flag { SetsFailed (state self.old).has_failed (state self.new).has_failed result };
 
     /// Whether a call has failed. Once true, it stays true.
     fn failed(&self) -> bool
-        ensures { result ≡ has_failed self.now };
+        ensures { result ≡ (state self.now).has_failed };
 }
 
 /// Where bytes go.
 pub trait Sink {
-    /// The bytes that were written so far, if they are known.
-    ghost written: { Self → Option (List ℕ) };
-
-    /// Whether a call has failed.
-    ghost has_failed: { Self → Bool };
+    /// The bytes that were written so far, if they are known, and whether a call has failed.
+    ghost state: { Self → SinkState };
 
     /// Takes bytes from the front of `bytes` and returns how many: at least one, if there is one. A call that fails
     /// takes none.
     fn write(&mut self, bytes: &[u8]) -> Result<usize, DeviceFailed>
-        ensures bytes { Accepts (written self.old) (written self.new) result bytes.now }
-        ensures flag { SetsFailed (has_failed self.old) (has_failed self.new) result };
+        ensures bytes { Accepts (state self.old).written (state self.new).written result bytes.now }
+        ensures flag { SetsFailed (state self.old).has_failed (state self.new).has_failed result };
 
     /// Passes on the bytes that were written.
     fn flush(&mut self) -> Result<(), DeviceFailed>
-        ensures bytes { Keeps (written self.old) (written self.new) }
-        ensures flag { SetsFailed (has_failed self.old) (has_failed self.new) result };
+        ensures bytes { Keeps (state self.old).written (state self.new).written }
+        ensures flag { SetsFailed (state self.old).has_failed (state self.new).has_failed result };
 
     /// Whether a call has failed. Once true, it stays true.
     fn failed(&self) -> bool
-        ensures { result ≡ has_failed self.now };
+        ensures { result ≡ (state self.now).has_failed };
 
     /// Whether a call has failed because nobody reads any more what is written, as from a pipe that is closed.
     fn is_unread(&self) -> bool
-        ensures { IsTrue result → has_failed self.now ≡ true };
+        ensures { IsTrue result → (state self.now).has_failed ≡ true };
 }
 
 /// A source over a reader of std. It counts the bytes that it gives, and fails at a read into a buffer larger than what
@@ -97,11 +89,7 @@ impl<R: Read> FromRead<R> {
 }
 
 impl<R: Read> Source for FromRead<R> {
-    ghost remaining = { λ s. R.remaining (wrapped_reader s) };
-
-    ghost given = { reader_given };
-
-    ghost has_failed = { reader_failed };
+    ghost state = { source_of R.remaining };
 
     fn read(&mut self, into: &mut [u8]) -> Result<usize, DeviceFailed> {
         if into.len() > usize::MAX - self.given {
@@ -156,9 +144,7 @@ impl<W: Write> FromWrite<W> {
 }
 
 impl<W: Write> Sink for FromWrite<W> {
-    ghost written = { λ s. W.contents (wrapped_writer s) };
-
-    ghost has_failed = { writer_failed };
+    ghost state = { sink_of W.contents };
 
     fn write(&mut self, bytes: &[u8]) -> Result<usize, DeviceFailed> {
         match self.inner.write(bytes) {

@@ -40,20 +40,20 @@ pub fn read_text<R: Source>(
     reader: &mut R,
     limit: usize,
 ) -> Result<Vec<u8>, ReadFault>
-    requires { R.has_failed reader.old ≡ false }
+    requires { (R.state reader.old).has_failed ≡ false }
     ensures whole { IfOk result (λ text.
-        ReadsAll (R.remaining reader.old) (R.remaining reader.new) limit text.items) }
-    ensures given { R.given reader.new ≤ R.given reader.old + (limit + 1) }
-    ensures whole_given { IfOk result (λ text. R.given reader.new ≡ R.given reader.old + length text.items) }
+        ReadsAll (R.state reader.old).remaining (R.state reader.new).remaining limit text.items) }
+    ensures given { (R.state reader.new).given ≤ (R.state reader.old).given + (limit + 1) }
+    ensures whole_given { IfOk result (λ text. (R.state reader.new).given ≡ (R.state reader.old).given + length text.items) }
     ensures one_more_given { IsErrOf result ReadFault.TooLong →
-        R.given reader.new ≡ R.given reader.old + (limit + 1) }
-    ensures failed { R.has_failed reader.new ≡ is_device_fault result }
+        (R.state reader.new).given ≡ (R.state reader.old).given + (limit + 1) }
+    ensures failed { (R.state reader.new).has_failed ≡ is_device_fault result }
     ensures too_long { IsErrOf result ReadFault.TooLong →
-        TakesExactly (R.remaining reader.old) (R.remaining reader.new) (limit + 1) }
+        TakesExactly (R.state reader.old).remaining (R.state reader.new).remaining (limit + 1) }
     ensures memory { IsErrOf result ReadFault.Memory →
-        TakesAtMost (R.remaining reader.old) (R.remaining reader.new) (limit + 1) }
+        TakesAtMost (R.state reader.old).remaining (R.state reader.new).remaining (limit + 1) }
     ensures device { IsErrOf result ReadFault.Device →
-        TakesAtMost (R.remaining reader.old) (R.remaining reader.new) limit }
+        TakesAtMost (R.state reader.old).remaining (R.state reader.new).remaining limit }
 {
     let mut text = Vec::new(alloc);
     let mut piece = [0; CHUNK_SIZE];

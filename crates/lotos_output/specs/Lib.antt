@@ -2,5 +2,4 @@ pub mod OutputLines
 pub mod NamedRuns
 pub mod RunNames
 pub mod ItemRuns
-pub mod WriteFaults
-pub mod FlushOutcome
+pub mod WholeOutput

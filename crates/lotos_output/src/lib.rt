@@ -3,8 +3,8 @@
 //! [`format_sequence`], [`format_sequence_after`], [`append_run`], [`append_round`], [`format_next`], [`format_labels`]
 //! and [`format_processes`] compose the text of a sequence and the lines of each command; [`append_named_run`] and
 //! [`append_named_round`] write internal steps by what makes them. [`ItemRuns`] writes the runs of a listing's items.
-//! [`flush_complete`], [`flush_stopped`] and [`write_and_flush`] end the output with one flush, and tell whether it
-//! failed. An [`OutputProgress`] is told of each line before it is written.
+//! [`flush_stopped`], [`write_and_flush`] and [`write_whole`] end the output with one flush, and tell whether it failed. An
+//! [`OutputProgress`] is told of each line before it is written.
 #![tactic(auto)]
 
 mod item_runs;
@@ -16,7 +16,7 @@ mod run_names;
 
 pub use item_runs::ItemRuns;
 pub use named_runs::{append_named_round, append_named_run};
-pub use output_flush::{flush_complete, flush_stopped, write_and_flush};
+pub use output_flush::{flush_stopped, write_and_flush, write_whole};
 pub use output_lines::{
     append_round, append_run, format_labels, format_next, format_processes, format_sequence,
     format_sequence_after,

@@ -1,6 +1,6 @@
 //! What is said of a word that is almost an element. A hint for which there is no memory is left out.
 
-use crate::messages::NumberText;
+use lotos_outcome::NumberText;
 use std::alloc::{AllocError, Global};
 use std::io::Write;
 use strsim::levenshtein;

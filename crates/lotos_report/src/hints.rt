@@ -6,8 +6,8 @@ use crate::element_hints::write_element_hint;
 use crate::messages::Messages;
 use crate::name_hints::{NameHint, write_name_hint};
 use crate::option_hints::hint_at_option;
-use crate::refusal::Refusal;
 use lotos_command::CommandFault;
+use lotos_outcome::Refusal;
 use lotos_pattern::PatternFault;
 use std::alloc::Global;
 use std::io::Write;
@@ -26,6 +26,15 @@ pub enum WordCommand {
     After,
 }
 
+/// The words of a command that may be meant otherwise.
+#[derive(Clone, Copy, Debug)]
+pub struct AskedWords<'a> {
+    pub command: WordCommand,
+    pub words: &'a [String],
+    /// Whether a word that names no gate of the specification is refused.
+    pub refuses_unknown: bool,
+}
+
 impl WordCommand {
     /// The words with which the command begins.
     fn text(self) -> &'static str {
@@ -42,18 +51,18 @@ impl WordCommand {
     }
 }
 
-/// Gives a hint if a command is refused for a word that names a file, that is almost an element, or that names no gate:
-/// for the last `hint` is what could be meant. At a terminal there is one if it is refused for a fault of the text too.
+/// Gives a hint if a command is refused for one of its words that names a file, that is almost an element, or that names
+/// no gate: for the last `hint` is what could be meant. At a terminal there is one if it is refused for a fault of the
+/// text too.
 pub fn hint_after_refusal<E: Write>(
     alloc: Global,
-    command: WordCommand,
+    asked: Option<AskedWords<'_>>,
     refusal: Option<&Refusal>,
-    words: &[String],
     hint: &Option<NameHint>,
     messages: &mut Messages<E>,
 ) {
-    if let Some(refusal) = refusal {
-        hint_at_word(alloc, command, refusal, words, &mut messages.stream);
+    if let (Some(refusal), Some(asked)) = (refusal, asked) {
+        hint_at_word(alloc, asked, refusal, &mut messages.stream);
         if let (Refusal::E49(_), Some(hint)) = (refusal, hint) {
             write_name_hint(hint, &mut messages.stream);
         }
@@ -94,23 +103,17 @@ pub fn hint_after_fault<E: Write>(fault: &CommandFault, words: &[&str], err: &mu
 }
 
 /// Gives a hint if the word that is refused names a file or is almost an element.
-fn hint_at_word<E: Write>(
-    alloc: Global,
-    command: WordCommand,
-    refusal: &Refusal,
-    words: &[String],
-    err: &mut E,
-) {
+fn hint_at_word<E: Write>(alloc: Global, asked: AskedWords<'_>, refusal: &Refusal, err: &mut E) {
     let Some(number) = doubtful_word(refusal) else {
         return;
     };
-    let Some(word) = words.get(number.saturating_sub(1)) else {
+    let Some(word) = asked.words.get(number.saturating_sub(1)) else {
         return;
     };
     if is_file_name(word.as_str()) {
-        return write_hint(command.text(), err);
+        return write_hint(asked.command.text(), err);
     }
-    if command.has_elements() {
+    if asked.command.has_elements() {
         write_element_hint(alloc, number, word.as_str(), err);
     }
 }

@@ -2,9 +2,9 @@
 //! there is no memory for is left out.
 
 use crate::element_hints::write_element_hint;
-use crate::messages::NumberText;
 use lotos_command::Interface;
 use lotos_explain::{formal_gate, hidden_gate, similar_name};
+use lotos_outcome::NumberText;
 use lotos_text::{Name, Specification, line_column};
 use std::alloc::{AllocError, Global};
 use std::fmt;

@@ -1,7 +1,7 @@
 //! What is said where a search for a match has found none. Write errors are ignored.
 
-use crate::messages::NumberText;
 use lotos_listing::Searched;
+use lotos_outcome::NumberText;
 use std::fmt;
 use std::io::Write;
 

@@ -1,6 +1,7 @@
 //! The progress of a search, as it is reported on standard error. Errors of the error stream are ignored.
 
-use crate::messages::{Messages, NumberText, report_keyboard};
+use crate::messages::{Messages, report_keyboard};
+use lotos_outcome::NumberText;
 use std::fmt;
 use std::io::Write;
 

@@ -1,6 +1,6 @@
 //! The lines of warnings on standard error. Errors of the error stream are ignored.
 
-use crate::messages::PositionText;
+use lotos_outcome::PositionText;
 use lotos_warn::Warning;
 use std::io::Write;
 

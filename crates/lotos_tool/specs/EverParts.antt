@@ -1,6 +1,5 @@
 -- What the parts of the command `ever` return.
 use Rattle.std.specs.Prelude.{◌≡◌, ◌++◌, ℕ, List, Option, None, Some}
-use Rattle.std.specs.Io.KnownBytes.{Appends, Keeps}
 use Rattle.std.specs.declared.vec.Vec.{Vec}
 use Rattle.std.specs.declared.alloc.Global.{Global}
 use Rattle.lotos_check.specs.Flat.{System}
@@ -13,18 +12,14 @@ use Rattle.lotos_listing.specs.Order.{Label}
 use Rattle.lotos_listing.specs.Question.{ArePrinted}
 use Rattle.lotos_ends.specs.declared.lasso.Lasso.{Lasso}
 use Rattle.lotos_ever.specs.EndTests.{ReachesTooMany}
-use Rattle.lotos_ever.specs.MatchQuestions.{IsMatchQuestionOf, IsMatchToOf, MayEndFor, match_question_of}
+use Rattle.lotos_ever.specs.MatchQuestions.{IsMatchQuestionOf, MayEndFor, match_question_of}
 use Rattle.lotos_ever.specs.declared.found.Halt.{Halt}
 use Rattle.lotos_ever.specs.declared.found.Halt.TheVariants as halt
 use Rattle.lotos_output.specs.NamedRuns.{DerivesNamed, writes_runs}
 use Rattle.lotos_output.specs.OutputLines.{round_text_if, run_text}
-use Rattle.lotos_device.specs.ByteOutput.{AppendsBeginning}
-use Rattle.lotos_tool.specs.EverOutcome.{AreTextsOf, EverQuestion, IsMatchLine, IsMatchWritten, IsMatchLineCut, IsNamedRoundAt, IsNoMatch}
-use Rattle.lotos_tool.specs.EverOutcome.{IsTooManyStates, MatchTexts, pattern_of}
-use Rattle.lotos_tool.specs.QuestionParts.{ForQuestion}
-use Rattle.lotos_report.specs.declared.outcome.EverEnded.{EverEnded}
-use Rattle.lotos_report.specs.declared.outcome.EverEnded.TheVariants.{Matched, NoMatch, Refused, Stopped}
-use Rattle.lotos_report.specs.declared.outcome.EverWhy.TheVariants as why
+use Rattle.lotos_tool.specs.EverOutcome.{AreTextsOf, EverQuestion, IsMatchLine, IsNamedRoundAt, IsNever, MatchTexts, pattern_of}
+use Rattle.lotos_outcome.specs.declared.outcome.Stop.{Stop}
+use Rattle.lotos_outcome.specs.declared.outcome.Stop.TheVariants.{Memory, States}
 use Rattle.lotos_command.specs.declared.command.EverRequest.{EverRequest}
 use Rattle.lotos_command.specs.declared.command.Runs.{Runs}
 
@@ -53,7 +48,7 @@ pub record HasTexts (runs : Runs) (q : EverQuestion) (run : List Label) (last : 
 
 -- the line of the first match, or `None` if the question has no match
 abbrev pub IsLineOf : EverRequest → EverQuestion → Option (Vec ℕ Global) → Type 0
-IsLineOf request q None = (run : List Label) → IsMatchToOf q.matches q.kind run → ⊥
+IsLineOf request q None = IsNever q
 IsLineOf request q (Some line) = IsMatchLine request.runs q line.items
 
 -- the labels of a lasso have these printed texts, and where there is none there are no texts
@@ -66,37 +61,15 @@ IsRoundOf names (Some lasso) (Some (row, loop)) =
 
 -- the line of the first match of the pattern in the system, or `None` if there is no match
 abbrev pub HasLine : EverRequest → System → EverPattern → Option (Vec ℕ Global) → Type 0
-HasLine request system p line = ForQuestion (IsEverQuestionFor system p) (λ q. IsLineOf request q line)
+HasLine request system p line = (q : EverQuestion) × IsEverQuestionFor system p q × IsLineOf request q line
 
 -- why there is no line: more states are reached than the request allows, or memory ran out
 abbrev pub HasNoLine : EverRequest → System → EverPattern → Halt → Type 0
 HasNoLine request system p halt.TooManyStates =
-    ForQuestion (IsEverQuestionFor system p) (λ q. ReachesTooMany q.matches q.kind request.states)
+    (q : EverQuestion) × IsEverQuestionFor system p q × ReachesTooMany q.matches q.kind request.states
 HasNoLine request system p halt.Memory = Unit {0}
 
--- the line was written, or the output failed after a prefix of it
-abbrev pub IsWritten : List ℕ → Option (List ℕ) → Option (List ℕ) → EverEnded → Type 0
-IsWritten line got got' Matched = Appends got got' line
-IsWritten line got got' (Stopped why.Write) = AppendsBeginning got got' line
-IsWritten line got got' _ = ⊥
-
--- there is no match and the output was flushed, or the flush failed; nothing was written
-abbrev pub IsEndWithoutMatch : Option (List ℕ) → Option (List ℕ) → EverEnded → Type 0
-IsEndWithoutMatch got got' NoMatch = Keeps got got'
-IsEndWithoutMatch got got' (Stopped why.Flush) = Keeps got got'
-IsEndWithoutMatch got got' _ = ⊥
-
--- what each outcome of a search for a match of the pattern in the system means
-abbrev pub IsOutcomeFor : EverRequest → System → EverPattern → Option (List ℕ) → Option (List ℕ) → EverEnded → Type 0
-IsOutcomeFor request system p got got' Matched =
-    ForQuestion (IsEverQuestionFor system p) (λ q. IsMatchWritten request q got got')
-IsOutcomeFor request system p got got' NoMatch =
-    ForQuestion (IsEverQuestionFor system p) (λ q. IsNoMatch request q got got')
-IsOutcomeFor request system p got got' (Refused cause) = ⊥
-IsOutcomeFor request system p got got' (Stopped why.TooManyStates) =
-    ForQuestion (IsEverQuestionFor system p) (λ q. IsTooManyStates request q got got')
-IsOutcomeFor request system p got got' (Stopped why.Memory) = Keeps got got'
-IsOutcomeFor request system p got got' (Stopped why.Write) =
-    ForQuestion (IsEverQuestionFor system p) (λ q. IsMatchLineCut request q got got')
-IsOutcomeFor request system p got got' (Stopped why.Flush) =
-    ForQuestion (IsEverQuestionFor system p) (λ q. IsNoMatch request q got got')
+-- the cause of a stop at a halt of the search
+abbrev pub cause_of_halt : Halt → Stop
+cause_of_halt halt.TooManyStates = States
+cause_of_halt halt.Memory = Memory

@@ -1,3 +1,4 @@
+pub mod Findings
 pub mod UnknownGates
 pub mod Interfaces
 pub mod QuestionParts
@@ -10,10 +11,8 @@ pub mod CheckOutcome
 pub mod EverOutcome
 pub mod ListingParts
 pub mod WrittenItems
-pub mod SearchParts
 pub mod EverParts
 pub mod AfterOutcome
 pub mod CoverOutcome
-pub mod CoverParts
 pub mod AfterParts
 pub mod ProgramRuns

@@ -134,6 +134,15 @@ pub record ListingState : Type 0 where
   pub cursor : Option (List Label)
   pub stage : Stage
 
+-- what a listing is asked: its question, and the mark after which it begins
+pub record ListingAsked : Type 0 where
+  pub question : ListingQuestion
+  pub mark : Option (List Label)
+
+-- what a search is asked that has returned no item yet
+abbrev pub asked_by : ListingState → ListingAsked
+asked_by search = record { question = search.question; mark = search.cursor }
+
 -- the states of the searches, as one
 abbrev pub depth_state : SearchState → ListingState
 depth_state s = record { question = by_depth s.question; cursor = s.cursor; stage = s.stage }

@@ -46,7 +46,3 @@ pub record ReadsQuestion (interface : Interface) (strong : Bool) (words : List (
     (system : System) (p : Pattern) : Type 0 where
   pub read : ReadsAsked interface left left' system
   pub spelled : PatternOf strong words p
-
--- something is asked, and `Said` holds of it
-abbrev pub ForQuestion : {Q : Type 0} → (Asked Said : Q → Type 0) → Type 0
-ForQuestion {Q = Q} Asked Said = (q : Q) × Asked q × Said q

@@ -8,26 +8,38 @@ ghost use Rattle.lotos_pattern.specs.Spelling.{NamesEach};
 ghost use Rattle.lotos_after.specs.Behaviours.{IsFirstOversized};
 ghost use Rattle.lotos_after.specs.Following.{IfTooMany, behaviour_of};
 ghost use Rattle.lotos_after.specs.LabelWords.{HaveGates};
-ghost use Rattle.lotos_tool.specs.AfterOutcome.{AfterOutcome, AreAfterParts, IsSequenceOf, is_after_input_fault, is_after_output_fault};
-ghost use Rattle.lotos_tool.specs.AfterParts.{AreWritten, HasAnswer, HasNoAnswer, IsAfterOutcomeFor, IsAnswer, IsMadeOf};
+ghost use Rattle.lotos_device.specs.TextInput.{TakesWithin};
+ghost use Rattle.lotos_outcome.specs.Calls.{Answered, Call};
+ghost use Rattle.lotos_outcome.specs.Outcomes.{is_unwritten};
+ghost use Rattle.lotos_outcome.specs.declared.outcome.Ended.TheVariants.{Stopped};
+ghost use Rattle.lotos_tool.specs.AfterOutcome.{IsAfterQuestionOf, IsSequenceOf, after_answering, after_meaning};
+ghost use Rattle.lotos_tool.specs.AfterParts.{HasAnswer, HasNoAnswer, IsAnswer, IsMadeOf};
+ghost use Rattle.lotos_tool.specs.QuestionParts.{ReadsAsked};
 ghost use Rattle.lotos_tool.specs.RefusalCauses.{IsAfterRefusal};
 ghost use Rattle.lotos_tool.specs.Rejections.{IsRejectionBy, is_input_failure};
 
+use crate::command::Command;
+use crate::findings::Continuation;
 use crate::question_parts::refuse_unknown_gates;
-use crate::rejection::{Rejection, after_end_of};
+use crate::rejection::{Rejection, end_of};
+use crate::search_observer::Observed;
 use crate::specification_input::read_asked;
 use lotos_after::{FollowFault, Followed, check_label_words, follow, labels_of_words};
 use lotos_check::Checked;
 use lotos_command::AfterRequest;
-use lotos_device::{DeviceFailed, Sink, Source};
+use lotos_device::{Sink, Source};
 use lotos_ever::laws::table_has_match_question;
-use lotos_listing::Progress;
+use lotos_listing::{Progress, Searched};
 use lotos_normal::NormalTable;
-use lotos_output::{OutputProgress, format_labels, format_next, write_and_flush};
-use lotos_report::{AfterEnded, AfterWhy};
+use lotos_outcome::{Ended, Stop};
+use lotos_output::{OutputProgress, format_labels, format_next, write_whole};
+use lotos_report::{
+    AskedWords, Visited, WordCommand, report_end, report_label, report_too_many_terms,
+};
 use lotos_sets::FormSets;
 use lotos_text::Name;
 use std::alloc::{AllocError, Global};
+use std::io::Write;
 
 /// What can come after a sequence.
 #[derive(Drop)]
@@ -61,18 +73,15 @@ pub fn after<R: Source, W: Sink, P: OutputProgress>(
     reader: &mut R,
     writer: &mut W,
     progress: &mut P,
-) -> AfterEnded
-    requires reader { R.has_failed reader.old ≡ false }
-    requires writer { W.has_failed writer.old ≡ false }
-    ensures answers { AfterOutcome request.now (R.remaining reader.old) (R.remaining reader.new)
-        (W.written writer.old) (W.written writer.new) result }
-    ensures given { R.given reader.new ≤ R.given reader.old + (max_text_length + 1) }
-    ensures input { R.has_failed reader.new ≡ is_after_input_fault result }
-    ensures output { W.has_failed writer.new ≡ is_after_output_fault result }
+) -> Ended<Continuation, Option<usize>>
+    requires reader { (R.state reader.old).has_failed ≡ false }
+    requires writer { (W.state writer.old).has_failed ≡ false }
+    ensures call { Call (after_meaning request.now) (R.state reader.old) (R.state reader.new)
+        (W.state writer.old) (W.state writer.new) result }
 {
     match read_parts(alloc, request, reader, progress) {
         Ok(system) => write_answer(alloc, request, system, writer, progress),
-        Err(rejection) => after_end_of(rejection),
+        Err(rejection) => end_of(rejection, None),
     }
 }
 
@@ -83,13 +92,15 @@ fn read_parts<R: Source, P: OutputProgress>(
     reader: &mut R,
     progress: &mut P,
 ) -> Result<Checked, Rejection>
-    requires reader { R.has_failed reader.old ≡ false }
-    ensures parts { IfOk result (λ system. (s : List Text) ×
-        AreAfterParts request.now (R.remaining reader.old) (R.remaining reader.new) (system_of system) s) }
-    ensures rejected { IfErr result (IsRejectionBy (IsAfterRefusal request.now)
-        (R.remaining reader.old) (R.remaining reader.new)) }
-    ensures given { R.given reader.new ≤ R.given reader.old + (max_text_length + 1) }
-    ensures failed { R.has_failed reader.new ≡ is_input_failure result }
+    requires reader { (R.state reader.old).has_failed ≡ false }
+    ensures read { IfOk result (λ system. ReadsAsked request.now.interface
+        (R.state reader.old).remaining (R.state reader.new).remaining (system_of system)) }
+    ensures sequence { IfOk result (λ system.
+        (s : List Text) × IsSequenceOf request.now (system_of system) s) }
+    ensures rejected { IfErr result (IsRejectionBy (IsAfterRefusal request.now
+        (R.state reader.old).remaining (R.state reader.new).remaining)) }
+    ensures takes { TakesWithin (R.state reader.old) (R.state reader.new) (max_text_length + 1) }
+    ensures failed { (R.state reader.new).has_failed ≡ is_input_failure result }
 {
     check_label_words(request.words.as_slice(), request.strong)?;
     let system = read_asked(alloc, &request.interface, reader, progress)?;
@@ -105,24 +116,33 @@ fn write_answer<W: Sink, P: OutputProgress>(
     system: Checked,
     writer: &mut W,
     progress: &mut P,
-) -> AfterEnded
+) -> Ended<Continuation, Option<usize>>
     requires sequence { (s : List Text) × IsSequenceOf request.now (system_of system) s }
-    requires writer { W.has_failed writer.old ≡ false }
-    ensures outcome { (s : List Text) → IsSequenceOf request.now (system_of system) s →
-        IsAfterOutcomeFor request.now (system_of system) s
-        (W.written writer.old) (W.written writer.new) result }
-    ensures failed { W.has_failed writer.new ≡ is_after_output_fault result }
+    requires writer { (W.state writer.old).has_failed ≡ false }
+    ensures ends { Answered (after_answering request.now) (IsAfterQuestionOf request.now (system_of system))
+        (W.state writer.old).written (W.state writer.new).written result }
+    ensures failed { (W.state writer.new).has_failed ≡ is_unwritten result }
 {
     match find_answer(alloc, request, system, progress) {
         Ok(Answer::Lines(lines)) => {
             progress.before_line();
-            write_lines(writer, lines.as_slice())
+            write_whole(writer, lines.as_slice(), Continuation::Followed, None)
         }
-        Ok(Answer::NoLabel { number, instead }) => AfterEnded::CannotCome { number, instead },
-        Err(FollowFault::TooManyTerms(labels)) => {
-            AfterEnded::Stopped(AfterWhy::TooManyTerms(labels))
+        Ok(Answer::NoLabel { number, instead }) => {
+            Ended::Done(Continuation::CannotCome { number, instead })
         }
-        Err(FollowFault::Memory) => AfterEnded::Stopped(AfterWhy::Memory),
+        Err(FollowFault::TooManyTerms(labels)) => stopped(Stop::Terms, Some(labels)),
+        Err(FollowFault::Memory) => stopped(Stop::Memory, None),
+    }
+}
+
+/// The command stopped for this cause, after so many labels of the sequence if that is known.
+fn stopped(cause: Stop, labels: Option<usize>) -> Ended<Continuation, Option<usize>>
+    ensures { result ≡ Stopped cause labels }
+{
+    Ended::Stopped {
+        cause,
+        place: labels,
     }
 }
 
@@ -134,10 +154,8 @@ fn find_answer<P: Progress>(
     progress: &mut P,
 ) -> Result<Answer, FollowFault>
     requires sequence { (s : List Text) × IsSequenceOf request.now (system_of system) s }
-    ensures answer { (s : List Text) → IsSequenceOf request.now (system_of system) s →
-        IfOk result (HasAnswer request.now (system_of system) s) }
-    ensures none { (s : List Text) → IsSequenceOf request.now (system_of system) s →
-        IfErr result (HasNoAnswer request.now (system_of system) s) }
+    ensures answer { IfOk result (HasAnswer request.now (system_of system)) }
+    ensures none { IfErr result (HasNoAnswer request.now (system_of system)) }
 {
     table_has_match_question();
     let table = NormalTable::new(alloc, system)?;
@@ -156,7 +174,7 @@ fn follow_words<P: Progress>(
     requires sequence { (strong : Bool) × (s : List Text) × NamesEach strong (map string_bytes words.now) s }
     requires gates { HaveGates sets.old.table.names (map string_bytes words.now) }
     ensures answer { (strong : Bool) (s : List Text) → NamesEach strong (map string_bytes words.now) s →
-        IfOk result (IsAnswer (behaviour_of sets.old) s) }
+        IfOk result (IsAnswer (record { behaviour = behaviour_of sets.old; sequence = s })) }
     ensures none { (strong : Bool) (s : List Text) → NamesEach strong (map string_bytes words.now) s →
         IfErr result (λ fault. IfTooMany fault (IsFirstOversized (behaviour_of sets.old) sets.old.bound s)) }
 {
@@ -187,14 +205,55 @@ fn answer_of(
     Ok(Answer::NoLabel { number, instead })
 }
 
-/// Writes the lines of what can come and flushes the output. Returns how the command ends.
-fn write_lines<W: Sink>(writer: &mut W, lines: &[u8]) -> AfterEnded
-    requires { W.has_failed writer.old ≡ false }
-    ensures written { AreWritten lines.now (W.written writer.old) (W.written writer.new) result }
-    ensures failed { W.has_failed writer.new ≡ is_after_output_fault result }
-{
-    match write_and_flush(writer, lines) {
-        Ok(()) => AfterEnded::Followed,
-        Err(DeviceFailed) => AfterEnded::Stopped(AfterWhy::Write),
+impl Command for AfterRequest {
+    ghost use Rattle.lotos_tool.specs.AfterOutcome.{after_meaning};
+
+    type Found = Continuation;
+
+    type Place = Option<usize>;
+
+    ghost is_bounded = { λ request. Unit {0} };
+
+    ghost meaning = { after_meaning };
+
+    fn answer<R: Source, W: Sink, P: OutputProgress>(
+        &self,
+        alloc: Global,
+        reader: &mut R,
+        writer: &mut W,
+        progress: &mut P,
+    ) -> Ended<Continuation, Option<usize>> {
+        after(alloc, self, reader, writer, progress)
+    }
+
+    fn observed(&self) -> Observed<'_> {
+        Observed {
+            words: Some(AskedWords {
+                command: WordCommand::After,
+                words: self.words.as_slice(),
+                refuses_unknown: true,
+            }),
+            interface: &self.interface,
+            reports_progress: self.progress,
+            visited: Visited::Labels,
+        }
+    }
+
+    fn report<E: Write>(
+        &self,
+        ended: &Ended<Continuation, Option<usize>>,
+        _searched: &Option<Searched>,
+        err: &mut E,
+    ) {
+        match ended {
+            Ended::Done(Continuation::CannotCome { number, instead }) => {
+                report_label(err, *number, self.words.as_slice(), instead);
+            }
+            Ended::Stopped {
+                cause: Stop::Terms,
+                place: Some(labels),
+            } => report_too_many_terms(err, self.terms, *labels),
+            _ => report_end(err, ended),
+        }
     }
 }

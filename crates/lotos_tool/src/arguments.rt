@@ -1,13 +1,13 @@
 //! The program over the arguments of a process.
-ghost use Rattle.std.specs.Prelude.{◌≡◌, ◌+◌, ◌≤◌, ◌==◌, IfOk, MatchResult, false, map, string_bytes};
+ghost use Rattle.std.specs.Prelude.{◌≡◌, IfOk, MatchResult, false, map, string_bytes};
 ghost use Rattle.std.specs.Vec.Iter.{into_iter_items};
-ghost use Rattle.lotos_text.specs.Limits.{max_text_length};
-ghost use Rattle.lotos_tool.specs.ProgramRuns.{NoArgumentRead, Ran};
+ghost use Rattle.lotos_tool.specs.ProgramRuns.{NoArgumentRead, ProgramRan};
 
 use crate::program::run;
 use crate::question_parts::borrow_texts;
 use lotos_device::{Sink, Source};
-use lotos_report::{Messages, Why, report_failure, report_unread_arguments};
+use lotos_outcome::Stop;
+use lotos_report::{Messages, report_failure, report_unread_arguments};
 use std::alloc::{AllocError, Global};
 use std::env::Args;
 use std::io::{self, Write};
@@ -21,16 +21,13 @@ pub fn run_args<R: Source, W: Sink, E: Write>(
     out: &mut W,
     messages: &mut Messages<E>,
 ) -> u8
-    requires reader { R.has_failed reader.old ≡ false }
-    requires out { W.has_failed out.old ≡ false }
+    requires reader { (R.state reader.old).has_failed ≡ false }
+    requires out { (W.state out.old).has_failed ≡ false }
     ensures ran { MatchResult args
-        (λ words. Ran (map string_bytes (into_iter_items words))
-        (R.remaining reader.old) (R.remaining reader.new)
-        (W.written out.old) (W.written out.new) (R.has_failed reader.new) result)
-        (λ _. NoArgumentRead (R.remaining reader.old) (R.remaining reader.new)
-        (W.written out.old) (W.written out.new) (R.has_failed reader.new) result) }
-    ensures given { R.given reader.new ≤ R.given reader.old + (max_text_length + 1) }
-    ensures output { W.has_failed out.new ≡ (result == 6) }
+        (λ words. ProgramRan (map string_bytes (into_iter_items words))
+        (R.state reader.old) (R.state reader.new) (W.state out.old) (W.state out.new) result)
+        (λ _. NoArgumentRead (R.state reader.old) (R.state reader.new)
+        (W.state out.old) (W.state out.new) result) }
 {
     let args = match args {
         Ok(args) => args,
@@ -61,12 +58,10 @@ fn run_words<R: Source, W: Sink, E: Write>(
     out: &mut W,
     messages: &mut Messages<E>,
 ) -> u8
-    requires reader { R.has_failed reader.old ≡ false }
-    requires out { W.has_failed out.old ≡ false }
-    ensures ran { Ran (map string_bytes words.now) (R.remaining reader.old) (R.remaining reader.new)
-        (W.written out.old) (W.written out.new) (R.has_failed reader.new) result }
-    ensures given { R.given reader.new ≤ R.given reader.old + (max_text_length + 1) }
-    ensures output { W.has_failed out.new ≡ (result == 6) }
+    requires reader { (R.state reader.old).has_failed ≡ false }
+    requires out { (W.state out.old).has_failed ≡ false }
+    ensures ran { ProgramRan (map string_bytes words.now)
+        (R.state reader.old) (R.state reader.new) (W.state out.old) (W.state out.new) result }
 {
     match borrow_texts(alloc, words) {
         Ok(texts) => run(alloc, texts.as_slice(), reader, out, messages),
@@ -86,6 +81,6 @@ fn report_no_arguments<E: Write>(error: &io::Error, messages: &mut Messages<E>) 
 fn report_no_words<E: Write>(messages: &mut Messages<E>) -> u8
     ensures { result ≡ 5 }
 {
-    report_failure(&mut messages.stream, &Why::Memory);
+    report_failure(&mut messages.stream, Stop::Memory);
     5
 }

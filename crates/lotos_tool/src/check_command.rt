@@ -1,17 +1,17 @@
 //! The command `check`, from the text to the lines of its processes.
-ghost use Rattle.std.specs.Prelude.{◌≡◌, ◌+◌, ◌≤◌, false};
-ghost use Rattle.lotos_text.specs.Limits.{max_text_length};
+ghost use Rattle.std.specs.Prelude.{◌≡◌, false};
 ghost use Rattle.lotos_check.specs.CheckedView.{system_of};
-ghost use Rattle.lotos_tool.specs.CheckOutcome.{CheckOutcome, ProcessesOutcome};
-ghost use Rattle.lotos_tool.specs.Rejections.{is_input_fault};
-ghost use Rattle.lotos_output.specs.WriteFaults.{is_output_fault};
+ghost use Rattle.lotos_outcome.specs.Calls.{Answered, Call};
+ghost use Rattle.lotos_outcome.specs.Outcomes.{is_unwritten};
+ghost use Rattle.lotos_tool.specs.CheckOutcome.{check_answering, check_meaning};
 
+use crate::findings::Processes;
 use crate::rejection::end_of;
 use crate::specification_input::read_specification;
 use lotos_check::Checked;
-use lotos_device::{DeviceFailed, Sink, Source, write_bytes};
-use lotos_output::{flush_complete, format_processes};
-use lotos_report::{Ended, Why};
+use lotos_device::{Sink, Source};
+use lotos_outcome::{Ended, Stop};
+use lotos_output::{format_processes, write_whole};
 use std::alloc::Global;
 
 /// Reads a specification, checks it, and writes a line for each of its processes: its name, the number of its formal
@@ -19,43 +19,44 @@ use std::alloc::Global;
 /// inner ones.
 ///
 /// A refusal is returned with nothing written. All lines are composed before the first byte is written; if no write
-/// fails, one flush follows. The outcome is [`Ended::Complete`] with the number of processes, or [`Ended::Refused`], or
-/// [`Ended::Stopped`] with [`Why::Memory`] or [`Why::Write`]. At most one byte more than a text may have is taken from
-/// the reader, whatever it returns. Neither the reader nor the writer may have failed before.
-pub fn check_text<R: Source, W: Sink>(alloc: Global, reader: &mut R, writer: &mut W) -> Ended
-    requires reader { R.has_failed reader.old ≡ false }
-    requires writer { W.has_failed writer.old ≡ false }
-    ensures answers { CheckOutcome (R.remaining reader.old) (R.remaining reader.new) (W.written writer.old)
-        (W.written writer.new) result }
-    ensures given { R.given reader.new ≤ R.given reader.old + (max_text_length + 1) }
-    ensures input { R.has_failed reader.new ≡ is_input_fault result }
-    ensures output { W.has_failed writer.new ≡ is_output_fault result }
+/// fails, one flush follows. A check stops only for [`Stop::Memory`] and [`Stop::Write`]. At most one byte more than a
+/// text may have is taken from the reader, whatever it returns. Neither the reader nor the writer may have failed before.
+pub fn check_text<R: Source, W: Sink>(
+    alloc: Global,
+    reader: &mut R,
+    writer: &mut W,
+) -> Ended<Processes, ()>
+    requires reader { (R.state reader.old).has_failed ≡ false }
+    requires writer { (W.state writer.old).has_failed ≡ false }
+    ensures call { Call check_meaning (R.state reader.old) (R.state reader.new) (W.state writer.old)
+        (W.state writer.new) result }
 {
-    let system = match read_specification(alloc, reader) {
-        Ok(system) => system,
-        Err(rejection) => return end_of(rejection),
-    };
-    write_processes(alloc, &system, writer)
+    match read_specification(alloc, reader) {
+        Ok(system) => write_processes(alloc, &system, writer),
+        Err(rejection) => end_of(rejection, ()),
+    }
 }
 
 /// Writes a line for each process of an accepted specification, and flushes the output if no write fails.
-pub fn write_processes<W: Sink>(alloc: Global, system: &Checked, writer: &mut W) -> Ended
-    requires { W.has_failed writer.old ≡ false }
-    ensures outcome { ProcessesOutcome (system_of system.now) (W.written writer.old) (W.written writer.new)
-        result }
-    ensures failed { W.has_failed writer.new ≡ is_output_fault result }
+pub fn write_processes<W: Sink>(
+    alloc: Global,
+    system: &Checked,
+    writer: &mut W,
+) -> Ended<Processes, ()>
+    requires { (W.state writer.old).has_failed ≡ false }
+    ensures ends { Answered check_answering (λ asked. asked ≡ system_of system.now)
+        (W.state writer.old).written (W.state writer.new).written result }
+    ensures failed { (W.state writer.new).has_failed ≡ is_unwritten result }
 {
-    let Ok(lines) = format_processes(alloc, system.processes()) else {
-        return Ended::Stopped {
-            last: None,
-            why: Why::Memory,
-        };
+    let processes = system.processes();
+    let found = Processes {
+        count: processes.len() as u64,
     };
-    match write_bytes(writer, lines.as_slice()) {
-        Ok(()) => flush_complete(writer, None, system.processes().len() as u64),
-        Err(DeviceFailed) => Ended::Stopped {
-            last: None,
-            why: Why::Write,
+    match format_processes(alloc, processes) {
+        Ok(lines) => write_whole(writer, lines.as_slice(), found, ()),
+        Err(_) => Ended::Stopped {
+            cause: Stop::Memory,
+            place: (),
         },
     }
 }

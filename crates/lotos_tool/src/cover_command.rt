@@ -1,29 +1,36 @@
 //! The command `cover`, from the text to the lines of the cover.
-ghost use Rattle.std.specs.Prelude.{◌≡◌, ◌+◌, ◌≤◌, IfErr, IfOk, false};
+ghost use Rattle.std.specs.Prelude.{◌≡◌, ◌+◌, IfErr, IfOk, false};
 ghost use Rattle.lotos_text.specs.Limits.{max_text_length};
 ghost use Rattle.lotos_check.specs.CheckedView.{system_of};
 ghost use Rattle.lotos_command.specs.Request.{HasCoverBounds};
-ghost use Rattle.lotos_output.specs.WriteFaults.{is_output_fault};
-ghost use Rattle.lotos_tool.specs.CoverOutcome.{AreCoverParts, CoverOutcome};
-ghost use Rattle.lotos_tool.specs.CoverParts.{IsCoverOutcomeFor, IsCoverSearchFor};
+ghost use Rattle.lotos_device.specs.TextInput.{TakesWithin};
+ghost use Rattle.lotos_outcome.specs.Calls.{Answered, Call};
+ghost use Rattle.lotos_outcome.specs.Outcomes.{is_unwritten};
+ghost use Rattle.lotos_tool.specs.CoverOutcome.{AreCoverParts, IsCoverAskedOf, IsCoverSearchFor, cover_answering, cover_meaning};
 ghost use Rattle.lotos_tool.specs.RefusalCauses.{IsCoverRefusal};
-ghost use Rattle.lotos_tool.specs.Rejections.{IsRejectionBy, is_input_failure, is_input_fault};
+ghost use Rattle.lotos_tool.specs.Rejections.{IsRejectionBy, is_input_failure};
 
-use crate::listing_output::{ListingOptions, write_listing};
+use crate::command::Command;
+use crate::findings::{Listed, ListingPlace};
+use crate::listing_output::{
+    ListingOptions, nowhere, report_listing, unstarted, write_listing,
+};
 use crate::question_parts::read_mark;
 use crate::rejection::{Rejection, end_of};
-use crate::search_command::out_of_memory;
+use crate::search_observer::Observed;
 use crate::specification_input::read_asked;
 use lotos_check::Checked;
 use lotos_command::{CoverRequest, Runs};
 use lotos_cover::CoverSearch;
 use lotos_cover::laws::begun_cover_search_has_question;
 use lotos_device::{Sink, Source};
-use lotos_listing::Mark;
+use lotos_listing::{Mark, Searched};
 use lotos_normal::NormalTable;
+use lotos_outcome::{Ended, Stop};
 use lotos_output::{ItemRuns, OutputProgress};
-use lotos_report::Ended;
+use lotos_report::Visited;
 use std::alloc::{AllocError, Global};
+use std::io::Write;
 
 /// Reads a specification and writes the lines of its cover: for each set of normal forms that sequences of observable
 /// labels reach, the first of these sequences, with each label that can come next; of the sequences made so those with
@@ -47,19 +54,16 @@ pub fn cover<R: Source, W: Sink, P: OutputProgress>(
     reader: &mut R,
     writer: &mut W,
     progress: &mut P,
-) -> Ended
+) -> Ended<Listed, ListingPlace>
     requires bounds { HasCoverBounds request.now }
-    requires reader { R.has_failed reader.old ≡ false }
-    requires writer { W.has_failed writer.old ≡ false }
-    ensures answers { CoverOutcome request.now (R.remaining reader.old) (R.remaining reader.new)
-        (W.written writer.old) (W.written writer.new) result }
-    ensures given { R.given reader.new ≤ R.given reader.old + (max_text_length + 1) }
-    ensures input { R.has_failed reader.new ≡ is_input_fault result }
-    ensures output { W.has_failed writer.new ≡ is_output_fault result }
+    requires reader { (R.state reader.old).has_failed ≡ false }
+    requires writer { (W.state writer.old).has_failed ≡ false }
+    ensures call { Call (cover_meaning request.now) (R.state reader.old) (R.state reader.new)
+        (W.state writer.old) (W.state writer.new) result }
 {
     match read_parts(alloc, request, reader, progress) {
         Ok((mark, system)) => cover_system(alloc, request, system, mark, writer, progress),
-        Err(rejection) => end_of(rejection),
+        Err(rejection) => end_of(rejection, nowhere()),
     }
 }
 
@@ -70,13 +74,13 @@ fn read_parts<R: Source, P: OutputProgress>(
     reader: &mut R,
     progress: &mut P,
 ) -> Result<(Option<Mark>, Checked), Rejection>
-    requires reader { R.has_failed reader.old ≡ false }
-    ensures parts { IfOk result (λ (mark, system).
-        AreCoverParts request.now (R.remaining reader.old) (R.remaining reader.new) (system_of system) mark) }
-    ensures rejected { IfErr result (IsRejectionBy (IsCoverRefusal request.now)
-        (R.remaining reader.old) (R.remaining reader.new)) }
-    ensures given { R.given reader.new ≤ R.given reader.old + (max_text_length + 1) }
-    ensures failed { R.has_failed reader.new ≡ is_input_failure result }
+    requires reader { (R.state reader.old).has_failed ≡ false }
+    ensures parts { IfOk result (λ (mark, system). AreCoverParts request.now
+        (R.state reader.old).remaining (R.state reader.new).remaining (system_of system) mark) }
+    ensures rejected { IfErr result (IsRejectionBy (IsCoverRefusal request.now
+        (R.state reader.old).remaining (R.state reader.new).remaining)) }
+    ensures takes { TakesWithin (R.state reader.old) (R.state reader.new) (max_text_length + 1) }
+    ensures failed { (R.state reader.new).has_failed ≡ is_input_failure result }
 {
     let mark = read_mark(alloc, &request.after, request.strong)?;
     let system = read_asked(alloc, &request.interface, reader, progress)?;
@@ -91,12 +95,12 @@ fn cover_system<W: Sink, P: OutputProgress>(
     mark: Option<Mark>,
     writer: &mut W,
     progress: &mut P,
-) -> Ended
+) -> Ended<Listed, ListingPlace>
     requires bounds { HasCoverBounds request.now }
-    requires writer { W.has_failed writer.old ≡ false }
-    ensures outcome { IsCoverOutcomeFor request.now (system_of system) mark
-        (W.written writer.old) (W.written writer.new) result }
-    ensures failed { W.has_failed writer.new ≡ is_output_fault result }
+    requires writer { (W.state writer.old).has_failed ≡ false }
+    ensures ends { Answered (cover_answering request.now) (IsCoverAskedOf request.now (system_of system) mark)
+        (W.state writer.old).written (W.state writer.new).written result }
+    ensures failed { (W.state writer.new).has_failed ≡ is_unwritten result }
 {
     match begin_cover(alloc, request, system, mark) {
         Ok(mut search) => {
@@ -107,7 +111,7 @@ fn cover_system<W: Sink, P: OutputProgress>(
             let mut runs = ItemRuns::Omitted;
             write_listing(alloc, options, &mut runs, &mut search, writer, progress)
         }
-        Err(AllocError) => out_of_memory(),
+        Err(AllocError) => unstarted(),
     }
 }
 
@@ -132,4 +136,52 @@ fn begin_cover(
         mark,
     );
     Ok(search)
+}
+
+impl Command for CoverRequest {
+    ghost use Rattle.lotos_command.specs.Request.{HasCoverBounds};
+    ghost use Rattle.lotos_tool.specs.CoverOutcome.{cover_meaning};
+
+    type Found = Listed;
+
+    type Place = ListingPlace;
+
+    ghost is_bounded = { HasCoverBounds };
+
+    ghost meaning = { cover_meaning };
+
+    fn answer<R: Source, W: Sink, P: OutputProgress>(
+        &self,
+        alloc: Global,
+        reader: &mut R,
+        writer: &mut W,
+        progress: &mut P,
+    ) -> Ended<Listed, ListingPlace> {
+        cover(alloc, self, reader, writer, progress)
+    }
+
+    fn observed(&self) -> Observed<'_> {
+        Observed {
+            words: None,
+            interface: &self.interface,
+            reports_progress: self.progress,
+            visited: Visited::Sets,
+        }
+    }
+
+    fn report<E: Write>(
+        &self,
+        ended: &Ended<Listed, ListingPlace>,
+        _searched: &Option<Searched>,
+        err: &mut E,
+    ) {
+        let bound = match ended {
+            Ended::Stopped {
+                cause: Stop::States,
+                ..
+            } => self.states,
+            _ => self.terms,
+        };
+        report_listing(ended, bound, err);
+    }
 }

@@ -1,43 +1,44 @@
 //! The check with diagnostics: what `check` writes, and on standard error an explanation of its fault, or warnings.
-ghost use Rattle.std.specs.Prelude.{◌≡◌, ◌+◌, ◌≤◌, ◌==◌, false, length};
+ghost use Rattle.std.specs.Prelude.{◌≡◌, ◌≤◌, false, length};
 ghost use Rattle.lotos_text.specs.Limits.{max_text_length};
 ghost use Rattle.lotos_text.specs.AstOf.{definition_view};
 ghost use Rattle.lotos_check.specs.Acceptance.{IsAccepted};
-ghost use Rattle.lotos_check.specs.AcceptedText.{IsParsed};
+ghost use Rattle.lotos_check.specs.AcceptedText.{Accepted, IsParsed};
 ghost use Rattle.lotos_check.specs.CheckedView.{system_of};
-ghost use Rattle.lotos_tool.specs.ProgramRuns.{CheckReported, ProcessesReported, TextReported, check_status_of};
+ghost use Rattle.lotos_outcome.specs.Calls.{Answered, Call, EndsAs};
+ghost use Rattle.lotos_outcome.specs.Outcomes.{is_unwritten};
+ghost use Rattle.lotos_tool.specs.CheckOutcome.{check_answering, check_meaning};
+ghost use Rattle.lotos_tool.specs.RefusalCauses.{IsTextRefusal};
 ghost use Rattle.lotos_tool.specs.Rejections.{end_of};
 
 use crate::check_command::write_processes;
-use crate::program::report_check;
+use crate::findings::Processes;
 use crate::rejection::{Rejection, end_of};
 use crate::specification_input::{read_input, reject};
 use lotos_check::{Checked, check_parsed, parse_text};
 use lotos_command::DiagnoseRequest;
 use lotos_device::{Sink, Source};
 use lotos_explain::{explain_check_fault, explain_text_fault};
-use lotos_report::{Ended, MutedStream, Refusal, write_warnings};
+use lotos_outcome::{Ended, Refusal};
+use lotos_report::{MutedStream, report_end, write_warnings};
 use lotos_text::Specification;
 use lotos_warn::warnings;
 use std::alloc::Global;
 use std::io::Write;
 
-/// Reads a specification, checks it, writes the lines of its processes, and reports the check as `report_check` does;
-/// then writes to `err` the diagnostics that are asked for. Returns the status of the check. Neither the reader nor
-/// `out` may have failed before.
+/// Reads a specification, checks it, writes the lines of its processes, and reports to `err` how that ended; then writes
+/// there the diagnostics that are asked for. Neither the reader nor `out` may have failed before.
 pub fn diagnose<R: Source, W: Sink, E: Write>(
     alloc: Global,
     asked: &DiagnoseRequest,
     reader: &mut R,
     out: &mut W,
     err: &mut E,
-) -> u8
-    requires reader { R.has_failed reader.old ≡ false }
-    requires out { W.has_failed out.old ≡ false }
-    ensures reported { CheckReported (R.remaining reader.old) (R.remaining reader.new)
-        (W.written out.old) (W.written out.new) (R.has_failed reader.new) result }
-    ensures given { R.given reader.new ≤ R.given reader.old + (max_text_length + 1) }
-    ensures output { W.has_failed out.new ≡ (result == 6) }
+) -> Ended<Processes, ()>
+    requires reader { (R.state reader.old).has_failed ≡ false }
+    requires out { (W.state out.old).has_failed ≡ false }
+    ensures call { Call check_meaning (R.state reader.old) (R.state reader.new) (W.state out.old)
+        (W.state out.new) result }
 {
     match read_input(alloc, reader) {
         Ok(text) => diagnose_text(alloc, asked, text.as_slice(), out, err),
@@ -52,11 +53,12 @@ fn diagnose_text<W: Sink, E: Write>(
     text: &[u8],
     out: &mut W,
     err: &mut E,
-) -> u8
+) -> Ended<Processes, ()>
     requires text { length text.now ≤ max_text_length }
-    requires out { W.has_failed out.old ≡ false }
-    ensures reported { TextReported text.now (W.written out.old) (W.written out.new) result }
-    ensures output { W.has_failed out.new ≡ (result == 6) }
+    requires out { (W.state out.old).has_failed ≡ false }
+    ensures ends { EndsAs check_answering (IsTextRefusal text.now) (Accepted text.now)
+        (W.state out.old).written (W.state out.new).written result }
+    ensures failed { (W.state out.new).has_failed ≡ is_unwritten result }
 {
     match parse_text(alloc, text) {
         Ok(specification) => diagnose_parsed(alloc, asked, text, &specification, out, err),
@@ -72,12 +74,13 @@ fn diagnose_parsed<W: Sink, E: Write>(
     specification: &Specification,
     out: &mut W,
     err: &mut E,
-) -> u8
+) -> Ended<Processes, ()>
     requires text { length text.now ≤ max_text_length }
     requires parsed { IsParsed text.now (definition_view specification.now.whole) }
-    requires out { W.has_failed out.old ≡ false }
-    ensures reported { TextReported text.now (W.written out.old) (W.written out.new) result }
-    ensures output { W.has_failed out.new ≡ (result == 6) }
+    requires out { (W.state out.old).has_failed ≡ false }
+    ensures ends { EndsAs check_answering (IsTextRefusal text.now) (Accepted text.now)
+        (W.state out.old).written (W.state out.new).written result }
+    ensures failed { (W.state out.new).has_failed ≡ is_unwritten result }
 {
     match check_parsed(alloc, text, specification) {
         Ok(system) => report_processes(alloc, asked, text, specification, &system, out, err),
@@ -98,19 +101,19 @@ fn report_processes<W: Sink, E: Write>(
     system: &Checked,
     out: &mut W,
     err: &mut E,
-) -> u8
+) -> Ended<Processes, ()>
     requires accepted { IsAccepted (definition_view specification.now.whole) (system_of system.now) }
-    requires out { W.has_failed out.old ≡ false }
-    ensures reported { ProcessesReported (system_of system.now) (W.written out.old) (W.written out.new)
-        result }
-    ensures output { W.has_failed out.new ≡ (result == 6) }
+    requires out { (W.state out.old).has_failed ≡ false }
+    ensures ends { Answered check_answering (λ asked. asked ≡ system_of system.now)
+        (W.state out.old).written (W.state out.new).written result }
+    ensures failed { (W.state out.new).has_failed ≡ is_unwritten result }
 {
     let ended = write_processes(alloc, system, out);
-    let status = report_check(&ended, &mut MutedStream::new(err, out.is_unread()));
-    if asked.warn && status == 0 {
+    report_end(&mut MutedStream::new(err, out.is_unread()), &ended);
+    if asked.warn && matches!(ended, Ended::Done(_)) {
         warn(alloc, text, specification, system, err);
     }
-    status
+    ended
 }
 
 /// Writes a line for each warning about an accepted specification, or one that says that there is no memory for them.
@@ -140,31 +143,30 @@ fn report_rejection<E: Write>(
     specification: Option<&Specification>,
     rejection: Rejection,
     err: &mut E,
-) -> u8
-    ensures status { result ≡ check_status_of (end_of rejection) }
-    ensures output { (result == 6) ≡ false }
+) -> Ended<Processes, ()>
+    ensures { result ≡ end_of rejection tt }
 {
-    let ended = end_of(rejection);
-    let status = report_check(&ended, err);
+    let ended = end_of(rejection, ());
+    report_end(err, &ended);
     if asked.explain {
-        explain(alloc, text, specification, &ended, err);
+        explain(alloc, text, specification, ended.refusal(), err);
     }
-    status
+    ended
 }
 
-/// Explains the fault with which the check of a text ended, if it is one of the text.
+/// Explains why a text is refused, if a fault of the text is why.
 fn explain<E: Write>(
     alloc: Global,
     text: &[u8],
     specification: Option<&Specification>,
-    ended: &Ended,
+    refusal: Option<&Refusal>,
     err: &mut E,
 ) {
-    match (ended, specification) {
-        (Ended::Refused(Refusal::Text { fault, .. }), _) => {
+    match (refusal, specification) {
+        (Some(Refusal::Text { fault, .. }), _) => {
             explain_text_fault(alloc, text, fault, err);
         }
-        (Ended::Refused(Refusal::Check { fault, .. }), Some(specification)) => {
+        (Some(Refusal::Check { fault, .. }), Some(specification)) => {
             explain_check_fault(alloc, text, specification, fault, err);
         }
         _ => {}

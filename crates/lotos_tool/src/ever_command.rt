@@ -1,41 +1,51 @@
 //! The command `ever`, from the text to the line of the first of the shortest matches.
-ghost use Rattle.std.specs.Prelude.{◌≡◌, ◌+◌, ◌++◌, ◌≤◌, IfErr, IfOk, List, OnOk, Option, false, string_bytes, true};
+ghost use Rattle.std.specs.Prelude.{◌≡◌, ◌+◌, ◌++◌, IfErr, IfOk, List, OnOk, Option, Some, false, string_bytes, true};
 ghost use Rattle.lotos_text.specs.Limits.{max_text_length};
 ghost use Rattle.lotos_check.specs.CheckedView.{system_of};
 ghost use Rattle.lotos_check.specs.Flat.{System};
 ghost use Rattle.lotos_terms.specs.TableView.{IsTableOf};
 ghost use Rattle.lotos_ever.specs.MatchQuestions.{IsEndedMatch, match_question_of};
 ghost use Rattle.lotos_ever.specs.NamedRuns.{EndsAsDemanded};
-ghost use Rattle.lotos_tool.specs.EverOutcome.{AreEverParts, EverOutcome, IsMatchLine, MatchTexts, is_ever_input_fault, is_ever_output_fault};
-ghost use Rattle.lotos_tool.specs.EverParts.{AreNamedTextsOf, HasLine, HasTexts, HasNoLine, IsEndWithoutMatch, IsOutcomeFor, IsRoundOf, IsWritten};
-ghost use Rattle.lotos_tool.specs.EverParts.{question_about};
+ghost use Rattle.lotos_device.specs.TextInput.{TakesWithin};
+ghost use Rattle.lotos_outcome.specs.Calls.{Answered, Call};
+ghost use Rattle.lotos_outcome.specs.Outcomes.{is_unwritten};
+ghost use Rattle.lotos_tool.specs.EverOutcome.{AreEverParts, IsMatchLine, MatchTexts, ever_answering, ever_meaning};
+ghost use Rattle.lotos_tool.specs.EverParts.{AreNamedTextsOf, HasLine, HasNoLine, HasTexts, IsEverQuestionFor, IsRoundOf, cause_of_halt, question_about};
 ghost use Rattle.lotos_listing.specs.Order.{Label as Text};
 ghost use Rattle.lotos_listing.specs.Question.{ArePrinted};
 ghost use Rattle.lotos_output.specs.OutputLines.{round_text_if, run_text};
+ghost use Rattle.lotos_output.specs.WholeOutput.{EndsWhole};
 ghost use Rattle.lotos_tool.specs.RefusalCauses.{IsEverRefusal};
 ghost use Rattle.lotos_tool.specs.Rejections.{IsRejectionBy, is_input_failure};
 
+use crate::command::Command;
+use crate::findings::Occurrence;
 use crate::question_parts::{read_ever_pattern, refuse_unknown_gates};
-use crate::rejection::{Rejection, ever_end_of};
+use crate::rejection::{Rejection, end_of};
+use crate::search_observer::Observed;
 use crate::specification_input::read_asked;
 use lotos_check::Checked;
 use lotos_command::{EverRequest, Runs};
-use lotos_device::{DeviceFailed, Sink, Source};
+use lotos_device::{Sink, Source};
 use lotos_ever::laws::{matches_end_as_demanded, table_has_match_question};
 use lotos_ever::{EndedMatch, Halt, find_shortest_match_with_end, name_run};
-use lotos_listing::Progress;
+use lotos_listing::{Progress, Searched};
 use lotos_normal::NormalTable;
 use lotos_origins::laws::origins_stay_in_table;
+use lotos_outcome::{Ended, Stop};
 use lotos_output::{
     OutputProgress, append_named_round, append_named_run, append_round, append_run,
-    format_sequence, write_and_flush,
+    format_sequence, write_whole,
 };
 use lotos_pattern::EverPattern;
-use lotos_report::{EverEnded, EverWhy};
+use lotos_report::{
+    AskedWords, Visited, WordCommand, report_end, report_no_match, report_too_many_states,
+};
 use lotos_terms::Label;
 use lotos_terms::laws::steps_stay_in_table;
 use lotos_text::Name;
 use std::alloc::{AllocError, Global};
+use std::io::Write;
 
 /// Reads a specification and searches it for a derivation, of any number of steps, that matches the request's pattern.
 /// If there is one, the line of one with the fewest steps is written.
@@ -56,18 +66,15 @@ pub fn ever<R: Source, W: Sink, P: OutputProgress>(
     reader: &mut R,
     writer: &mut W,
     progress: &mut P,
-) -> EverEnded
-    requires reader { R.has_failed reader.old ≡ false }
-    requires writer { W.has_failed writer.old ≡ false }
-    ensures answers { EverOutcome request.now (R.remaining reader.old) (R.remaining reader.new)
-        (W.written writer.old) (W.written writer.new) result }
-    ensures given { R.given reader.new ≤ R.given reader.old + (max_text_length + 1) }
-    ensures input { R.has_failed reader.new ≡ is_ever_input_fault result }
-    ensures output { W.has_failed writer.new ≡ is_ever_output_fault result }
+) -> Ended<Occurrence, Option<Occurrence>>
+    requires reader { (R.state reader.old).has_failed ≡ false }
+    requires writer { (W.state writer.old).has_failed ≡ false }
+    ensures call { Call (ever_meaning request.now) (R.state reader.old) (R.state reader.new)
+        (W.state writer.old) (W.state writer.new) result }
 {
     match read_parts(alloc, request, reader, progress) {
         Ok((pattern, system)) => write_match(alloc, request, system, &pattern, writer, progress),
-        Err(rejection) => ever_end_of(rejection),
+        Err(rejection) => end_of(rejection, None),
     }
 }
 
@@ -78,14 +85,13 @@ fn read_parts<R: Source, P: OutputProgress>(
     reader: &mut R,
     progress: &mut P,
 ) -> Result<(EverPattern, Checked), Rejection>
-    requires reader { R.has_failed reader.old ≡ false }
-    ensures parts { IfOk result (λ (pattern, system).
-        AreEverParts request.now (R.remaining reader.old) (R.remaining reader.new) (system_of system)
-        pattern) }
-    ensures rejected { IfErr result (IsRejectionBy (IsEverRefusal request.now)
-        (R.remaining reader.old) (R.remaining reader.new)) }
-    ensures given { R.given reader.new ≤ R.given reader.old + (max_text_length + 1) }
-    ensures failed { R.has_failed reader.new ≡ is_input_failure result }
+    requires reader { (R.state reader.old).has_failed ≡ false }
+    ensures parts { IfOk result (λ (pattern, system). AreEverParts request.now
+        (R.state reader.old).remaining (R.state reader.new).remaining (system_of system) pattern) }
+    ensures rejected { IfErr result (IsRejectionBy (IsEverRefusal request.now
+        (R.state reader.old).remaining (R.state reader.new).remaining)) }
+    ensures takes { TakesWithin (R.state reader.old) (R.state reader.new) (max_text_length + 1) }
+    ensures failed { (R.state reader.new).has_failed ≡ is_input_failure result }
 {
     let pattern = read_ever_pattern(alloc, &request.words, request.strong)?;
     let system = read_asked(alloc, &request.interface, reader, progress)?;
@@ -102,20 +108,46 @@ fn write_match<W: Sink, P: OutputProgress>(
     pattern: &EverPattern,
     writer: &mut W,
     progress: &mut P,
-) -> EverEnded
-    requires { W.has_failed writer.old ≡ false }
-    ensures outcome { IsOutcomeFor request.now (system_of system) pattern.now
-        (W.written writer.old) (W.written writer.new) result }
-    ensures failed { W.has_failed writer.new ≡ is_ever_output_fault result }
+) -> Ended<Occurrence, Option<Occurrence>>
+    requires { (W.state writer.old).has_failed ≡ false }
+    ensures ends { Answered (ever_answering request.now) (IsEverQuestionFor (system_of system) pattern.now)
+        (W.state writer.old).written (W.state writer.new).written result }
+    ensures failed { (W.state writer.new).has_failed ≡ is_unwritten result }
 {
     match find_match_line(alloc, request, system, pattern, progress) {
         Ok(Some(line)) => {
             progress.before_line();
-            write_line(writer, line.as_slice())
+            write_found(writer, line.as_slice(), Occurrence::Ever)
         }
-        Ok(None) => end_without_match(writer),
-        Err(Halt::TooManyStates) => EverEnded::Stopped(EverWhy::TooManyStates),
-        Err(Halt::Memory) => EverEnded::Stopped(EverWhy::Memory),
+        Ok(None) => write_found(writer, b"", Occurrence::Never),
+        Err(halt) => Ended::Stopped {
+            cause: cause_of_halt(halt),
+            place: None,
+        },
+    }
+}
+
+/// Writes what is to be written of what was found, and flushes the output.
+fn write_found<W: Sink>(
+    writer: &mut W,
+    bytes: &[u8],
+    found: Occurrence,
+) -> Ended<Occurrence, Option<Occurrence>>
+    requires { (W.state writer.old).has_failed ≡ false }
+    ensures whole { EndsWhole bytes.now found (Some found) (W.state writer.old).written
+        (W.state writer.new).written result }
+    ensures failed { (W.state writer.new).has_failed ≡ is_unwritten result }
+{
+    write_whole(writer, bytes, found, Some(found))
+}
+
+/// The cause of a stop at a halt of the search.
+fn cause_of_halt(halt: Halt) -> Stop
+    ensures { result ≡ cause_of_halt halt }
+{
+    match halt {
+        Halt::TooManyStates => Stop::States,
+        Halt::Memory => Stop::Memory,
     }
 }
 
@@ -251,26 +283,55 @@ fn append_origins(
     }
 }
 
-/// Writes the line of a match and flushes the output. Returns how the command ends.
-fn write_line<W: Sink>(writer: &mut W, line: &[u8]) -> EverEnded
-    requires { W.has_failed writer.old ≡ false }
-    ensures written { IsWritten line.now (W.written writer.old) (W.written writer.new) result }
-    ensures failed { W.has_failed writer.new ≡ is_ever_output_fault result }
-{
-    match write_and_flush(writer, line) {
-        Ok(()) => EverEnded::Matched,
-        Err(DeviceFailed) => EverEnded::Stopped(EverWhy::Write),
-    }
-}
+impl Command for EverRequest {
+    ghost use Rattle.lotos_tool.specs.EverOutcome.{ever_meaning};
 
-/// Flushes the output, to which nothing was written as there is no match. Returns how the command ends.
-fn end_without_match<W: Sink>(writer: &mut W) -> EverEnded
-    requires { W.has_failed writer.old ≡ false }
-    ensures ends { IsEndWithoutMatch (W.written writer.old) (W.written writer.new) result }
-    ensures failed { W.has_failed writer.new ≡ is_ever_output_fault result }
-{
-    match writer.flush() {
-        Ok(()) => EverEnded::NoMatch,
-        Err(DeviceFailed) => EverEnded::Stopped(EverWhy::Flush),
+    type Found = Occurrence;
+
+    type Place = Option<Occurrence>;
+
+    ghost is_bounded = { λ request. Unit {0} };
+
+    ghost meaning = { ever_meaning };
+
+    fn answer<R: Source, W: Sink, P: OutputProgress>(
+        &self,
+        alloc: Global,
+        reader: &mut R,
+        writer: &mut W,
+        progress: &mut P,
+    ) -> Ended<Occurrence, Option<Occurrence>> {
+        ever(alloc, self, reader, writer, progress)
+    }
+
+    fn observed(&self) -> Observed<'_> {
+        Observed {
+            words: Some(AskedWords {
+                command: WordCommand::Ever,
+                words: self.words.as_slice(),
+                refuses_unknown: true,
+            }),
+            interface: &self.interface,
+            reports_progress: self.progress,
+            visited: Visited::States,
+        }
+    }
+
+    fn report<E: Write>(
+        &self,
+        ended: &Ended<Occurrence, Option<Occurrence>>,
+        searched: &Option<Searched>,
+        err: &mut E,
+    ) {
+        match ended {
+            Ended::Done(Occurrence::Never) => {
+                report_no_match(err, searched, self.words.as_slice());
+            }
+            Ended::Stopped {
+                cause: Stop::States,
+                ..
+            } => report_too_many_states(err, self.states),
+            _ => report_end(err, ended),
+        }
     }
 }

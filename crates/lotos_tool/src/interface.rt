@@ -1,5 +1,5 @@
 //! The specification that a question is about: with the gates hidden that an interface leaves out.
-ghost use Rattle.std.specs.Prelude.{◌≡◌, IfErr, IfOk, OnOk, false, map, string_bytes};
+ghost use Rattle.std.specs.Prelude.{◌≡◌, ◌∷◌, [], IfErr, IfOk, OnOk, false, map, string_bytes};
 ghost use Rattle.std.specs.Char.{to_ascii_uppercase};
 ghost use Rattle.lotos_check.specs.CheckedView.{system_of};
 ghost use Rattle.lotos_check.specs.HiddenGates.{IsWithout};
@@ -7,14 +7,15 @@ ghost use Rattle.lotos_check.specs.NameLists.{In};
 ghost use Rattle.lotos_pattern.specs.Spelling.{parts_of};
 ghost use Rattle.lotos_command.specs.declared.command.Interface.TheVariants.{Hide, Only};
 ghost use Rattle.lotos_tool.specs.Interfaces.{AreGatesOf, IsInterfaceOf, gates_named, names_given};
-ghost use Rattle.lotos_tool.specs.Rejections.{IsListRejection, IsNameRejection, is_input_failure};
+ghost use Rattle.lotos_tool.specs.RefusalCauses.{IsNameRefusal};
+ghost use Rattle.lotos_tool.specs.Rejections.{IsRejectionBy, is_input_failure};
 
 use crate::rejection::Rejection;
 use crate::unknown_gates::find_gate;
 use lotos_check::Checked;
 use lotos_command::Interface;
+use lotos_outcome::Refusal;
 use lotos_pattern::split_names;
-use lotos_report::Refusal;
 use lotos_text::Name;
 use std::alloc::{AllocError, Global};
 
@@ -26,7 +27,8 @@ pub fn seen_through(
     own: Checked,
 ) -> Result<Checked, Rejection>
     ensures asked { IfOk result (λ system. IsInterfaceOf interface.now (system_of own) (system_of system)) }
-    ensures rejected { IfErr result (IsListRejection (system_of own).formals (names_given interface.now)) }
+    ensures rejected { IfErr result
+        (IsRejectionBy (IsNameRefusal (system_of own).formals (names_given interface.now))) }
     ensures unread { is_input_failure result ≡ false }
 {
     match interface {
@@ -40,7 +42,8 @@ pub fn seen_through(
 fn hide_named(alloc: Global, names: &String, own: Checked) -> Result<Checked, Rejection>
     ensures asked { IfOk result (λ system.
         IsInterfaceOf (Hide names.now) (system_of own) (system_of system)) }
-    ensures rejected { IfErr result (IsListRejection (system_of own).formals (names_given (Hide names.now))) }
+    ensures rejected { IfErr result
+        (IsRejectionBy (IsNameRefusal (system_of own).formals (names_given (Hide names.now)))) }
     ensures unread { is_input_failure result ≡ false }
 {
     let gates = named_gates(alloc, names.as_str(), own.gates())?;
@@ -51,7 +54,8 @@ fn hide_named(alloc: Global, names: &String, own: Checked) -> Result<Checked, Re
 fn hide_others(alloc: Global, names: &String, own: Checked) -> Result<Checked, Rejection>
     ensures asked { IfOk result (λ system.
         IsInterfaceOf (Only names.now) (system_of own) (system_of system)) }
-    ensures rejected { IfErr result (IsListRejection (system_of own).formals (names_given (Only names.now))) }
+    ensures rejected { IfErr result
+        (IsRejectionBy (IsNameRefusal (system_of own).formals (names_given (Only names.now)))) }
     ensures unread { is_input_failure result ≡ false }
 {
     let kept = named_gates(alloc, names.as_str(), own.gates())?;
@@ -63,7 +67,7 @@ fn hide_others(alloc: Global, names: &String, own: Checked) -> Result<Checked, R
 fn named_gates(alloc: Global, list: &str, gates: &[Name]) -> Result<Vec<Name>, Rejection>
     ensures named { IfOk result (λ v. v.items ≡ gates_named (parts_of list.now)) }
     ensures known { OnOk result (AreGatesOf gates.now (parts_of list.now)) }
-    ensures rejected { IfErr result (IsListRejection gates.now (parts_of list.now)) }
+    ensures rejected { IfErr result (IsRejectionBy (IsNameRefusal gates.now (parts_of list.now))) }
     ensures unread { is_input_failure result ≡ false }
 {
     let names = split_names(alloc, list)?;
@@ -82,7 +86,7 @@ fn named_gates(alloc: Global, list: &str, gates: &[Name]) -> Result<Vec<Name>, R
 fn named_gate(alloc: Global, name: &str, gates: &[Name]) -> Result<Name, Rejection>
     ensures named { IfOk result (λ gate. gate ≡ map to_ascii_uppercase name.now) }
     ensures known { OnOk result (In (map to_ascii_uppercase name.now) gates.now) }
-    ensures rejected { IfErr result (IsNameRejection gates.now name.now) }
+    ensures rejected { IfErr result (IsRejectionBy (IsNameRefusal gates.now (name.now ∷ []))) }
     ensures unread { is_input_failure result ≡ false }
 {
     let upper = name.to_ascii_uppercase(alloc)?;

@@ -4,17 +4,19 @@
 //! [`request`] reads the words, [`list`] reads a text and writes the listing, [`check_text`] reads a text and writes
 //! its processes, [`ever`] reads a text and writes the first of the shortest matches, [`after`] reads a text and writes
 //! what can come after a sequence, [`cover`] reads a text and writes the lines of its cover, and [`run`] does what the
-//! words ask for and returns the exit status. [`report_search`], [`report_check`], [`report_ever`], [`report_after`] and
-//! [`report_command_fault`] write the messages of [`run`]. [`run_args`] runs it on the arguments of a process. Readers
-//! and writers are a [`Source`] and a [`Sink`]; [`FromRead`] and [`FromWrite`] make them from std's.
+//! words ask for and returns the exit status. A [`Command`] is one of those that ask a question, with its messages.
+//! [`run_args`] runs the program on the arguments of a process. Readers and writers are a [`Source`] and a [`Sink`];
+//! [`FromRead`] and [`FromWrite`] make them from std's.
 #![tactic(auto)]
 
 mod after_command;
 mod arguments;
 mod check_command;
+mod command;
 mod cover_command;
 mod diagnosis;
 mod ever_command;
+mod findings;
 mod interface;
 mod listing_halt;
 mod listing_output;
@@ -31,19 +33,19 @@ mod unknown_names;
 pub use after_command::after;
 pub use arguments::run_args;
 pub use check_command::check_text;
+pub use command::Command;
 pub use cover_command::cover;
 pub use ever_command::ever;
+pub use findings::{Continuation, Listed, ListingPlace, Occurrence, Processes};
 pub use lotos_command::{
     AfterRequest, CommandFault, CoverRequest, DiagnoseRequest, EverRequest, Extent, Interface,
     Request, SearchRequest, request,
 };
 pub use lotos_device::{DeviceFailed, FromRead, FromWrite, Sink, Source};
 pub use lotos_listing::{NoProgress, Progress, Searched};
+pub use lotos_outcome::{Ended, Finding, Refusal, Stop};
 pub use lotos_output::OutputProgress;
-pub use lotos_report::{
-    AfterEnded, AfterWhy, Bounds, Ended, EverEnded, EverWhy, Messages, Refusal, Why,
-};
-pub use program::{
-    report_after, report_check, report_command_fault, report_ever, report_search, run,
-};
+pub use lotos_report::Messages;
+pub use program::{report_command_fault, run};
 pub use search_command::list;
+pub use search_observer::Observed;

@@ -1,25 +1,26 @@
 //! The parts of a question that the words of a command give: the pattern, the mark, and that its gates are known.
-ghost use Rattle.std.specs.Prelude.{◌≡◌, IfErr, IfOk, OnOk, false, map, string_bytes, true};
+ghost use Rattle.std.specs.Prelude.{◌≡◌, IfErr, IfOk, OnErr, OnOk, false, map, string_bytes, true};
 ghost use Rattle.lotos_check.specs.CheckedView.{system_of};
 ghost use Rattle.lotos_pattern.specs.EverPatterns.{kind_of_words};
 ghost use Rattle.lotos_pattern.specs.Spelling.{PatternOf, texts_of};
 ghost use Rattle.lotos_tool.specs.QuestionParts.{IsMarkOf, ever_words_of, words_of};
-ghost use Rattle.lotos_tool.specs.Rejections.{IsGateRejection, IsMarkRejection, IsPatternRejection, is_input_failure};
+ghost use Rattle.lotos_tool.specs.RefusalCauses.{IsGateRefusal, IsMarkRefusal, IsPatternRefusal};
+ghost use Rattle.lotos_tool.specs.Rejections.{IsRejectionBy, is_input_failure};
 ghost use Rattle.lotos_tool.specs.UnknownGates.{HasNoUnknownGate};
 
 use crate::rejection::Rejection;
 use crate::unknown_gates::first_unknown_gate_of;
 use lotos_check::Checked;
 use lotos_listing::Mark;
+use lotos_outcome::Refusal;
 use lotos_pattern::{EverPattern, Pattern};
-use lotos_report::Refusal;
 use std::alloc::{AllocError, Global};
 
 /// The pattern that the words spell, which observes internal steps if `strong` is set. Words that spell none are
 /// refused with the fault of [`Pattern::read`].
 pub fn read_pattern(alloc: Global, words: &Vec<String>, strong: bool) -> Result<Pattern, Rejection>
     ensures pattern { IfOk result (PatternOf strong (words_of words.now)) }
-    ensures rejected { IfErr result (IsPatternRejection strong (words_of words.now)) }
+    ensures rejected { IfErr result (IsRejectionBy (IsPatternRefusal strong (words_of words.now))) }
     ensures unread { is_input_failure result ≡ false }
 {
     let texts = borrow_texts(alloc, words.as_slice())?;
@@ -35,7 +36,7 @@ pub fn read_ever_pattern(
 ) -> Result<EverPattern, Rejection>
     ensures pattern { IfOk result (λ q. PatternOf strong (ever_words_of words.now) q.pattern) }
     ensures kind { IfOk result (λ q. q.kind ≡ kind_of_words (words_of words.now)) }
-    ensures rejected { IfErr result (IsPatternRejection strong (ever_words_of words.now)) }
+    ensures rejected { IfErr result (IsRejectionBy (IsPatternRefusal strong (ever_words_of words.now))) }
     ensures unread { is_input_failure result ≡ false }
 {
     let texts = borrow_texts(alloc, words.as_slice())?;
@@ -49,7 +50,7 @@ pub fn read_mark(
     strong: bool,
 ) -> Result<Option<Mark>, Rejection>
     ensures mark { IfOk result (IsMarkOf strong line.now) }
-    ensures rejected { IfErr result (IsMarkRejection strong line.now) }
+    ensures rejected { IfErr result (IsRejectionBy (IsMarkRefusal strong line.now)) }
     ensures unread { is_input_failure result ≡ false }
 {
     match line {
@@ -68,8 +69,9 @@ pub fn refuse_unknown_gates(
 ) -> Result<(), Rejection>
     ensures known { OnOk result (refuses ≡ true →
         HasNoUnknownGate (system_of system.now).formals (words_of words.now)) }
-    ensures rejected { IfErr result (λ rejection. (refuses ≡ true) ×
-        IsGateRejection (system_of system.now).formals (words_of words.now) rejection) }
+    ensures asked { OnErr result (refuses ≡ true) }
+    ensures rejected { IfErr result
+        (IsRejectionBy (IsGateRefusal (system_of system.now).formals (words_of words.now))) }
     ensures unread { is_input_failure result ≡ false }
 {
     if !refuses {

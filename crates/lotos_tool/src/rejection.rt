@@ -1,12 +1,12 @@
 //! Why a command gets no question: one of its parts is refused, or memory runs out.
 ghost use Rattle.std.specs.Prelude.{◌≡◌};
 ghost use Rattle.lotos_tool.specs.RefusalCauses.{is_memory};
-ghost use Rattle.lotos_tool.specs.Rejections.{after_end_of, end_of, ever_end_of};
+ghost use Rattle.lotos_tool.specs.Rejections.{end_of};
 
 use lotos_after::WordFault;
 use lotos_listing::MarkFault;
+use lotos_outcome::{Ended, Refusal, Stop};
 use lotos_pattern::PatternFault;
-use lotos_report::{AfterEnded, AfterWhy, Ended, EverEnded, EverWhy, Refusal, Why};
 use std::alloc::AllocError;
 
 /// Why the words and the text of a command make no question: one of them is refused, or memory ran out.
@@ -75,35 +75,15 @@ fn is_memory(fault: &PatternFault) -> bool
     matches!(fault, PatternFault::E99(_))
 }
 
-/// How a search or a check ends whose parts are rejected.
-pub fn end_of(rejection: Rejection) -> Ended
-    ensures { result ≡ end_of rejection }
+/// How a command ends whose parts are rejected. It has looked for no answer, and this is its place then.
+pub fn end_of<F, P: Drop>(rejection: Rejection, nowhere: P) -> Ended<F, P>
+    ensures { result ≡ end_of rejection nowhere }
 {
     match rejection {
         Rejection::Refused(refusal) => Ended::Refused(refusal),
         Rejection::Memory => Ended::Stopped {
-            last: None,
-            why: Why::Memory,
+            cause: Stop::Memory,
+            place: nowhere,
         },
-    }
-}
-
-/// How a search for a match ends whose parts are rejected.
-pub fn ever_end_of(rejection: Rejection) -> EverEnded
-    ensures { result ≡ ever_end_of rejection }
-{
-    match rejection {
-        Rejection::Refused(refusal) => EverEnded::Refused(refusal),
-        Rejection::Memory => EverEnded::Stopped(EverWhy::Memory),
-    }
-}
-
-/// How a command that follows a sequence ends whose parts are rejected.
-pub fn after_end_of(rejection: Rejection) -> AfterEnded
-    ensures { result ≡ after_end_of rejection }
-{
-    match rejection {
-        Rejection::Refused(refusal) => AfterEnded::Refused(refusal),
-        Rejection::Memory => AfterEnded::Stopped(AfterWhy::Memory),
     }
 }

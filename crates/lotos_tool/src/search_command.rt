@@ -1,24 +1,28 @@
 //! The command `search`, from the text to the lines of the listing.
-ghost use Rattle.std.specs.Prelude.{◌≡◌, ◌+◌, ◌≤◌, IfErr, IfOk, None, false};
+ghost use Rattle.std.specs.Prelude.{◌≡◌, ◌+◌, ◌≤◌, IfErr, IfOk, false};
 ghost use Rattle.lotos_text.specs.Limits.{max_text_length};
 ghost use Rattle.lotos_check.specs.CheckedView.{system_of};
 ghost use Rattle.lotos_command.specs.Request.{HasSearchBounds};
-ghost use Rattle.lotos_output.specs.WriteFaults.{is_output_fault};
-ghost use Rattle.lotos_tool.specs.RefusalCauses.{IsSearchRefusal};
-ghost use Rattle.lotos_tool.specs.Rejections.{IsRejectionBy, is_input_failure, is_input_fault};
-ghost use Rattle.lotos_tool.specs.SearchOutcome.{AreSearchParts, SearchOutcome};
+ghost use Rattle.lotos_device.specs.TextInput.{TakesWithin};
+ghost use Rattle.lotos_outcome.specs.Calls.{Answered, Call};
+ghost use Rattle.lotos_outcome.specs.Outcomes.{is_unwritten};
 ghost use Rattle.lotos_output.specs.ItemRuns.{runs_view};
 ghost use Rattle.lotos_output.specs.NamedRuns.{writes_runs};
 ghost use Rattle.lotos_tool.specs.ListingQuestions.{ListingState, depth_state, length_state};
+ghost use Rattle.lotos_tool.specs.RefusalCauses.{IsSearchRefusal};
+ghost use Rattle.lotos_tool.specs.Rejections.{IsRejectionBy, is_input_failure};
+ghost use Rattle.lotos_tool.specs.SearchOutcome.{AreSearchParts, IsSearchAskedOf, IsSearchFor, search_answering, search_meaning};
 ghost use Rattle.lotos_tool.specs.WrittenItems.{AreRunsFor};
-ghost use Rattle.lotos_tool.specs.SearchParts.{IsOutcomeFor, IsSearchFor};
 ghost use Rattle.lotos_command.specs.declared.command.Extent.TheVariants.{Depth, Length};
-ghost use Rattle.lotos_report.specs.declared.outcome.Ended.TheVariants.{Stopped};
-ghost use Rattle.lotos_report.specs.declared.outcome.Why.TheVariants.{Memory};
 
-use crate::listing_output::{ListingOptions, write_listing};
+use crate::command::Command;
+use crate::findings::{Listed, ListingPlace};
+use crate::listing_output::{
+    ListingOptions, nowhere, report_listing, unstarted, write_listing,
+};
 use crate::question_parts::{read_mark, read_pattern, refuse_unknown_gates};
 use crate::rejection::{Rejection, end_of};
+use crate::search_observer::Observed;
 use crate::specification_input::read_asked;
 use lotos_check::Checked;
 use lotos_command::{Extent, Runs, SearchRequest};
@@ -26,15 +30,17 @@ use lotos_device::{Sink, Source};
 use lotos_ever::laws::match_question_is_unique;
 use lotos_length::LengthSearch;
 use lotos_length::laws::begun_length_search_has_question;
-use lotos_listing::Mark;
+use lotos_listing::{Mark, Searched};
 use lotos_normal::NormalTable;
+use lotos_outcome::Ended;
 use lotos_output::{ItemRuns, OutputProgress};
 use lotos_pattern::Pattern;
-use lotos_report::{Ended, Why};
+use lotos_report::{AskedWords, Visited, WordCommand};
 use lotos_search::Search;
 use lotos_search::laws::begun_search_has_question;
 use lotos_terms::Table;
 use std::alloc::{AllocError, Global};
+use std::io::Write;
 
 /// Reads a specification and writes the listing of its sequences that match the request's pattern: what is observed of
 /// its derivations of at most the request's depth of steps, or, if it has a length in place of a depth, the sequences
@@ -58,19 +64,16 @@ pub fn list<R: Source, W: Sink, P: OutputProgress>(
     reader: &mut R,
     writer: &mut W,
     progress: &mut P,
-) -> Ended
+) -> Ended<Listed, ListingPlace>
     requires bounds { HasSearchBounds request.now }
-    requires reader { R.has_failed reader.old ≡ false }
-    requires writer { W.has_failed writer.old ≡ false }
-    ensures answers { SearchOutcome request.now (R.remaining reader.old) (R.remaining reader.new)
-        (W.written writer.old) (W.written writer.new) result }
-    ensures given { R.given reader.new ≤ R.given reader.old + (max_text_length + 1) }
-    ensures input { R.has_failed reader.new ≡ is_input_fault result }
-    ensures output { W.has_failed writer.new ≡ is_output_fault result }
+    requires reader { (R.state reader.old).has_failed ≡ false }
+    requires writer { (W.state writer.old).has_failed ≡ false }
+    ensures call { Call (search_meaning request.now) (R.state reader.old) (R.state reader.new)
+        (W.state writer.old) (W.state writer.new) result }
 {
     match read_parts(alloc, request, reader, progress) {
         Ok(parts) => list_system(alloc, request, parts, writer, progress),
-        Err(rejection) => end_of(rejection),
+        Err(rejection) => end_of(rejection, nowhere()),
     }
 }
 
@@ -93,14 +96,13 @@ fn read_parts<R: Source, P: OutputProgress>(
     reader: &mut R,
     progress: &mut P,
 ) -> Result<SearchParts, Rejection>
-    requires reader { R.has_failed reader.old ≡ false }
-    ensures parts { IfOk result (λ parts.
-        AreSearchParts request.now (R.remaining reader.old) (R.remaining reader.new) (system_of parts.system)
-        parts.pattern parts.mark) }
-    ensures rejected { IfErr result (IsRejectionBy (IsSearchRefusal request.now)
-        (R.remaining reader.old) (R.remaining reader.new)) }
-    ensures given { R.given reader.new ≤ R.given reader.old + (max_text_length + 1) }
-    ensures failed { R.has_failed reader.new ≡ is_input_failure result }
+    requires reader { (R.state reader.old).has_failed ≡ false }
+    ensures parts { IfOk result (λ parts. AreSearchParts request.now (R.state reader.old).remaining
+        (R.state reader.new).remaining (system_of parts.system) parts.pattern parts.mark) }
+    ensures rejected { IfErr result (IsRejectionBy (IsSearchRefusal request.now
+        (R.state reader.old).remaining (R.state reader.new).remaining)) }
+    ensures takes { TakesWithin (R.state reader.old) (R.state reader.new) (max_text_length + 1) }
+    ensures failed { (R.state reader.new).has_failed ≡ is_input_failure result }
 {
     let pattern = read_pattern(alloc, &request.words, request.strong)?;
     let mark = read_mark(alloc, &request.after, request.strong)?;
@@ -120,16 +122,17 @@ fn list_system<W: Sink, P: OutputProgress>(
     parts: SearchParts,
     writer: &mut W,
     progress: &mut P,
-) -> Ended
+) -> Ended<Listed, ListingPlace>
     requires bounds { HasSearchBounds request.now }
-    requires writer { W.has_failed writer.old ≡ false }
-    ensures outcome { IsOutcomeFor request.now (system_of parts.system) parts.pattern parts.mark
-        (W.written writer.old) (W.written writer.new) result }
-    ensures failed { W.has_failed writer.new ≡ is_output_fault result }
+    requires writer { (W.state writer.old).has_failed ≡ false }
+    ensures ends { Answered (search_answering request.now)
+        (IsSearchAskedOf request.now (system_of parts.system) parts.pattern parts.mark)
+        (W.state writer.old).written (W.state writer.new).written result }
+    ensures failed { (W.state writer.new).has_failed ≡ is_unwritten result }
 {
     match begin_runs(alloc, request, &parts) {
         Ok(mut runs) => list_items(alloc, request, parts, &mut runs, writer, progress),
-        Err(AllocError) => out_of_memory(),
+        Err(AllocError) => unstarted(),
     }
 }
 
@@ -141,15 +144,16 @@ fn list_items<W: Sink, P: OutputProgress>(
     runs: &mut ItemRuns,
     writer: &mut W,
     progress: &mut P,
-) -> Ended
+) -> Ended<Listed, ListingPlace>
     requires bounds { HasSearchBounds request.now }
     requires runs { (search : ListingState) →
         IsSearchFor request.now (system_of parts.system) parts.pattern parts.mark search →
         AreRunsFor search.question request.now.runs (runs_view runs.old) }
-    requires writer { W.has_failed writer.old ≡ false }
-    ensures outcome { IsOutcomeFor request.now (system_of parts.system) parts.pattern parts.mark
-        (W.written writer.old) (W.written writer.new) result }
-    ensures failed { W.has_failed writer.new ≡ is_output_fault result }
+    requires writer { (W.state writer.old).has_failed ≡ false }
+    ensures ends { Answered (search_answering request.now)
+        (IsSearchAskedOf request.now (system_of parts.system) parts.pattern parts.mark)
+        (W.state writer.old).written (W.state writer.new).written result }
+    ensures failed { (W.state writer.new).has_failed ≡ is_unwritten result }
 {
     let options = ListingOptions {
         runs: request.runs,
@@ -158,11 +162,11 @@ fn list_items<W: Sink, P: OutputProgress>(
     match request.extent {
         Extent::Depth(depth) => match begin_by_depth(alloc, request, depth, parts) {
             Ok(mut search) => write_listing(alloc, options, runs, &mut search, writer, progress),
-            Err(AllocError) => out_of_memory(),
+            Err(AllocError) => unstarted(),
         },
         Extent::Length(length) => match begin_by_length(alloc, request, length, parts) {
             Ok(mut search) => write_listing(alloc, options, runs, &mut search, writer, progress),
-            Err(AllocError) => out_of_memory(),
+            Err(AllocError) => unstarted(),
         },
     }
 }
@@ -246,12 +250,47 @@ fn writes_runs(runs: Runs) -> bool
     }
 }
 
-/// The outcome if memory runs out before the listing begins.
-pub(crate) fn out_of_memory() -> Ended
-    ensures { result ≡ Stopped None Memory }
-{
-    Ended::Stopped {
-        last: None,
-        why: Why::Memory,
+impl Command for SearchRequest {
+    ghost use Rattle.lotos_command.specs.Request.{HasSearchBounds};
+    ghost use Rattle.lotos_tool.specs.SearchOutcome.{search_meaning};
+
+    type Found = Listed;
+
+    type Place = ListingPlace;
+
+    ghost is_bounded = { HasSearchBounds };
+
+    ghost meaning = { search_meaning };
+
+    fn answer<R: Source, W: Sink, P: OutputProgress>(
+        &self,
+        alloc: Global,
+        reader: &mut R,
+        writer: &mut W,
+        progress: &mut P,
+    ) -> Ended<Listed, ListingPlace> {
+        list(alloc, self, reader, writer, progress)
+    }
+
+    fn observed(&self) -> Observed<'_> {
+        Observed {
+            words: Some(AskedWords {
+                command: WordCommand::Search,
+                words: self.words.as_slice(),
+                refuses_unknown: self.known,
+            }),
+            interface: &self.interface,
+            reports_progress: self.progress,
+            visited: Visited::Prefixes,
+        }
+    }
+
+    fn report<E: Write>(
+        &self,
+        ended: &Ended<Listed, ListingPlace>,
+        _searched: &Option<Searched>,
+        err: &mut E,
+    ) {
+        report_listing(ended, self.terms, err);
     }
 }

@@ -6,20 +6,18 @@ use lotos_command::Interface;
 use lotos_listing::{Progress, Searched};
 use lotos_output::OutputProgress;
 use lotos_report::{
-    Messages, NameHint, NamePlaces, ProgressReport, Visited, first_name_hint, warn_of_names,
+    AskedWords, Messages, NameHint, NamePlaces, ProgressReport, Visited, first_name_hint, warn_of_names,
 };
 use std::alloc::Global;
 use std::io::Write;
 
 /// What an observer has to know of a request.
 #[derive(Clone, Copy, Debug)]
-pub(crate) struct Observed<'a> {
-    /// The words of the pattern.
-    pub words: &'a [String],
+pub struct Observed<'a> {
+    /// The words that may name gates, if the command has any.
+    pub words: Option<AskedWords<'a>>,
     /// Which gates of the specification's own list the question is about.
     pub interface: &'a Interface,
-    /// Whether words that name no gate of the specification are refused.
-    pub refuses_unknown: bool,
     /// Whether reports of progress are asked for.
     pub reports_progress: bool,
     pub visited: Visited,
@@ -100,8 +98,11 @@ impl<E: Write> OutputProgress for SearchObserver<'_, '_, E> {
     }
 
     fn accepted(&mut self, text: &[u8], accepted_text: &AcceptedText) {
+        let Some(asked) = self.observed.words else {
+            return;
+        };
         let gates = accepted_text.system.gates();
-        let Ok(names) = unknown_names(self.alloc, self.observed.words, gates) else {
+        let Ok(names) = unknown_names(self.alloc, asked.words, gates) else {
             return;
         };
         let places = NamePlaces {
@@ -110,7 +111,7 @@ impl<E: Write> OutputProgress for SearchObserver<'_, '_, E> {
             specification: &accepted_text.specification,
             interface: self.observed.interface,
         };
-        if self.observed.refuses_unknown {
+        if asked.refuses_unknown {
             self.hint = first_name_hint(self.alloc, names.as_slice(), &places);
         } else {
             warn_of_names(

@@ -5,17 +5,17 @@ ghost use Rattle.lotos_check.specs.AcceptedText.{Accepted, IsRejectedFor, IsReje
 ghost use Rattle.lotos_check.specs.CheckedView.{system_of};
 ghost use Rattle.lotos_check.specs.FaultOffsets.{offset_of};
 ghost use Rattle.lotos_tool.specs.QuestionParts.{ReadsAccepted, ReadsAsked};
-ghost use Rattle.lotos_tool.specs.RefusalCauses.{IsInputRefusal, IsInterfaceRefusal, IsPositionOf};
-ghost use Rattle.lotos_device.specs.TextInput.{ReadsAll};
-ghost use Rattle.lotos_tool.specs.Rejections.{IsAskedOf, IsAskedRejection, IsRejection, IsRejectionBy, is_input_failure};
+ghost use Rattle.lotos_tool.specs.RefusalCauses.{IsAskedRefusal, IsInputRefusal, IsInterfaceRefusal, IsPositionOf, IsTextRefusal};
+ghost use Rattle.lotos_device.specs.TextInput.{ReadsAll, TakesWithin};
+ghost use Rattle.lotos_tool.specs.Rejections.{IsAskedOf, IsRejectionBy, is_input_failure};
 
 use crate::interface::seen_through;
 use crate::rejection::Rejection;
 use lotos_check::{AcceptFault, AcceptedText, CheckFault, Checked, accept};
 use lotos_command::Interface;
 use lotos_device::{ReadFault, Source, read_text};
+use lotos_outcome::Refusal;
 use lotos_output::OutputProgress;
-use lotos_report::Refusal;
 use lotos_text::{TEXT_LIMIT, TextFault, line_column};
 use std::alloc::Global;
 
@@ -23,13 +23,13 @@ use std::alloc::Global;
 /// taken from the reader, whatever it returns. The text is refused with E47 if the reader fails, with E03 if it is too
 /// long, and otherwise with the fault of the parser or of the static check.
 pub fn read_specification<R: Source>(alloc: Global, reader: &mut R) -> Result<Checked, Rejection>
-    requires { R.has_failed reader.old ≡ false }
+    requires { (R.state reader.old).has_failed ≡ false }
     ensures accepted { IfOk result (λ system.
-        ReadsAccepted (R.remaining reader.old) (R.remaining reader.new) (system_of system)) }
+        ReadsAccepted (R.state reader.old).remaining (R.state reader.new).remaining (system_of system)) }
     ensures refused { IfErr result
-        (IsRejectionBy IsInputRefusal (R.remaining reader.old) (R.remaining reader.new)) }
-    ensures given { R.given reader.new ≤ R.given reader.old + (max_text_length + 1) }
-    ensures failed { R.has_failed reader.new ≡ is_input_failure result }
+        (IsRejectionBy (IsInputRefusal (R.state reader.old).remaining (R.state reader.new).remaining)) }
+    ensures takes { TakesWithin (R.state reader.old) (R.state reader.new) (max_text_length + 1) }
+    ensures failed { (R.state reader.new).has_failed ≡ is_input_failure result }
 {
     let text = read_input(alloc, reader)?;
     let accepted_text = accept_text(alloc, text.as_slice())?;
@@ -46,13 +46,13 @@ pub fn read_asked<R: Source, P: OutputProgress>(
     reader: &mut R,
     progress: &mut P,
 ) -> Result<Checked, Rejection>
-    requires { R.has_failed reader.old ≡ false }
+    requires { (R.state reader.old).has_failed ≡ false }
     ensures accepted { IfOk result (λ system.
-        ReadsAsked interface.now (R.remaining reader.old) (R.remaining reader.new) (system_of system)) }
-    ensures refused { IfErr result (IsRejectionBy (IsInterfaceRefusal interface.now)
-        (R.remaining reader.old) (R.remaining reader.new)) }
-    ensures given { R.given reader.new ≤ R.given reader.old + (max_text_length + 1) }
-    ensures failed { R.has_failed reader.new ≡ is_input_failure result }
+        ReadsAsked interface.now (R.state reader.old).remaining (R.state reader.new).remaining (system_of system)) }
+    ensures refused { IfErr result (IsRejectionBy (IsInterfaceRefusal interface.now
+        (R.state reader.old).remaining (R.state reader.new).remaining)) }
+    ensures takes { TakesWithin (R.state reader.old) (R.state reader.new) (max_text_length + 1) }
+    ensures failed { (R.state reader.new).has_failed ≡ is_input_failure result }
 {
     progress.before_text();
     let text = read_input(alloc, reader)?;
@@ -64,13 +64,13 @@ pub fn read_asked<R: Source, P: OutputProgress>(
 /// Reads a whole text. At most one byte more than a text may have is taken from the reader, whatever it returns. The
 /// text is refused with E47 if the reader fails, and with E03 if it is too long.
 pub fn read_input<R: Source>(alloc: Global, reader: &mut R) -> Result<Vec<u8>, Rejection>
-    requires { R.has_failed reader.old ≡ false }
+    requires { (R.state reader.old).has_failed ≡ false }
     ensures whole { IfOk result (λ text.
-        ReadsAll (R.remaining reader.old) (R.remaining reader.new) max_text_length text.items) }
+        ReadsAll (R.state reader.old).remaining (R.state reader.new).remaining max_text_length text.items) }
     ensures refused { IfErr result
-        (IsRejectionBy IsInputRefusal (R.remaining reader.old) (R.remaining reader.new)) }
-    ensures given { R.given reader.new ≤ R.given reader.old + (max_text_length + 1) }
-    ensures failed { R.has_failed reader.new ≡ is_input_failure result }
+        (IsRejectionBy (IsInputRefusal (R.state reader.old).remaining (R.state reader.new).remaining)) }
+    ensures takes { TakesWithin (R.state reader.old) (R.state reader.new) (max_text_length + 1) }
+    ensures failed { (R.state reader.new).has_failed ≡ is_input_failure result }
 {
     match read_text(alloc, reader, TEXT_LIMIT) {
         Ok(text) => Ok(text),
@@ -87,7 +87,7 @@ pub fn read_input<R: Source>(alloc: Global, reader: &mut R) -> Result<Vec<u8>, R
 fn accept_text(alloc: Global, text: &[u8]) -> Result<AcceptedText, Rejection>
     requires { length text.now ≤ max_text_length }
     ensures accepted { IfOk result (λ accepted_text. Accepted text.now (system_of accepted_text.system)) }
-    ensures refused { IfErr result (IsRejection text.now) }
+    ensures refused { IfErr result (IsRejectionBy (IsTextRefusal text.now)) }
 {
     match accept(alloc, text) {
         Ok(accepted_text) => Ok(accepted_text),
@@ -104,7 +104,7 @@ fn accept_asked(
     requires { length text.now ≤ max_text_length }
     ensures accepted { IfOk result (λ asked_text.
         IsAskedOf interface.now text.now (system_of asked_text.system)) }
-    ensures refused { IfErr result (IsAskedRejection interface.now text.now) }
+    ensures refused { IfErr result (IsRejectionBy (IsAskedRefusal interface.now text.now)) }
     ensures unread { is_input_failure result ≡ false }
 {
     let AcceptedText {
@@ -122,7 +122,7 @@ fn accept_asked(
 pub fn reject(text: &[u8], fault: AcceptFault) -> Rejection
     requires fault { IsRejectedFor text.now fault }
     requires inside { IfSome (accept_offset fault) (λ at. at ≤ length text.now) }
-    ensures { IsRejection text.now result }
+    ensures { IsRejectionBy (IsTextRefusal text.now) result }
 {
     let position = position_of(text, &fault);
     match fault {
@@ -139,7 +139,7 @@ pub fn reject(text: &[u8], fault: AcceptFault) -> Rejection
 fn reject_check(text: &[u8], fault: CheckFault, position: Option<(usize, usize)>) -> Rejection
     requires fault { IsRejectedSpecification text.now fault }
     requires position { IsPositionOf text.now (offset_of fault) position }
-    ensures { IsRejection text.now result }
+    ensures { IsRejectionBy (IsTextRefusal text.now) result }
 {
     match position {
         Some((line, column)) => Rejection::Refused(Refusal::Check {

@@ -6,8 +6,8 @@ use Rattle.lotos_device.proofs.byte_output.write_bytes.Given as goal
 abbrev pub invariant-loop-at : goal.invariant-loop-at
 invariant-loop-at g l = record {
   within : l.at ≤ length l.bytes;
-  written : Appends (g.W.Sink.written l.fn.writer) (g.W.Sink.written l.writer) (take l.at l.bytes);
-  unfailed : g.W.Sink.has_failed l.writer ≡ false;
+  written : Appends (g.W.Sink.state l.fn.writer).written (g.W.Sink.state l.writer).written (take l.at l.bytes);
+  unfailed : (g.W.Sink.state l.writer).has_failed ≡ false;
 }
 
 -- the bytes that are left

@@ -5,10 +5,10 @@ use Rattle.lotos_device.proofs.text_input.read_text.Given as goal
 -- the text so far is what was taken and all that was given, it is not too long, and no read has failed
 abbrev pub invariant-loop-text : goal.invariant-loop-text
 invariant-loop-text g l = record {
-  taken : Consumes (g.R.Source.remaining l.fn.reader) (g.R.Source.remaining l.reader) l.text.items;
-  given : g.R.Source.given l.reader ≡ g.R.Source.given l.fn.reader + length l.text.items;
+  taken : Consumes (g.R.Source.state l.fn.reader).remaining (g.R.Source.state l.reader).remaining l.text.items;
+  given : (g.R.Source.state l.reader).given ≡ (g.R.Source.state l.fn.reader).given + length l.text.items;
   within : length l.text.items ≤ l.fn.limit;
-  unfailed : g.R.Source.has_failed l.reader ≡ false;
+  unfailed : (g.R.Source.state l.reader).has_failed ≡ false;
 }
 
 -- the bytes that may still be taken

@@ -6,9 +6,10 @@ use Rattle.lotos_pattern.specs.Patterns.{Pattern}
 use Rattle.lotos_after.specs.Behaviours.{IsFirstOversized}
 use Rattle.lotos_after.specs.Following.{IfTooMany, behaviour_of}
 use Rattle.lotos_after.specs.declared.follow_fault.FollowFault.TheVariants.{Memory}
-use Rattle.lotos_tool.specs.AfterParts.{HasNoAnswer, IsAfterQuestionFor}
+use Rattle.lotos_tool.specs.AfterOutcome.{IsAfterQuestionOf}
+use Rattle.lotos_tool.specs.AfterParts.{HasNoAnswer}
 use Rattle.lotos_tool.specs.QuestionParts.{words_of}
-use Rattle.lotos_tool.proofs.AfterOutcomes.{behaviour_is, err_more, no_answer}
+use Rattle.lotos_tool.proofs.AfterAnswers.{behaviour_is, err_more, no_answer}
 use Rattle.lotos_tool.proofs.KnownWords.{have_gates}
 use Rattle.lotos_tool.proofs.after_command.find_answer.Goals as goal
 
@@ -24,34 +25,38 @@ follow_words-requires g c =
     }
 
 pub returns-in_err-table-clause-none : goal.returns-in_err-table-clause-none
-returns-in_err-table-clause-none g c s sequence =
-    passed_on (HasNoAnswer c.args.request.now (system_of c.args.system) s) c.from_residual.result Memory c.from_residual.ensures.1 tt
+returns-in_err-table-clause-none g c =
+    passed_on (HasNoAnswer c.args.request.now (system_of c.args.system)) c.from_residual.result Memory c.from_residual.ensures.1 tt
 
 pub returns-clause-answer : goal.returns-clause-answer
-returns-clause-answer g c s sequence =
+returns-clause-answer g c =
+    let (s, sequence) = c.requires.sequence in
     let request = c.args.request.now in
     let system = system_of c.args.system in
     let v = c.new-sets.result in
     let p : Pattern = record { elements = []; strong = request.strong } in
     let is = c.table_has_match_question.ensures system c.in_ok-table.table p c.in_ok-table.ensures c.recall_sound.ensures.sound in
-    let asked : IsAfterQuestionFor request system (behaviour_of v) = record {
+    let asked : IsAfterQuestionOf request system (record { behaviour = behaviour_of v; sequence = s }) = record {
       behaviour = behaviour_is system c.in_ok-table.table p v is c.new-sets.ensures.table c.new-sets.ensures.start;
       strong = c.new-sets.ensures.strong;
+      sequence = sequence;
     } in
-    IfOk-weaker c.follow_words.result _ _ (λ a h. (behaviour_of v, asked, h))
+    IfOk-weaker c.follow_words.result _ _ (λ a h. (record { behaviour = behaviour_of v; sequence = s }, asked, h))
     (c.follow_words.ensures.answer request.strong s (rw c.as_slice.ensures.value sequence.named))
 
 pub returns-clause-none : goal.returns-clause-none
-returns-clause-none g c s sequence =
+returns-clause-none g c =
+    let (s, sequence) = c.requires.sequence in
     let request = c.args.request.now in
     let system = system_of c.args.system in
     let v = c.new-sets.result in
     let p : Pattern = record { elements = []; strong = request.strong } in
     let is = c.table_has_match_question.ensures system c.in_ok-table.table p c.in_ok-table.ensures c.recall_sound.ensures.sound in
-    let asked : IsAfterQuestionFor request system (behaviour_of v) = record {
+    let asked : IsAfterQuestionOf request system (record { behaviour = behaviour_of v; sequence = s }) = record {
       behaviour = behaviour_is system c.in_ok-table.table p v is c.new-sets.ensures.table c.new-sets.ensures.start;
       strong = c.new-sets.ensures.strong;
+      sequence = sequence;
     } in
-    err_more c.follow_words.result (λ f. IfTooMany f (IsFirstOversized (behaviour_of v) v.bound s)) (HasNoAnswer request system s)
-    (no_answer request system s (behaviour_of v) v.bound asked c.new-sets.ensures.bound)
+    err_more c.follow_words.result (λ f. IfTooMany f (IsFirstOversized (behaviour_of v) v.bound s)) (HasNoAnswer request system)
+    (no_answer request system (behaviour_of v) s v.bound asked c.new-sets.ensures.bound)
     (c.follow_words.ensures.none request.strong s (rw c.as_slice.ensures.value sequence.named))

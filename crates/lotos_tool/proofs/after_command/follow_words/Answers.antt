@@ -6,7 +6,7 @@ use Rattle.lotos_after.specs.Behaviours.{IsFirstOversized}
 use Rattle.lotos_after.specs.Following.{IfTooMany, behaviour_of}
 use Rattle.lotos_after.specs.declared.follow_fault.FollowFault.TheVariants.{Memory}
 use Rattle.lotos_after.proofs.TakenLabels.{printed_length}
-use Rattle.lotos_tool.proofs.AfterOutcomes.{answered, too_many_here}
+use Rattle.lotos_tool.proofs.AfterAnswers.{answered, too_many_here}
 use Rattle.lotos_tool.proofs.after_command.follow_words.Goals as goal
 
 pub labels_of_words-requires : goal.labels_of_words-requires

@@ -1,5 +1,5 @@
 use Rattle.lotos_check.specs.CheckedView.{system_of}
-use Rattle.lotos_tool.proofs.CoverOutcomes.{cover_asked_of}
+use Rattle.lotos_tool.proofs.ListingRequests.{cover_asked_of}
 use Rattle.lotos_tool.proofs.cover_command.begin_cover.Goals as goal
 
 pub returns : goal.returns

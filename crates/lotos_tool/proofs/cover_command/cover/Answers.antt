@@ -1,12 +1,15 @@
-use Rattle.std.proofs.Common.{◌∙◌, sym}
 use Rattle.lotos_check.specs.CheckedView.{system_of}
-use Rattle.lotos_tool.proofs.CoverOutcomes.{cover_told, cover_was_read}
+use Rattle.lotos_tool.specs.CoverOutcome.{cover_meaning}
+use Rattle.lotos_tool.proofs.CallEnds.{call_answered, call_rejected}
 use Rattle.lotos_tool.proofs.cover_command.cover.Goals as goal
 
-pub returns-in-Ok-clause-answers : goal.returns-in-Ok-clause-answers
-returns-in-Ok-clause-answers g c =
-    cover_told c.args.request.now _ _ _ _ (system_of c.in-Ok.system) c.in-Ok.mark c.cover_system.result c.in-Ok.ensures.parts c.cover_system.ensures.outcome
+pub returns-in-Ok : goal.returns-in-Ok
+returns-in-Ok g c =
+    call_answered (cover_meaning c.args.request.now) _ _ _ _ _ c.cover_system.result
+    (λ asked is. record { system = system_of c.in-Ok.system; mark = c.in-Ok.mark; parts = c.in-Ok.ensures.parts; asks = is })
+    c.in-Ok.ensures.takes c.in-Ok.ensures.failed c.cover_system.ensures.ends c.cover_system.ensures.failed
 
-pub returns-in-Ok-clause-input : goal.returns-in-Ok-clause-input
-returns-in-Ok-clause-input g c =
-    c.in-Ok.ensures.failed ∙ sym (cover_was_read c.args.request.now _ _ _ _ c.cover_system.result c.cover_system.ensures.outcome)
+pub returns-in-Err : goal.returns-in-Err
+returns-in-Err g c =
+    call_rejected (cover_meaning c.args.request.now) _ _ _ _ c.in-Err.rejection c.nowhere.result c.end_of.result c.end_of.ensures c.nowhere.ensures
+    c.in-Err.ensures.rejected c.in-Err.ensures.takes c.in-Err.ensures.failed c.requires.writer

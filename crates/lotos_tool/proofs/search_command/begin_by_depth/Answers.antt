@@ -1,6 +1,6 @@
 use Rattle.std.proofs.lemmas.Result.{IfOk-weaker}
 use Rattle.lotos_check.specs.CheckedView.{system_of}
-use Rattle.lotos_tool.proofs.SearchOutcomes.{asked_of}
+use Rattle.lotos_tool.proofs.ListingRequests.{asked_of}
 use Rattle.lotos_tool.proofs.search_command.begin_by_depth.Goals as goal
 
 pub returns : goal.returns

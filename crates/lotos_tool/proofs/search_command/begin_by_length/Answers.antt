@@ -1,6 +1,6 @@
 use Rattle.std.proofs.lemmas.Result.{IfOk-weaker}
 use Rattle.lotos_check.specs.CheckedView.{system_of}
-use Rattle.lotos_tool.proofs.SearchOutcomes.{length_asked_of}
+use Rattle.lotos_tool.proofs.ListingRequests.{length_asked_of}
 use Rattle.lotos_tool.proofs.search_command.begin_by_length.Goals as goal
 
 pub returns : goal.returns

@@ -1,5 +1,5 @@
 use Rattle.lotos_check.specs.CheckedView.{system_of}
-use Rattle.lotos_tool.proofs.SearchOutcomes.{runs_begun}
+use Rattle.lotos_tool.proofs.ListingRequests.{runs_begun}
 use Rattle.lotos_tool.proofs.search_command.begin_runs.Goals as goal
 
 pub returns : goal.returns

@@ -1,6 +1,6 @@
 //! Why a command is refused.
 
-use crate::messages::{GivenName, PositionText};
+use crate::shown::{GivenName, PositionText};
 use lotos_check::CheckFault;
 use lotos_listing::MarkFault;
 use lotos_pattern::PatternFault;
