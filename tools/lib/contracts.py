@@ -48,10 +48,10 @@ class Module:
                 yield Function(self, owner, it.group(2), self.comment_above(it.start()), list(clauses_in(self.code[it.end() : end])))
 
     def comment_above(self, place):
-        """The paragraphs of the comment that ends above a place, each as one line."""
+        """The paragraphs of the comment that ends above a place, each as one line; lines with two slashes are no part of it."""
         lines = []
         for line in reversed(self.text[:place].split("\n")[:-1]):
-            if not re.match(r"\s*(///|#\[)", line):
+            if not re.match(r"\s*(//|#\[)", line):
                 break
             lines += re.findall(r"^\s*/// ?(.*)", line)
         return [" ".join(paragraph.split()) for paragraph in "\n".join(reversed(lines)).split("\n\n")]

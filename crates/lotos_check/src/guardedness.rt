@@ -43,6 +43,8 @@ pub(crate) fn rank_processes(alloc: Global, processes: &[Process]) -> Result<Ran
 ///
 /// Each process of the order comes after those that it calls, so that the pass along it ranks all that can be ranked.
 /// The first round then finds none left.
+// So the time grows with the processes and their calls alone. The proof rests on the rounds, and needs of the order
+// only that its numbers are those of processes.
 fn assign_ranks(edges: &[Vec<usize>], order: &[usize], ranks: &mut [Option<usize>])
     requires in_range { CallsInRange (map (λ v. v.items) edges.now) }
     requires begin { AreConsistentRanks (map (λ v. v.items) edges.now) ranks.old 0 }

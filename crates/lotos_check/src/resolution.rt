@@ -24,6 +24,8 @@ use std::alloc::Global;
 /// Resolves a behaviour, given the visible processes and the gates in scope. Fails at the first name in the order of
 /// the text that breaks a rule: with E22 or E23 at a call, with E21 at a gate. Unless it fails, the gates in scope are
 /// unchanged.
+// Calls by number, the functionality and the first `>>` whose left operand never terminates are found in one pass, so
+// that no name is looked up twice. The functionality is compared afterwards.
 pub(crate) fn resolve<'a>(
     alloc: Global,
     scopes: &[IndexMap<&'a str, Binding<'a>>],

@@ -23,6 +23,8 @@ pub(crate) enum Finding {
 
 /// An origin of an internal step from the term to the target. Terms without a number get one. If an allocation fails,
 /// the table may have grown all the same.
+// A loop goes down the terms, as the chain of relabellings that a run leaves may be as long as it likes. A table knows
+// the steps of parts, so that no step is computed anew.
 pub fn internal_origin(
     alloc: Global,
     table: &mut NormalTable,

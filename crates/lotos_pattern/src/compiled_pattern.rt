@@ -17,6 +17,7 @@ use std::marker::Model;
 /// A pattern compiled against a list of labels: a deterministic automaton that is made as far as it is asked for. Each
 /// place that has come up has a number, and for each place and each label the place that follows is computed once. So
 /// memory grows with the places that come up, and is four bytes for each label of one from which a label was followed.
+// With `<while>` and sets a pattern can have more places than memory has room for, and a search meets few of them.
 #[derive(Drop)]
 pub struct CompiledPattern {
     pattern: Pattern,
@@ -106,6 +107,8 @@ impl CompiledPattern {
 
     /// The place after one more label, given by its number; `None` if no sequence that the pattern matches goes on like
     /// this. What was asked before is looked up.
+    // What is known is returned without an allocation or a hash. If memory runs out at a new step, all that was known
+    // still is, and the same call can be made again.
     #[inline(always)]
     pub fn step(
         &mut self,

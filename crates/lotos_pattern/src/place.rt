@@ -13,6 +13,8 @@ const BITS: usize = 64;
 
 /// How much of a pattern a sequence has matched so far: a set of NFA states. A place is only valid for the pattern that
 /// returned it.
+// The array has a fixed size, so that no step allocates, and a bit for each state, so that a step goes from one state
+// that is reached to the next.
 #[derive(Clone, Copy, Debug, PartialEq, Eq, Hash)]
 pub struct Place {
     /// For each state a bit, from the lowest of the first word on. State `k` means that `k` elements are done.

@@ -8,6 +8,8 @@ use std::marker::Model;
 
 /// For each place a row, which has an entry for each label; a row is empty until something of it is stored. An entry is
 /// 0 if nothing is known, 1 if the label leads to no place, and `n + 2` if it leads to the place with the number `n`.
+// A row is that of a place and not of an NFA state, so that one entry is read and not one for each of up to 257 states.
+// The step to a number that does not fit in 32 bits is computed again whenever it is asked for: no failure is made up.
 #[derive(Drop)]
 pub(crate) struct StepRows {
     alloc: Global,

@@ -14,6 +14,9 @@ use std::alloc::{AllocError, Global};
 ///
 /// Rounds over all processes add to the set, until one adds none. A pass backwards comes before them: processes mostly
 /// call later ones, and a chain of those would take a round for each.
+// A chain of calls takes one pass and one round, whichever way it goes. Calls in no order can still take as many rounds
+// as there are processes; to count the calls for which each process waits would be linear there, at the price of a
+// larger proof.
 pub(crate) fn exiting_processes(
     alloc: Global,
     processes: &[Process],
