@@ -32,12 +32,12 @@ pub record Meaning (F P : Type 0) : Type 1 where
 
 -- one of these questions is asked, and exactly the bytes of which `Said` holds were written
 pub record IsWritten {Q : Type 0} (Asked : Q → Type 0) (Said : Q → List ℕ → Type 0) (got got' : Option (List ℕ)) : Type 0
-    where
-  pub question : Q
-  pub bytes : List ℕ
-  pub asked : Asked question
-  pub said : Said question bytes
-  pub written : Appends got got' bytes
+  where
+    pub question : Q
+    pub bytes : List ℕ
+    pub asked : Asked question
+    pub said : Said question bytes
+    pub written : Appends got got' bytes
 
 -- what each end of a call means, if `Refuses` is why it is refused and `Asked` holds of the question: all was found and
 -- written; or it is refused, and nothing was written; or it stopped where it may, with what was written until then. If

@@ -63,13 +63,7 @@ impl<F: Finding, P> Ended<F, P> {
         ensures output { is_unwritten self.now ≡ (result == 6) }
     {
         match self {
-            Ended::Done(found) => {
-                if found.is_yes() {
-                    0
-                } else {
-                    1
-                }
-            }
+            Ended::Done(found) => { if found.is_yes() { 0 } else { 1 } }
             Ended::Refused(_) => 2,
             Ended::Stopped { cause, .. } => cause.status(),
         }

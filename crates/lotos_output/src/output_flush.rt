@@ -34,7 +34,12 @@ pub fn write_and_flush<W: Sink>(writer: &mut W, bytes: &[u8]) -> Result<(), Devi
 
 /// Writes the bytes, which are all that a command writes, and flushes them. The command ends with what it found, or, if
 /// the output fails, at this place.
-pub fn write_whole<F: Drop, P: Drop, W: Sink>(writer: &mut W, bytes: &[u8], found: F, place: P) -> Ended<F, P>
+pub fn write_whole<F: Drop, P: Drop, W: Sink>(
+    writer: &mut W,
+    bytes: &[u8],
+    found: F,
+    place: P,
+) -> Ended<F, P>
     requires { (W.state writer.old).has_failed ≡ false }
     ensures whole { EndsWhole bytes.now found place (W.state writer.old).written (W.state writer.new).written result }
     ensures failed { (W.state writer.new).has_failed ≡ is_unwritten result }

@@ -24,7 +24,7 @@ use Rattle.lotos_outcome.specs.declared.outcome.Ended.{Ended}
 use Rattle.lotos_outcome.specs.declared.outcome.Ended.TheVariants.{Done, Stopped}
 use Rattle.lotos_outcome.specs.declared.outcome.Stop.TheVariants.{Terms}
 use Rattle.lotos_output.specs.WholeOutput.{EndsWhole}
-use Rattle.lotos_tool.specs.AfterOutcome.{IsAfterQuestionOf, after_answering}
+use Rattle.lotos_tool.specs.AfterOutcome.{AfterQuestion, AreAfterParts, IsAfterQuestionOf, ReadsAfter, after_answering}
 use Rattle.lotos_tool.specs.AfterParts.{HasAnswer, HasNoAnswer, IsAnswer, IsMadeOf}
 use Rattle.lotos_tool.specs.declared.findings.Continuation.{Continuation}
 use Rattle.lotos_tool.specs.declared.findings.Continuation.TheVariants.{CannotCome, Followed as Written}
@@ -100,7 +100,13 @@ module _ (request : AfterRequest) (system : System) where
       record { question = q; bytes = []; asked = asked; said = (at, refl); written = Appends-nil got }
 
   -- a beginning of the sequence reaches too many normal forms, and nothing was written
-  pub too_many : (labels : ℕ) (got : Option (List ℕ)) → HasNoAnswer request system (fault.TooManyTerms labels) →
-      Answered (after_answering request) (IsAfterQuestionOf request system) got got (Stopped Terms (Some labels))
-  too_many labels got (q, asked, over) =
-      record { question = q; bytes = []; asked = asked; said = (over, refl); written = Appends-nil got }
+  pub too_many : (labels : ℕ) (got : Option (List ℕ)) (ended : Ended Continuation (Option ℕ)) → ended ≡ Stopped Terms (Some labels) →
+      HasNoAnswer request system (fault.TooManyTerms labels) → Answered (after_answering request) (IsAfterQuestionOf request system) got got ended
+  too_many labels got ended is (q, asked, over) =
+      subst (Answered (after_answering request) (IsAfterQuestionOf request system) got got) (sym is)
+      (record { question = q; bytes = []; asked = asked; said = (over, refl); written = Appends-nil got })
+
+-- a question about the system that was read is one that the request asks of the text
+pub asks_after : (request : AfterRequest) (left left' : Option (List ℕ)) (system : System) → AreAfterParts request left left' system →
+    (q : AfterQuestion) → IsAfterQuestionOf request system q → ReadsAfter request left left' q
+asks_after request left left' system parts q is = record { system = system; read = parts.read; asks = is }

@@ -1,16 +1,16 @@
 -- The gates that an interface names, looked up one after the other.
-use Rattle.std.proofs.Common.{◌≡◌, ◌++◌, ◌∙◌, ℕ, ◌+◌, List, [], ◌∷◌, Some, ap, drop, inl, inr, map, subst, sym, take}
+use Rattle.std.proofs.Common.{◌≡◌, ◌++◌, ◌∙◌, ℕ, ◌+◌, List, [], ◌∷◌, Some, ap, drop, inl, inr, map, refl, string_bytes, subst, sym, take}
 use Rattle.std.specs.Prelude.{slice_get}
 use Rattle.std.specs.Char.{to_ascii_uppercase}
 use Rattle.std.proofs.lemmas.List.{map_push, take-append-drop}
+use Rattle.lotos_text.proofs.FirstToken.{head_same, tail_same}
 use Rattle.lotos_check.specs.NameLists.{In, Name}
 use Rattle.lotos_check.proofs.JoinedLists.{in_added}
 use Rattle.lotos_pattern.proofs.Words.{drop_at, take_at}
 use Rattle.lotos_tool.specs.Interfaces.{AreGatesOf, IsFirstNoGate, gates_named}
-use Rattle.lotos_tool.specs.Rejections.{IsListRejection, IsNameRejection}
-use Rattle.lotos_tool.specs.Rejections.IsListRejection.{list_memory, no_list}
-use Rattle.lotos_tool.specs.Rejections.IsNameRejection.{name_memory, no_name}
-use Rattle.lotos_tool.specs.declared.rejection.Rejection.{Rejection}
+use Rattle.lotos_outcome.specs.declared.refusal.Refusal.{Refusal}
+use Rattle.lotos_tool.specs.RefusalCauses.{IsNameRefusal}
+use Rattle.lotos_tool.specs.RefusalCauses.IsNameRefusal.{no_gate}
 
 module _ (names : List (List ℕ)) (n : ℕ) (name : List ℕ) (at : slice_get names n ≡ Some name) where
   -- the gates of one name more
@@ -34,9 +34,26 @@ module _ (names : List (List ℕ)) (n : ℕ) (name : List ℕ) (at : slice_get n
     no_gate = none;
   }
 
--- the rejection of a name is one of the list, if all before it are gates
-pub name_rejects : (gates : List Name) (names : List (List ℕ)) (n : ℕ) (name : List ℕ) (u : Rejection) → slice_get names n ≡ Some name →
-    AreGatesOf gates (take n names) → IsNameRejection gates name u → IsListRejection gates names u
-name_rejects gates names n name _ at known (no_name given same none) =
-    no_list given (subst (IsFirstNoGate gates names) (sym same) (first_no_gate names n name at gates known none))
-name_rejects gates names n name _ at known name_memory = list_memory
+-- a name alone that is no gate is the first one that is none
+pub no_gate_alone : (gates : List Name) (name : List ℕ) → (In (map to_ascii_uppercase name) gates → ⊥) → IsFirstNoGate gates (name ∷ []) name
+no_gate_alone gates name none = record { before = []; after = []; split = refl; known = λ n i. absurd i; no_gate = none }
+
+-- and its name is the only one that can be refused
+only_name : (gates : List Name) (name given : List ℕ) → IsFirstNoGate gates (name ∷ []) given → (given ≡ name) × (In (map to_ascii_uppercase name) gates → ⊥)
+only_name gates name given first = go first.before first.after first.split first.no_gate
+  where
+    go : (before after : List (List ℕ)) → name ∷ [] ≡ before ++ given ∷ after → (In (map to_ascii_uppercase given) gates → ⊥) →
+        (given ≡ name) × (In (map to_ascii_uppercase name) gates → ⊥)
+    go [] after same none = let head = sym (head_same same) in (head, subst (λ n. In (map to_ascii_uppercase n) gates → ⊥) head none)
+    go (x ∷ before) after same none = absurd (apart before (tail_same same))
+      where
+        apart : (before : List (List ℕ)) → [] ≡ before ++ given ∷ after → ⊥
+        apart [] e = cc
+        apart (y ∷ ys) e = cc
+
+-- what is refused of a name is refused of the list, if all before it are gates
+pub name_refused : (gates : List Name) (names : List (List ℕ)) (n : ℕ) (name : List ℕ) → slice_get names n ≡ Some name → AreGatesOf gates (take n names) →
+    (cause : Refusal) → IsNameRefusal gates (name ∷ []) cause → IsNameRefusal gates names cause
+name_refused gates names n name at known _ (no_gate given first) =
+    let (same, none) = only_name gates name (string_bytes given) first in
+    no_gate given (subst (IsFirstNoGate gates names) (sym same) (first_no_gate names n name at gates known none))

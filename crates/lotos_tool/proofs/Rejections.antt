@@ -18,16 +18,21 @@ use Rattle.lotos_after.specs.LabelWords.{IsWordCause}
 use Rattle.lotos_after.specs.declared.label_words.WordFault.{WordFault}
 use Rattle.lotos_after.specs.declared.label_words.WordFault.TheVariants as word
 use Rattle.lotos_device.specs.DeviceStates.{SourceState}
-use Rattle.lotos_device.specs.TextInput.{TakesWithin}
+use Rattle.lotos_device.specs.TextInput.{ReadsAll, TakesWithin}
 use Rattle.lotos_outcome.specs.Outcomes.{is_unreadable}
 use Rattle.lotos_outcome.specs.declared.refusal.Refusal.{Refusal}
-use Rattle.lotos_tool.specs.RefusalCauses.{IsGateRefusal, IsMarkRefusal, IsPatternRefusal, IsTextRefusal, IsWordRefusal}
+use Rattle.lotos_command.specs.declared.command.Interface.{Interface}
+use Rattle.lotos_tool.specs.RefusalCauses.{IsAskedRefusal, IsGateRefusal, IsInterfaceRefusal, IsMarkRefusal, IsPatternRefusal, IsTextRefusal}
+use Rattle.lotos_tool.specs.RefusalCauses.{IsWordRefusal}
+use Rattle.lotos_tool.specs.RefusalCauses.IsAskedRefusal.{of_interface as asked_interface, of_text as asked_text}
+use Rattle.lotos_tool.specs.RefusalCauses.IsInputRefusal.{of_text as input_text}
+use Rattle.lotos_tool.specs.RefusalCauses.IsInterfaceRefusal.{of_input, of_interface}
 use Rattle.lotos_tool.specs.RefusalCauses.IsGateRefusal.{unknown_gate}
 use Rattle.lotos_tool.specs.RefusalCauses.IsMarkRefusal.{no_line}
 use Rattle.lotos_tool.specs.RefusalCauses.IsPatternRefusal.{spells_no_pattern}
 use Rattle.lotos_tool.specs.RefusalCauses.IsTextRefusal.{breaks_rule, spells_none}
 use Rattle.lotos_tool.specs.RefusalCauses.IsWordRefusal.{internal, no_label}
-use Rattle.lotos_tool.specs.Rejections.{IsRejectionBy, is_input_failure, mark_rejection, pattern_rejection, word_rejection}
+use Rattle.lotos_tool.specs.Rejections.{IsRejectionBy, is_input_failure, is_reader_failure, mark_rejection, pattern_rejection, word_rejection}
 use Rattle.lotos_tool.specs.declared.rejection.Rejection.{Rejection}
 use Rattle.lotos_tool.specs.declared.rejection.Rejection.TheVariants.{Refused, Memory}
 
@@ -37,16 +42,15 @@ rejects_more X Y (Refused cause) more h = more cause h
 rejects_more X Y Memory more h = tt
 
 -- a rejection for reasons that are none of the reader is no failure of the reader
-pub was_read : (T : Type 0) (X : Refusal → Type 0) (u : Rejection) → ((cause : Refusal) → X cause → is_unreadable cause ≡ false) → IsRejectionBy X u →
-    is_input_failure {T = T} (Err u) ≡ false
-was_read T X (Refused cause) read h = read cause h
-was_read T X Memory read h = refl
+pub was_read : (X : Refusal → Type 0) (u : Rejection) → ((cause : Refusal) → X cause → is_unreadable cause ≡ false) → IsRejectionBy X u →
+    is_reader_failure u ≡ false
+was_read X (Refused cause) read h = read cause h
+was_read X Memory read h = refl
 
 -- a rejection that is passed on, and is none of the reader, is none where it is passed on to
-pub still_read : {T : Type 0} (r : Result T Rejection) (u : Rejection) → IsErrAnd r (λ v. v ≡ u) → is_input_failure {T = T} (Err u) ≡ false →
-    is_input_failure r ≡ false
+pub still_read : {T : Type 0} (r : Result T Rejection) (u : Rejection) → IsErrAnd r (λ v. v ≡ u) → is_reader_failure u ≡ false → is_input_failure r ≡ false
 still_read (Ok value) u same h = refl
-still_read {T = T} (Err v) u same h = subst (λ w. is_input_failure {T = T} (Err w) ≡ false) (sym same) h
+still_read (Err v) u same h = subst (λ w. is_reader_failure w ≡ false) (sym same) h
 
 -- nothing was taken from a source that was not read
 pub nothing_taken : (from : SourceState) → TakesWithin from from (max_text_length + 1)
@@ -72,9 +76,9 @@ pub gate_was_read : (gates : List Name) (words : List (List ℕ)) (cause : Refus
 gate_was_read gates words _ (unknown_gate n h) = refl
 
 -- those of the words of a sequence
-pub word_was_read : (T : Type 0) (f : WordFault) → is_input_failure {T = T} (Err (word_rejection f)) ≡ false
-word_was_read T (word.NoLabel n) = refl
-word_was_read T (word.Internal n) = refl
+pub word_was_read : (f : WordFault) → is_reader_failure (word_rejection f) ≡ false
+word_was_read (word.NoLabel n) = refl
+word_was_read (word.Internal n) = refl
 
 -- ---- the rejections for faults
 
@@ -102,3 +106,12 @@ pub word_rejected_for : (strong : Bool) (words : List (List ℕ)) (f : WordFault
     ((s : List Label) → NamesEach strong words s → ⊥) → IsRejectionBy (IsWordRefusal strong words) (word_rejection f)
 word_rejected_for strong words (word.NoLabel n) cause none = no_label n cause none
 word_rejected_for strong words (word.Internal n) cause none = internal n cause none
+
+-- ---- from a text to the bytes that a reader had left
+
+-- if all that the reader had left is the text, what is refused of it and an interface is refused of the input
+pub asked_refused : (interface : Interface) (left left' : Option (List ℕ)) (text : List ℕ) (cause : Refusal) → ReadsAll left left' max_text_length text →
+    IsAskedRefusal interface text cause → IsInterfaceRefusal interface left left' cause
+asked_refused interface left left' text cause read (asked_text h) = of_input (input_text text cause read h)
+asked_refused interface left left' text cause read (asked_interface own accepted h) =
+    of_interface own (record { text = text; read = read; accepted = accepted }) h

@@ -36,6 +36,11 @@ pub record IsAfterQuestionOf (request : AfterRequest) (system : System) (q : Aft
   pub strong : q.behaviour.strong ≡ request.strong
   pub sequence : IsSequenceOf request system q.sequence
 
+-- what was read for the request: the system that is asked, in which the words name a sequence
+pub record AreAfterParts (request : AfterRequest) (left left' : Option (List ℕ)) (system : System) : Type 0 where
+  pub read : ReadsAsked request.interface left left' system
+  pub named : (s : List Label) × IsSequenceOf request system s
+
 -- the question is about the system that is asked of the text that was read
 pub record ReadsAfter (request : AfterRequest) (left left' : Option (List ℕ)) (q : AfterQuestion) : Type 0 where
   pub system : System

@@ -21,10 +21,10 @@ use Rattle.lotos_tool.specs.SearchOutcome.{search_meaning}
 module _ (words : List (List ℕ)) (from from' : SourceState) (to to' : SinkState) (status : ℕ) where
   -- the words ask for a command by this kind of request, it ran, and the status is that of its outcome
   pub record CommandRan {R F P : Type 0} (kind : R → Request) (meaning : R → Meaning F P) (is_yes : F → Bool) : Type 0
-      where
-    pub request : R
-    pub asked : RequestOf words (request_view (kind request))
-    pub ran : Ran (meaning request) is_yes from from' to to' status
+    where
+      pub request : R
+      pub asked : RequestOf words (request_view (kind request))
+      pub ran : Ran (meaning request) is_yes from from' to to' status
 
   -- the words ask for a check, with diagnostics or without, which ran
   abbrev pub CheckRan : Type 0
@@ -54,25 +54,25 @@ pub data MessageOutput (words : List (List ℕ)) (got got' : Option (List ℕ)) 
 
 -- no command ran, and nothing was read; if clap accepts the words, memory ran out
 pub record NoCommandRan (words : List (List ℕ)) (from from' : SourceState) (to to' : SinkState) (status : ℕ) : Type 0
-    where
-  pub unread : from' ≡ from
-  pub reported : MessageOutput words to.written to'.written status
-  pub taken : AreAccepted words → status ≡ 5
+  where
+    pub unread : from' ≡ from
+    pub reported : MessageOutput words to.written to'.written status
+    pub taken : AreAccepted words → status ≡ 5
 
 -- what the program did for the words, and the exit status
 pub record ProgramRan (words : List (List ℕ)) (from from' : SourceState) (to to' : SinkState) (status : ℕ) : Type 0
-    where
-  -- one of the commands ran, or none
-  pub ran : CommandRan words from from' to to' status command.Search search_meaning has_lines
-      ⊎ CheckRan words from from' to to' status
-      ⊎ CommandRan words from from' to to' status command.Ever ever_meaning happens
-      ⊎ CommandRan words from from' to to' status command.After after_meaning can_come
-      ⊎ CommandRan words from from' to to' status command.Cover cover_meaning has_lines
-      ⊎ NoCommandRan words from from' to to' status
-  -- at most one byte more than a text may have was taken from the reader
-  pub given : from'.given ≤ from.given + (max_text_length + 1)
-  -- the output failed exactly if the status is 6
-  pub output : to'.has_failed ≡ (status == 6)
+  where
+    -- one of the commands ran, or none
+    pub ran : CommandRan words from from' to to' status command.Search search_meaning has_lines
+        ⊎ CheckRan words from from' to to' status
+        ⊎ CommandRan words from from' to to' status command.Ever ever_meaning happens
+        ⊎ CommandRan words from from' to to' status command.After after_meaning can_come
+        ⊎ CommandRan words from from' to to' status command.Cover cover_meaning has_lines
+        ⊎ NoCommandRan words from from' to to' status
+    -- at most one byte more than a text may have was taken from the reader
+    pub given : from'.given ≤ from.given + (max_text_length + 1)
+    -- the output failed exactly if the status is 6
+    pub output : to'.has_failed ≡ (status == 6)
 
 -- no argument could be read: nothing was read or written, and the status is that of out of memory
 pub record NoArgumentRead (from from' : SourceState) (to to' : SinkState) (status : ℕ) : Type 0 where

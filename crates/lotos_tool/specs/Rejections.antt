@@ -1,5 +1,5 @@
 -- What a rejection of the parts of a question means.
-use Rattle.std.specs.Prelude.{ℕ, Bool, false, List, Result, Err, if◌then◌else◌}
+use Rattle.std.specs.Prelude.{ℕ, Bool, false, List, Result, Err, Ok, if◌then◌else◌}
 use Rattle.lotos_check.specs.Flat.{System}
 use Rattle.lotos_check.specs.AcceptedText.{Accepted}
 use Rattle.lotos_pattern.specs.declared.fault.PatternFault.{PatternFault}
@@ -49,7 +49,12 @@ abbrev pub end_of : {F P : Type 0} → Rejection → (nowhere : P) → Ended F P
 end_of (Refused cause) nowhere = ended.Refused cause
 end_of Memory nowhere = ended.Stopped stop.Memory nowhere
 
+-- the rejection is that the reader failed
+abbrev pub is_reader_failure : Rejection → Bool
+is_reader_failure (Refused cause) = is_unreadable cause
+is_reader_failure Memory = false
+
 -- the result is that the reader failed
 abbrev pub is_input_failure : {T : Type 0} → Result T Rejection → Bool
-is_input_failure (Err (Refused cause)) = is_unreadable cause
-is_input_failure _ = false
+is_input_failure (Ok value) = false
+is_input_failure (Err u) = is_reader_failure u

@@ -1,6 +1,5 @@
 //! The command `after`, from the text to the lines of what can come after a sequence.
-ghost use Rattle.std.specs.Prelude.{◌≡◌, ◌+◌, ◌≤◌, Bool, IfErr, IfOk, List, false, map, string_bytes};
-ghost use Rattle.lotos_text.specs.Limits.{max_text_length};
+ghost use Rattle.std.specs.Prelude.{◌≡◌, ◌+◌, ◌≤◌, Bool, IfErr, IfOk, List, map, string_bytes};
 ghost use Rattle.lotos_check.specs.CheckedView.{system_of};
 ghost use Rattle.lotos_listing.specs.Order.{Label as Text};
 ghost use Rattle.lotos_listing.specs.Question.{ArePrinted};
@@ -8,20 +7,14 @@ ghost use Rattle.lotos_pattern.specs.Spelling.{NamesEach};
 ghost use Rattle.lotos_after.specs.Behaviours.{IsFirstOversized};
 ghost use Rattle.lotos_after.specs.Following.{IfTooMany, behaviour_of};
 ghost use Rattle.lotos_after.specs.LabelWords.{HaveGates};
-ghost use Rattle.lotos_device.specs.TextInput.{TakesWithin};
-ghost use Rattle.lotos_outcome.specs.Calls.{Answered, Call};
-ghost use Rattle.lotos_outcome.specs.Outcomes.{is_unwritten};
 ghost use Rattle.lotos_outcome.specs.declared.outcome.Ended.TheVariants.{Stopped};
-ghost use Rattle.lotos_tool.specs.AfterOutcome.{IsAfterQuestionOf, IsSequenceOf, after_answering, after_meaning};
+ghost use Rattle.lotos_tool.specs.AfterOutcome.{IsSequenceOf, after_meaning};
 ghost use Rattle.lotos_tool.specs.AfterParts.{HasAnswer, HasNoAnswer, IsAnswer, IsMadeOf};
-ghost use Rattle.lotos_tool.specs.QuestionParts.{ReadsAsked};
-ghost use Rattle.lotos_tool.specs.RefusalCauses.{IsAfterRefusal};
-ghost use Rattle.lotos_tool.specs.Rejections.{IsRejectionBy, is_input_failure};
 
 use crate::command::Command;
 use crate::findings::Continuation;
 use crate::question_parts::refuse_unknown_gates;
-use crate::rejection::{Rejection, end_of};
+use crate::rejection::Rejection;
 use crate::search_observer::Observed;
 use crate::specification_input::read_asked;
 use lotos_after::{FollowFault, Followed, check_label_words, follow, labels_of_words};
@@ -52,88 +45,6 @@ pub(crate) enum Answer {
         number: usize,
         instead: Option<String>,
     },
-}
-
-/// Reads a specification and follows the request's sequence in it. If some derivation, of any number of steps, is
-/// observed as the sequence, a line is written for each label that can come after it, in the order of the labels, and
-/// then `<deadlock>` if the system can be in a deadlock.
-///
-/// The words are looked at first, each of which is to be a label; then the text is read, whose specification is
-/// checked; then the gates are hidden that the request's interface leaves out, and then the gates that the words name
-/// are looked up among those that are left. The first of these to be refused is returned with nothing written, and
-/// words that are no labels are refused with nothing read. The lines are composed completely before the first byte is
-/// written, and one flush follows them. If the sequence cannot be observed, if a beginning of it reaches more normal
-/// forms than the request allows, and if memory runs out, nothing is written. At most one byte more than a text may
-/// have is taken from the reader, whatever it returns. Neither the reader nor the writer may have failed before.
-/// The observer is told when the text is accepted, of each label that was followed, and of the lines before they are
-/// written; `NoProgress` is one that does nothing.
-pub fn after<R: Source, W: Sink, P: OutputProgress>(
-    alloc: Global,
-    request: &AfterRequest,
-    reader: &mut R,
-    writer: &mut W,
-    progress: &mut P,
-) -> Ended<Continuation, Option<usize>>
-    requires reader { (R.state reader.old).has_failed ≡ false }
-    requires writer { (W.state writer.old).has_failed ≡ false }
-    ensures call { Call (after_meaning request.now) (R.state reader.old) (R.state reader.new)
-        (W.state writer.old) (W.state writer.new) result }
-{
-    match read_parts(alloc, request, reader, progress) {
-        Ok(system) => write_answer(alloc, request, system, writer, progress),
-        Err(rejection) => end_of(rejection, None),
-    }
-}
-
-/// The specification that is asked, in whose own list are the gates that the words name. Each word names a label.
-fn read_parts<R: Source, P: OutputProgress>(
-    alloc: Global,
-    request: &AfterRequest,
-    reader: &mut R,
-    progress: &mut P,
-) -> Result<Checked, Rejection>
-    requires reader { (R.state reader.old).has_failed ≡ false }
-    ensures read { IfOk result (λ system. ReadsAsked request.now.interface
-        (R.state reader.old).remaining (R.state reader.new).remaining (system_of system)) }
-    ensures sequence { IfOk result (λ system.
-        (s : List Text) × IsSequenceOf request.now (system_of system) s) }
-    ensures rejected { IfErr result (IsRejectionBy (IsAfterRefusal request.now
-        (R.state reader.old).remaining (R.state reader.new).remaining)) }
-    ensures takes { TakesWithin (R.state reader.old) (R.state reader.new) (max_text_length + 1) }
-    ensures failed { (R.state reader.new).has_failed ≡ is_input_failure result }
-{
-    check_label_words(request.words.as_slice(), request.strong)?;
-    let system = read_asked(alloc, &request.interface, reader, progress)?;
-    refuse_unknown_gates(alloc, &request.words, true, &system)?;
-    Ok(system)
-}
-
-/// Follows the sequence in an accepted specification, writes the lines of what can come after it if it can be observed,
-/// and flushes the output.
-fn write_answer<W: Sink, P: OutputProgress>(
-    alloc: Global,
-    request: &AfterRequest,
-    system: Checked,
-    writer: &mut W,
-    progress: &mut P,
-) -> Ended<Continuation, Option<usize>>
-    requires sequence { (s : List Text) × IsSequenceOf request.now (system_of system) s }
-    requires writer { (W.state writer.old).has_failed ≡ false }
-    ensures ends { Answered (after_answering request.now) (IsAfterQuestionOf request.now (system_of system))
-        (W.state writer.old).written (W.state writer.new).written result }
-    ensures failed { (W.state writer.new).has_failed ≡ is_unwritten result }
-{
-    match find_answer(alloc, request, system, progress) {
-        Ok(Answer::Lines(lines)) => {
-            progress.before_line();
-            write_whole(writer, lines.as_slice(), Continuation::Followed, None)
-        }
-        Ok(Answer::NoLabel { number, instead }) => {
-            Ended::Done(Continuation::CannotCome { number, instead })
-        }
-        Err(FollowFault::TooManyTerms(labels)) => stopped(Stop::Terms, Some(labels)),
-        Err(FollowFault::Memory) => stopped(Stop::Memory, None),
-    }
 }
 
 /// The command stopped for this cause, after so many labels of the sequence if that is known.
@@ -205,8 +116,15 @@ fn answer_of(
     Ok(Answer::NoLabel { number, instead })
 }
 
+/// `after` follows a sequence. If some derivation, of any number of steps, is observed as the sequence, a line is written
+/// for each label that can come after it, in the order of the labels, and then `<deadlock>` if the system can be in a
+/// deadlock; otherwise nothing is. It stops if a beginning of the sequence reaches more normal forms than the request
+/// allows.
 impl Command for AfterRequest {
-    ghost use Rattle.lotos_tool.specs.AfterOutcome.{after_meaning};
+    ghost use Rattle.lotos_check.specs.CheckedView.{system_of};
+    ghost use Rattle.lotos_tool.specs.AfterOutcome.{AreAfterParts, after_meaning};
+
+    type Parts = Checked;
 
     type Found = Continuation;
 
@@ -216,14 +134,42 @@ impl Command for AfterRequest {
 
     ghost meaning = { after_meaning };
 
-    fn answer<R: Source, W: Sink, P: OutputProgress>(
+    ghost are_parts = { λ request left left' system. AreAfterParts request left left' (system_of system) };
+
+    fn read_parts<R: Source, P: OutputProgress>(
         &self,
         alloc: Global,
         reader: &mut R,
+        progress: &mut P,
+    ) -> Result<Checked, Rejection> {
+        check_label_words(self.words.as_slice(), self.strong)?;
+        let system = read_asked(alloc, &self.interface, reader, progress)?;
+        refuse_unknown_gates(alloc, &self.words, true, &system)?;
+        Ok(system)
+    }
+
+    fn write_answer<W: Sink, P: OutputProgress>(
+        &self,
+        alloc: Global,
+        parts: Checked,
         writer: &mut W,
         progress: &mut P,
     ) -> Ended<Continuation, Option<usize>> {
-        after(alloc, self, reader, writer, progress)
+        match find_answer(alloc, self, parts, progress) {
+            Ok(Answer::Lines(lines)) => {
+                progress.before_line();
+                write_whole(writer, lines.as_slice(), Continuation::Followed, None)
+            }
+            Ok(Answer::NoLabel { number, instead }) => {
+                Ended::Done(Continuation::CannotCome { number, instead })
+            }
+            Err(FollowFault::TooManyTerms(labels)) => stopped(Stop::Terms, Some(labels)),
+            Err(FollowFault::Memory) => stopped(Stop::Memory, None),
+        }
+    }
+
+    fn nowhere(&self) -> Option<usize> {
+        None
     }
 
     fn observed(&self) -> Observed<'_> {

@@ -23,7 +23,7 @@ pub fn run_args<R: Source, W: Sink, E: Write>(
 ) -> u8
     requires reader { (R.state reader.old).has_failed ≡ false }
     requires out { (W.state out.old).has_failed ≡ false }
-    ensures ran { MatchResult args
+    ensures { MatchResult args
         (λ words. ProgramRan (map string_bytes (into_iter_items words))
         (R.state reader.old) (R.state reader.new) (W.state out.old) (W.state out.new) result)
         (λ _. NoArgumentRead (R.state reader.old) (R.state reader.new)
@@ -60,7 +60,7 @@ fn run_words<R: Source, W: Sink, E: Write>(
 ) -> u8
     requires reader { (R.state reader.old).has_failed ≡ false }
     requires out { (W.state out.old).has_failed ≡ false }
-    ensures ran { ProgramRan (map string_bytes words.now)
+    ensures { ProgramRan (map string_bytes words.now)
         (R.state reader.old) (R.state reader.new) (W.state out.old) (W.state out.new) result }
 {
     match borrow_texts(alloc, words) {

@@ -28,7 +28,7 @@ pub fn check_text<R: Source, W: Sink>(
 ) -> Ended<Processes, ()>
     requires reader { (R.state reader.old).has_failed ≡ false }
     requires writer { (W.state writer.old).has_failed ≡ false }
-    ensures call { Call check_meaning (R.state reader.old) (R.state reader.new) (W.state writer.old)
+    ensures { Call check_meaning (R.state reader.old) (R.state reader.new) (W.state writer.old)
         (W.state writer.new) result }
 {
     match read_specification(alloc, reader) {

@@ -1,7 +1,8 @@
 //! The commands that ask a question about what can be observed, as one.
 ghost use Rattle.std.specs.Prelude.{◌≡◌, false};
-ghost use Rattle.lotos_outcome.specs.Calls.{Ran};
+ghost use Rattle.lotos_outcome.specs.Calls.{Call, Ran};
 
+use crate::rejection::{Rejection, end_of};
 use crate::search_observer::{Noted, Observed, SearchObserver};
 use lotos_device::{Sink, Source};
 use lotos_listing::Searched;
@@ -13,8 +14,15 @@ use std::io::Write;
 
 /// A command that asks a question about what can be observed of a specification.
 pub trait Command {
-    ghost use Rattle.std.specs.Prelude.{◌≡◌, false};
-    ghost use Rattle.lotos_outcome.specs.Calls.{Call, Meaning};
+    ghost use Rattle.std.specs.Prelude.{◌≡◌, ◌+◌, ℕ, IfErr, IfOk, List, Option, false};
+    ghost use Rattle.lotos_text.specs.Limits.{max_text_length};
+    ghost use Rattle.lotos_device.specs.TextInput.{TakesWithin};
+    ghost use Rattle.lotos_outcome.specs.Calls.{Answered, Meaning};
+    ghost use Rattle.lotos_outcome.specs.Outcomes.{is_unwritten};
+    ghost use Rattle.lotos_tool.specs.Rejections.{IsRejectionBy, is_input_failure};
+
+    /// What is read of its words and its text.
+    type Parts: Drop;
 
     /// What it finds.
     type Found: Finding + Drop;
@@ -28,20 +36,44 @@ pub trait Command {
     /// What it does.
     ghost meaning: { Self → Meaning Self.Found Self.Place };
 
-    /// Reads a specification, and writes the answer to the question. The observer is told what is read, how far the search
-    /// is, and of each line before it is written. Neither the reader nor the writer may have failed before.
-    fn answer<R: Source, W: Sink, P: OutputProgress>(
+    /// These are the parts, by what the reader had left before them and after them.
+    ghost are_parts: { Self → (left left' : Option (List ℕ)) → Self.Parts → Type 0 };
+
+    /// Reads the parts of the question. The first of them to be refused is returned, and words and lines of the request are
+    /// refused with nothing read. At most one byte more than a text may have is taken from the reader, which must not have
+    /// failed before.
+    fn read_parts<R: Source, P: OutputProgress>(
         &self,
         alloc: Global,
         reader: &mut R,
+        progress: &mut P,
+    ) -> Result<Self::Parts, Rejection>
+        requires reader { (R.state reader.old).has_failed ≡ false }
+        ensures parts { IfOk result (are_parts self.now (R.state reader.old).remaining (R.state reader.new).remaining) }
+        ensures rejected { IfErr result (IsRejectionBy ((meaning self.now).Refuses
+            (R.state reader.old).remaining (R.state reader.new).remaining)) }
+        ensures takes { TakesWithin (R.state reader.old) (R.state reader.new) (max_text_length + 1) }
+        ensures failed { (R.state reader.new).has_failed ≡ is_input_failure result };
+
+    /// Looks for the answer to the question that these parts make, and writes it. The writer must not have failed before.
+    fn write_answer<W: Sink, P: OutputProgress>(
+        &self,
+        alloc: Global,
+        parts: Self::Parts,
         writer: &mut W,
         progress: &mut P,
     ) -> Ended<Self::Found, Self::Place>
         requires bounds { is_bounded self.now }
-        requires reader { (R.state reader.old).has_failed ≡ false }
+        requires parts { (left left' : Option (List ℕ)) × are_parts self.now left left' parts }
         requires writer { (W.state writer.old).has_failed ≡ false }
-        ensures call { Call (meaning self.now) (R.state reader.old) (R.state reader.new)
-            (W.state writer.old) (W.state writer.new) result };
+        ensures ends { (left left' : Option (List ℕ)) → are_parts self.now left left' parts →
+            Answered (meaning self.now).answering ((meaning self.now).Reads left left')
+            (W.state writer.old).written (W.state writer.new).written result }
+        ensures failed { (W.state writer.new).has_failed ≡ is_unwritten result };
+
+    /// The place of a command that stops before it has looked for an answer.
+    fn nowhere(&self) -> Self::Place
+        ensures { result ≡ (meaning self.now).answering.nowhere };
 
     /// What an observer has to know of it.
     fn observed(&self) -> Observed<'_>;
@@ -53,6 +85,35 @@ pub trait Command {
         searched: &Option<Searched>,
         err: &mut E,
     );
+}
+
+/// Reads a specification and writes the answer to the question that a command asks of it.
+///
+/// The words and the lines of the request are read first, then the text, whose specification is checked; then the gates
+/// are hidden that the request's interface leaves out; then the gates that the words name are looked up among those that
+/// are left, unless the request accepts unknown ones. The first of these to be refused is returned with nothing written,
+/// and words and lines are refused with nothing read. A line is composed completely before its first byte is written, and
+/// one flush follows what was written, unless memory runs out or a write fails. At most one byte more than a text may have
+/// is taken from the reader, whatever it returns. Neither the reader nor the writer may have failed before.
+/// The observer is told when the text is accepted, how far the search is, and of each line before it is written;
+/// `NoProgress` is one that does nothing.
+pub fn answer<C: Command, R: Source, W: Sink, P: OutputProgress>(
+    alloc: Global,
+    command: &C,
+    reader: &mut R,
+    writer: &mut W,
+    progress: &mut P,
+) -> Ended<C::Found, C::Place>
+    requires bounds { C.is_bounded command.now }
+    requires reader { (R.state reader.old).has_failed ≡ false }
+    requires writer { (W.state writer.old).has_failed ≡ false }
+    ensures { Call (C.meaning command.now) (R.state reader.old) (R.state reader.new)
+        (W.state writer.old) (W.state writer.new) result }
+{
+    match command.read_parts(alloc, reader, progress) {
+        Ok(parts) => command.write_answer(alloc, parts, writer, progress),
+        Err(rejection) => end_of(rejection, command.nowhere()),
+    }
 }
 
 /// Runs a command and reports how it ended, with a hint if it is refused for what may be meant otherwise. Returns its
@@ -72,7 +133,7 @@ pub(crate) fn run_command<C: Command, R: Source, W: Sink, E: Write>(
 {
     let observed = command.observed();
     let mut observer = SearchObserver::new(alloc, observed, messages);
-    let ended = command.answer(alloc, reader, out, &mut observer);
+    let ended = answer(alloc, command, reader, out, &mut observer);
     let Noted { hint, searched } = observer.finish();
     let mut stream = MutedStream::new(&mut messages.stream, out.is_unread());
     command.report(&ended, &searched, &mut stream);

@@ -37,7 +37,7 @@ pub fn diagnose<R: Source, W: Sink, E: Write>(
 ) -> Ended<Processes, ()>
     requires reader { (R.state reader.old).has_failed ≡ false }
     requires out { (W.state out.old).has_failed ≡ false }
-    ensures call { Call check_meaning (R.state reader.old) (R.state reader.new) (W.state out.old)
+    ensures { Call check_meaning (R.state reader.old) (R.state reader.new) (W.state out.old)
         (W.state out.new) result }
 {
     match read_input(alloc, reader) {

@@ -1,13 +1,11 @@
 //! The command `ever`, from the text to the line of the first of the shortest matches.
 ghost use Rattle.std.specs.Prelude.{◌≡◌, ◌+◌, ◌++◌, IfErr, IfOk, List, OnOk, Option, Some, false, string_bytes, true};
-ghost use Rattle.lotos_text.specs.Limits.{max_text_length};
 ghost use Rattle.lotos_check.specs.CheckedView.{system_of};
 ghost use Rattle.lotos_check.specs.Flat.{System};
 ghost use Rattle.lotos_terms.specs.TableView.{IsTableOf};
 ghost use Rattle.lotos_ever.specs.MatchQuestions.{IsEndedMatch, match_question_of};
 ghost use Rattle.lotos_ever.specs.NamedRuns.{EndsAsDemanded};
-ghost use Rattle.lotos_device.specs.TextInput.{TakesWithin};
-ghost use Rattle.lotos_outcome.specs.Calls.{Answered, Call};
+ghost use Rattle.lotos_outcome.specs.Calls.{Answered};
 ghost use Rattle.lotos_outcome.specs.Outcomes.{is_unwritten};
 ghost use Rattle.lotos_tool.specs.EverOutcome.{AreEverParts, IsMatchLine, MatchTexts, ever_answering, ever_meaning};
 ghost use Rattle.lotos_tool.specs.EverParts.{AreNamedTextsOf, HasLine, HasNoLine, HasTexts, IsEverQuestionFor, IsRoundOf, cause_of_halt, question_about};
@@ -15,13 +13,11 @@ ghost use Rattle.lotos_listing.specs.Order.{Label as Text};
 ghost use Rattle.lotos_listing.specs.Question.{ArePrinted};
 ghost use Rattle.lotos_output.specs.OutputLines.{round_text_if, run_text};
 ghost use Rattle.lotos_output.specs.WholeOutput.{EndsWhole};
-ghost use Rattle.lotos_tool.specs.RefusalCauses.{IsEverRefusal};
-ghost use Rattle.lotos_tool.specs.Rejections.{IsRejectionBy, is_input_failure};
 
 use crate::command::Command;
 use crate::findings::Occurrence;
 use crate::question_parts::{read_ever_pattern, refuse_unknown_gates};
-use crate::rejection::{Rejection, end_of};
+use crate::rejection::Rejection;
 use crate::search_observer::Observed;
 use crate::specification_input::read_asked;
 use lotos_check::Checked;
@@ -46,58 +42,6 @@ use lotos_terms::laws::steps_stay_in_table;
 use lotos_text::Name;
 use std::alloc::{AllocError, Global};
 use std::io::Write;
-
-/// Reads a specification and searches it for a derivation, of any number of steps, that matches the request's pattern.
-/// If there is one, the line of one with the fewest steps is written.
-///
-/// The words of the pattern are read first, then the text, whose specification is checked; then the gates are hidden
-/// that the request's interface leaves out, and then the gates that the words name are looked up among those that are
-/// left. The first of these to be refused is returned with nothing written, and words that spell no pattern are refused
-/// with nothing read. The line is composed completely before its first byte is written. Nothing is written if no
-/// derivation matches, if more product states would be stored than the request allows, if more normal forms are reached
-/// where all of them must be found, or if memory runs out. One flush follows the line, and also ends a search without a
-/// match. At most one byte more than a text may have is taken from the reader, whatever it returns. Neither the reader
-/// nor the writer may have failed before.
-/// The observer is told when the text is accepted, of each product state that the search stores, and of the line before
-/// it is written; `NoProgress` is one that does nothing.
-pub fn ever<R: Source, W: Sink, P: OutputProgress>(
-    alloc: Global,
-    request: &EverRequest,
-    reader: &mut R,
-    writer: &mut W,
-    progress: &mut P,
-) -> Ended<Occurrence, Option<Occurrence>>
-    requires reader { (R.state reader.old).has_failed ≡ false }
-    requires writer { (W.state writer.old).has_failed ≡ false }
-    ensures call { Call (ever_meaning request.now) (R.state reader.old) (R.state reader.new)
-        (W.state writer.old) (W.state writer.new) result }
-{
-    match read_parts(alloc, request, reader, progress) {
-        Ok((pattern, system)) => write_match(alloc, request, system, &pattern, writer, progress),
-        Err(rejection) => end_of(rejection, None),
-    }
-}
-
-/// The pattern of the words, and the specification that is asked, in whose own list are the gates that the words name.
-fn read_parts<R: Source, P: OutputProgress>(
-    alloc: Global,
-    request: &EverRequest,
-    reader: &mut R,
-    progress: &mut P,
-) -> Result<(EverPattern, Checked), Rejection>
-    requires reader { (R.state reader.old).has_failed ≡ false }
-    ensures parts { IfOk result (λ (pattern, system). AreEverParts request.now
-        (R.state reader.old).remaining (R.state reader.new).remaining (system_of system) pattern) }
-    ensures rejected { IfErr result (IsRejectionBy (IsEverRefusal request.now
-        (R.state reader.old).remaining (R.state reader.new).remaining)) }
-    ensures takes { TakesWithin (R.state reader.old) (R.state reader.new) (max_text_length + 1) }
-    ensures failed { (R.state reader.new).has_failed ≡ is_input_failure result }
-{
-    let pattern = read_ever_pattern(alloc, &request.words, request.strong)?;
-    let system = read_asked(alloc, &request.interface, reader, progress)?;
-    refuse_unknown_gates(alloc, &request.words, true, &system)?;
-    Ok((pattern, system))
-}
 
 /// Searches an accepted specification for a match, writes the line of the first of the shortest ones if there is one,
 /// and flushes the output. Nothing is flushed if the search stops.
@@ -283,8 +227,14 @@ fn append_origins(
     }
 }
 
+/// `ever` searches for a derivation, of any number of steps, that matches a pattern. If there is one, the line of one with
+/// the fewest steps is written, and otherwise nothing. It stops if more product states would be stored than the request
+/// allows, or more normal forms are reached where all of them must be found.
 impl Command for EverRequest {
-    ghost use Rattle.lotos_tool.specs.EverOutcome.{ever_meaning};
+    ghost use Rattle.lotos_check.specs.CheckedView.{system_of};
+    ghost use Rattle.lotos_tool.specs.EverOutcome.{AreEverParts, ever_meaning};
+
+    type Parts = (EverPattern, Checked);
 
     type Found = Occurrence;
 
@@ -294,14 +244,34 @@ impl Command for EverRequest {
 
     ghost meaning = { ever_meaning };
 
-    fn answer<R: Source, W: Sink, P: OutputProgress>(
+    ghost are_parts = { λ request left left' (pattern, system).
+        AreEverParts request left left' (system_of system) pattern };
+
+    fn read_parts<R: Source, P: OutputProgress>(
         &self,
         alloc: Global,
         reader: &mut R,
+        progress: &mut P,
+    ) -> Result<(EverPattern, Checked), Rejection> {
+        let pattern = read_ever_pattern(alloc, &self.words, self.strong)?;
+        let system = read_asked(alloc, &self.interface, reader, progress)?;
+        refuse_unknown_gates(alloc, &self.words, true, &system)?;
+        Ok((pattern, system))
+    }
+
+    fn write_answer<W: Sink, P: OutputProgress>(
+        &self,
+        alloc: Global,
+        parts: (EverPattern, Checked),
         writer: &mut W,
         progress: &mut P,
     ) -> Ended<Occurrence, Option<Occurrence>> {
-        ever(alloc, self, reader, writer, progress)
+        let (pattern, system) = parts;
+        write_match(alloc, self, system, &pattern, writer, progress)
+    }
+
+    fn nowhere(&self) -> Option<Occurrence> {
+        None
     }
 
     fn observed(&self) -> Observed<'_> {

@@ -1,12 +1,11 @@
 //! The command `lotosseq` as a library: from the words of the command line and the bytes of a specification to the
 //! lines of the output and the exit status.
 //!
-//! [`request`] reads the words, [`list`] reads a text and writes the listing, [`check_text`] reads a text and writes
-//! its processes, [`ever`] reads a text and writes the first of the shortest matches, [`after`] reads a text and writes
-//! what can come after a sequence, [`cover`] reads a text and writes the lines of its cover, and [`run`] does what the
-//! words ask for and returns the exit status. A [`Command`] is one of those that ask a question, with its messages.
-//! [`run_args`] runs the program on the arguments of a process. Readers and writers are a [`Source`] and a [`Sink`];
-//! [`FromRead`] and [`FromWrite`] make them from std's.
+//! [`request`] reads the words, [`check_text`] reads a text and writes its processes, [`answer`] reads a text and writes
+//! the answer to the question of a [`Command`], which is a request for a listing, a match, what can come after a sequence,
+//! or a cover, and [`run`] does what the words ask for and returns the exit status. [`run_args`] runs the program on the
+//! arguments of a process. Readers and writers are a [`Source`] and a [`Sink`]; [`FromRead`] and [`FromWrite`] make them
+//! from std's.
 #![tactic(auto)]
 
 mod after_command;
@@ -30,12 +29,9 @@ mod specification_input;
 mod unknown_gates;
 mod unknown_names;
 
-pub use after_command::after;
 pub use arguments::run_args;
 pub use check_command::check_text;
-pub use command::Command;
-pub use cover_command::cover;
-pub use ever_command::ever;
+pub use command::{Command, answer};
 pub use findings::{Continuation, Listed, ListingPlace, Occurrence, Processes};
 pub use lotos_command::{
     AfterRequest, CommandFault, CoverRequest, DiagnoseRequest, EverRequest, Extent, Interface,
@@ -47,5 +43,6 @@ pub use lotos_outcome::{Ended, Finding, Refusal, Stop};
 pub use lotos_output::OutputProgress;
 pub use lotos_report::Messages;
 pub use program::{report_command_fault, run};
-pub use search_command::list;
+pub use rejection::Rejection;
+pub use search_command::SearchParts;
 pub use search_observer::Observed;

@@ -1,5 +1,5 @@
 //! The output of a listing, item by item as the search returns them.
-ghost use Rattle.std.specs.Prelude.{◌≡◌, ◌⊎◌, ◌≤◌, ℕ, List, IfErr, IfOk, IfSome, IsErrOf, None, OnOk, Option, false, string_bytes};
+ghost use Rattle.std.specs.Prelude.{◌≡◌, ◌⊎◌, ◌≤◌, List, IfErr, IfOk, IfSome, IsErrOf, None, OnOk, Option, false, string_bytes};
 ghost use Rattle.std.specs.Io.KnownBytes.{Appends, Keeps};
 ghost use Rattle.lotos_listing.specs.Order.{Label as Text};
 ghost use Rattle.lotos_listing.specs.Question.{ArePrinted};
@@ -121,11 +121,7 @@ pub fn unstarted() -> Ended<Listed, ListingPlace>
 }
 
 /// A listing that stopped for this cause after its last line, or at a prefix.
-fn stopped(
-    cause: Stop,
-    last: Option<String>,
-    prefix: Option<String>,
-) -> Ended<Listed, ListingPlace>
+fn stopped(cause: Stop, last: Option<String>, prefix: Option<String>) -> Ended<Listed, ListingPlace>
     ensures { result ≡ Stopped cause (record { last = last; prefix = prefix }) }
 {
     let place = ListingPlace { last, prefix };

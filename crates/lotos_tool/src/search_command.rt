@@ -1,27 +1,21 @@
 //! The command `search`, from the text to the lines of the listing.
-ghost use Rattle.std.specs.Prelude.{◌≡◌, ◌+◌, ◌≤◌, IfErr, IfOk, false};
-ghost use Rattle.lotos_text.specs.Limits.{max_text_length};
+ghost use Rattle.std.specs.Prelude.{◌≡◌, ◌≤◌, IfOk, false};
 ghost use Rattle.lotos_check.specs.CheckedView.{system_of};
 ghost use Rattle.lotos_command.specs.Request.{HasSearchBounds};
-ghost use Rattle.lotos_device.specs.TextInput.{TakesWithin};
-ghost use Rattle.lotos_outcome.specs.Calls.{Answered, Call};
+ghost use Rattle.lotos_outcome.specs.Calls.{Answered};
 ghost use Rattle.lotos_outcome.specs.Outcomes.{is_unwritten};
 ghost use Rattle.lotos_output.specs.ItemRuns.{runs_view};
 ghost use Rattle.lotos_output.specs.NamedRuns.{writes_runs};
 ghost use Rattle.lotos_tool.specs.ListingQuestions.{ListingState, depth_state, length_state};
-ghost use Rattle.lotos_tool.specs.RefusalCauses.{IsSearchRefusal};
-ghost use Rattle.lotos_tool.specs.Rejections.{IsRejectionBy, is_input_failure};
 ghost use Rattle.lotos_tool.specs.SearchOutcome.{AreSearchParts, IsSearchAskedOf, IsSearchFor, search_answering, search_meaning};
 ghost use Rattle.lotos_tool.specs.WrittenItems.{AreRunsFor};
 ghost use Rattle.lotos_command.specs.declared.command.Extent.TheVariants.{Depth, Length};
 
 use crate::command::Command;
 use crate::findings::{Listed, ListingPlace};
-use crate::listing_output::{
-    ListingOptions, nowhere, report_listing, unstarted, write_listing,
-};
+use crate::listing_output::{ListingOptions, nowhere, report_listing, unstarted, write_listing};
 use crate::question_parts::{read_mark, read_pattern, refuse_unknown_gates};
-use crate::rejection::{Rejection, end_of};
+use crate::rejection::Rejection;
 use crate::search_observer::Observed;
 use crate::specification_input::read_asked;
 use lotos_check::Checked;
@@ -42,98 +36,15 @@ use lotos_terms::Table;
 use std::alloc::{AllocError, Global};
 use std::io::Write;
 
-/// Reads a specification and writes the listing of its sequences that match the request's pattern: what is observed of
-/// its derivations of at most the request's depth of steps, or, if it has a length in place of a depth, the sequences
-/// of at most so many labels that are observed of any; each sequence once, shorter ones first, then in the order of
-/// their labels. With a mark only the sequences after it are listed.
-///
-/// The words of the pattern are read first, then the mark, then the text, whose specification is checked; then the
-/// gates are hidden that the request's interface leaves out; then, if the request refuses unknown gates, the gates that
-/// the words name are looked up among those that are left. The first of these to be refused is returned with nothing
-/// written, and the words and the mark are refused with nothing read. A line is composed completely before its first
-/// byte is written. The listing stops when as many lines as the limit are written, at the first prefix that can still
-/// match and reaches more terms than the request allows (normal forms, if it has a length), when memory runs out, and
-/// when the output cannot be written. A complete listing, be it without lines, and one that stops at the limit or at
-/// such a prefix, ends with one flush. At most one byte more than a text may have is taken from the reader, whatever it
-/// returns. Neither the reader nor the writer may have failed before.
-/// The observer is told when the text is accepted, of each prefix that the search visits, and of each line before it is
-/// written; `NoProgress` is one that does nothing.
-pub fn list<R: Source, W: Sink, P: OutputProgress>(
-    alloc: Global,
-    request: &SearchRequest,
-    reader: &mut R,
-    writer: &mut W,
-    progress: &mut P,
-) -> Ended<Listed, ListingPlace>
-    requires bounds { HasSearchBounds request.now }
-    requires reader { (R.state reader.old).has_failed ≡ false }
-    requires writer { (W.state writer.old).has_failed ≡ false }
-    ensures call { Call (search_meaning request.now) (R.state reader.old) (R.state reader.new)
-        (W.state writer.old) (W.state writer.new) result }
-{
-    match read_parts(alloc, request, reader, progress) {
-        Ok(parts) => list_system(alloc, request, parts, writer, progress),
-        Err(rejection) => end_of(rejection, nowhere()),
-    }
-}
-
 /// What was read for a request.
 #[derive(Drop)]
-struct SearchParts {
+pub struct SearchParts {
     /// The specification that is asked.
     system: Checked,
     /// The pattern of the words.
     pattern: Pattern,
     /// The mark of the line, if one is given.
     mark: Option<Mark>,
-}
-
-/// The pattern of the words, the mark of the line, and the specification that is asked, whose gates are known if the
-/// request refuses others.
-fn read_parts<R: Source, P: OutputProgress>(
-    alloc: Global,
-    request: &SearchRequest,
-    reader: &mut R,
-    progress: &mut P,
-) -> Result<SearchParts, Rejection>
-    requires reader { (R.state reader.old).has_failed ≡ false }
-    ensures parts { IfOk result (λ parts. AreSearchParts request.now (R.state reader.old).remaining
-        (R.state reader.new).remaining (system_of parts.system) parts.pattern parts.mark) }
-    ensures rejected { IfErr result (IsRejectionBy (IsSearchRefusal request.now
-        (R.state reader.old).remaining (R.state reader.new).remaining)) }
-    ensures takes { TakesWithin (R.state reader.old) (R.state reader.new) (max_text_length + 1) }
-    ensures failed { (R.state reader.new).has_failed ≡ is_input_failure result }
-{
-    let pattern = read_pattern(alloc, &request.words, request.strong)?;
-    let mark = read_mark(alloc, &request.after, request.strong)?;
-    let system = read_asked(alloc, &request.interface, reader, progress)?;
-    refuse_unknown_gates(alloc, &request.words, request.known, &system)?;
-    Ok(SearchParts {
-        system,
-        pattern,
-        mark,
-    })
-}
-
-/// Writes the listing of an accepted specification.
-fn list_system<W: Sink, P: OutputProgress>(
-    alloc: Global,
-    request: &SearchRequest,
-    parts: SearchParts,
-    writer: &mut W,
-    progress: &mut P,
-) -> Ended<Listed, ListingPlace>
-    requires bounds { HasSearchBounds request.now }
-    requires writer { (W.state writer.old).has_failed ≡ false }
-    ensures ends { Answered (search_answering request.now)
-        (IsSearchAskedOf request.now (system_of parts.system) parts.pattern parts.mark)
-        (W.state writer.old).written (W.state writer.new).written result }
-    ensures failed { (W.state writer.new).has_failed ≡ is_unwritten result }
-{
-    match begin_runs(alloc, request, &parts) {
-        Ok(mut runs) => list_items(alloc, request, parts, &mut runs, writer, progress),
-        Err(AllocError) => unstarted(),
-    }
 }
 
 /// Writes the items of the listing of an accepted specification, with their runs as is wanted.
@@ -250,9 +161,17 @@ fn writes_runs(runs: Runs) -> bool
     }
 }
 
+/// `search` lists the sequences that match a pattern: what is observed of the derivations of at most the request's depth
+/// of steps, or, if it has a length in place of a depth, the sequences of at most so many labels that are observed of any;
+/// each once, shorter ones first, then in the order of their labels. With a mark only the sequences after it are listed.
+/// It stops when as many lines as the limit are written, and at the first prefix that can still match and reaches more
+/// terms than the request allows (normal forms, if it has a length).
 impl Command for SearchRequest {
+    ghost use Rattle.lotos_check.specs.CheckedView.{system_of};
     ghost use Rattle.lotos_command.specs.Request.{HasSearchBounds};
-    ghost use Rattle.lotos_tool.specs.SearchOutcome.{search_meaning};
+    ghost use Rattle.lotos_tool.specs.SearchOutcome.{AreSearchParts, search_meaning};
+
+    type Parts = SearchParts;
 
     type Found = Listed;
 
@@ -262,14 +181,41 @@ impl Command for SearchRequest {
 
     ghost meaning = { search_meaning };
 
-    fn answer<R: Source, W: Sink, P: OutputProgress>(
+    ghost are_parts = { λ request left left' parts.
+        AreSearchParts request left left' (system_of parts.system) parts.pattern parts.mark };
+
+    fn read_parts<R: Source, P: OutputProgress>(
         &self,
         alloc: Global,
         reader: &mut R,
+        progress: &mut P,
+    ) -> Result<SearchParts, Rejection> {
+        let pattern = read_pattern(alloc, &self.words, self.strong)?;
+        let mark = read_mark(alloc, &self.after, self.strong)?;
+        let system = read_asked(alloc, &self.interface, reader, progress)?;
+        refuse_unknown_gates(alloc, &self.words, self.known, &system)?;
+        Ok(SearchParts {
+            system,
+            pattern,
+            mark,
+        })
+    }
+
+    fn write_answer<W: Sink, P: OutputProgress>(
+        &self,
+        alloc: Global,
+        parts: SearchParts,
         writer: &mut W,
         progress: &mut P,
     ) -> Ended<Listed, ListingPlace> {
-        list(alloc, self, reader, writer, progress)
+        match begin_runs(alloc, self, &parts) {
+            Ok(mut runs) => list_items(alloc, self, parts, &mut runs, writer, progress),
+            Err(AllocError) => unstarted(),
+        }
+    }
+
+    fn nowhere(&self) -> ListingPlace {
+        nowhere()
     }
 
     fn observed(&self) -> Observed<'_> {

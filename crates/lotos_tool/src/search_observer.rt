@@ -6,7 +6,8 @@ use lotos_command::Interface;
 use lotos_listing::{Progress, Searched};
 use lotos_output::OutputProgress;
 use lotos_report::{
-    AskedWords, Messages, NameHint, NamePlaces, ProgressReport, Visited, first_name_hint, warn_of_names,
+    AskedWords, Messages, NameHint, NamePlaces, ProgressReport, Visited, first_name_hint,
+    warn_of_names,
 };
 use std::alloc::Global;
 use std::io::Write;

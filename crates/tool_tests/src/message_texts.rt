@@ -2,28 +2,85 @@
 
 use super::memory_devices::ArrayWriter;
 use lotos_check::CheckFault;
+use lotos_command::Runs;
 use lotos_device::FromWrite;
 use lotos_listing::MarkFault;
 use lotos_pattern::PatternFault;
+use lotos_report::report_end;
 use lotos_text::TextFault;
 use lotos_tool::{
-    AfterEnded, AfterWhy, Bounds, CommandFault, Ended, EverEnded, EverWhy, Refusal, Why,
-    report_after, report_check, report_command_fault, report_ever, report_search,
+    AfterRequest, Command, CommandFault, Continuation, CoverRequest, Ended, EverRequest, Extent,
+    Interface, Listed, ListingPlace, Occurrence, Processes, Refusal, SearchRequest, Stop,
+    report_command_fault,
 };
 use std::alloc::{AllocError, Global};
 use std::fmt::Display;
 use std::io::Write;
 use std::process::Abort;
 
-/// Expects what a listing reports that ended so, with 300 as the bound on the terms and 400 as that on the sets.
-fn expect_search(rt: &impl Abort, ended: Ended, message: &[u8], status: u8) {
-    let mut err = ArrayWriter::new(4096);
-    let bounds = Bounds {
+/// A request for a listing with 300 as the bound on the terms.
+pub fn search_request(alloc: Global) -> SearchRequest {
+    SearchRequest {
+        extent: Extent::Depth(1),
+        limit: None,
+        terms: 300,
+        after: None,
+        runs: Runs::Omitted,
+        interface: Interface::Whole,
+        strong: false,
+        known: false,
+        progress: false,
+        words: Vec::new(alloc),
+    }
+}
+
+/// A request for a cover with 300 as the bound on the terms and 400 as that on the sets.
+fn cover_request() -> CoverRequest {
+    CoverRequest {
+        limit: None,
+        after: None,
         terms: 300,
         states: 400,
-    };
-    let found = report_search(&ended, bounds, &mut err);
-    expect_report(rt, &err, message, found, status);
+        interface: Interface::Whole,
+        strong: false,
+        progress: false,
+    }
+}
+
+/// A request for a match with 300 as the bound on the states.
+pub fn ever_request(alloc: Global) -> EverRequest {
+    EverRequest {
+        states: 300,
+        runs: Runs::Omitted,
+        interface: Interface::Whole,
+        strong: false,
+        progress: false,
+        words: Vec::new(alloc),
+    }
+}
+
+/// A request for what can come after the sequence of these words, with 300 as the bound on the terms.
+pub fn after_request(words: Vec<String>) -> AfterRequest {
+    AfterRequest {
+        terms: 300,
+        interface: Interface::Whole,
+        strong: false,
+        progress: false,
+        words,
+    }
+}
+
+/// Expects what a command reports that ended so, if it is not known how much was looked at.
+pub fn expect_end<C: Command>(
+    rt: &impl Abort,
+    command: &C,
+    ended: &Ended<C::Found, C::Place>,
+    message: &[u8],
+    status: u8,
+) {
+    let mut err = ArrayWriter::new(4096);
+    command.report(ended, &None, &mut err);
+    expect_report(rt, &err, message, ended.status(), status);
 }
 
 /// Expects this message and this status.
@@ -32,214 +89,251 @@ pub fn expect_report(rt: &impl Abort, err: &ArrayWriter, message: &[u8], found: 
     assert_eq!(rt; found, status);
 }
 
-/// Expects what a search reports that stopped for this cause after a line.
-fn expect_stop_after_a_line(
-    rt: &impl Abort,
+/// A listing that stopped for this cause, after a line with this sequence, and at this prefix.
+fn stopped(
     alloc: Global,
-    why: Why,
-    message: &[u8],
-    status: u8,
-) -> Result<(), AllocError> {
-    let last = Some(String::from_str(alloc, "A exit")?);
-    expect_search(rt, Ended::Stopped { last, why }, message, status);
-    Ok(())
+    cause: Stop,
+    last: Option<&str>,
+    prefix: Option<&str>,
+) -> Result<Ended<Listed, ListingPlace>, AllocError> {
+    let place = ListingPlace {
+        last: copied(alloc, last)?,
+        prefix: copied(alloc, prefix)?,
+    };
+    Ok(Ended::Stopped { cause, place })
 }
 
-/// Expects what a search reports that stopped for this cause after a line, and before the first one.
-fn expect_stop(
-    rt: &impl Abort,
-    alloc: Global,
-    causes: (Why, Why),
-    messages: (&[u8], &[u8]),
-    status: u8,
-) -> Result<(), AllocError> {
-    let (after, before) = causes;
-    let ended = Ended::Stopped {
-        last: None,
-        why: before,
-    };
-    expect_search(rt, ended, messages.1, status);
-    expect_stop_after_a_line(rt, alloc, after, messages.0, status)
+fn copied(alloc: Global, text: Option<&str>) -> Result<Option<String>, AllocError> {
+    match text {
+        Some(text) => Ok(Some(String::from_str(alloc, text)?)),
+        None => Ok(None),
+    }
 }
+
+/// Why a search stops, the last sequence and the prefix, its message and its status.
+const SEARCH_STOPS: &[(Stop, Option<&str>, Option<&str>, &[u8], u8)] = &[
+    (
+        Stop::Limit,
+        Some("A exit"),
+        None,
+        b"lotosseq: stopped after A exit: limit reached\n",
+        3,
+    ),
+    (
+        Stop::Limit,
+        None,
+        None,
+        b"lotosseq: stopped before the first line: limit reached\n",
+        3,
+    ),
+    (
+        Stop::Memory,
+        Some("A exit"),
+        None,
+        b"lotosseq: stopped after A exit: E99 out of memory\n",
+        5,
+    ),
+    (
+        Stop::Memory,
+        None,
+        None,
+        b"lotosseq: stopped before the first line: E99 out of memory\n",
+        5,
+    ),
+    (
+        Stop::Write,
+        Some("A exit"),
+        None,
+        b"lotosseq: stopped after A exit: output cannot be written\n",
+        6,
+    ),
+    (
+        Stop::Write,
+        None,
+        None,
+        b"lotosseq: stopped before the first line: output cannot be written\n",
+        6,
+    ),
+    (
+        Stop::Terms,
+        Some("A exit"),
+        Some("B A"),
+        b"lotosseq: stopped after A exit: more than 300 terms at B A\n",
+        4,
+    ),
+    (
+        Stop::Terms,
+        None,
+        Some("<empty>"),
+        b"lotosseq: stopped before the first line: more than 300 terms at <empty>\n",
+        4,
+    ),
+];
 
 #[test]
 fn a_search_that_stopped(rt: HostRuntime) -> Result<(), AllocError> {
-    let alloc = rt.alloc();
-    expect_stop(
-        &rt,
-        alloc,
-        (Why::Limit, Why::Limit),
-        (
-            b"lotosseq: stopped after A exit: limit reached\n",
-            b"lotosseq: stopped before the first line: limit reached\n",
-        ),
-        3,
-    )?;
-    expect_stop(
-        &rt,
-        alloc,
-        (Why::Memory, Why::Memory),
-        (
-            b"lotosseq: stopped after A exit: E99 out of memory\n",
-            b"lotosseq: stopped before the first line: E99 out of memory\n",
-        ),
-        5,
-    )?;
-    expect_stop(
-        &rt,
-        alloc,
-        (Why::Write, Why::Write),
-        (
-            b"lotosseq: stopped after A exit: output cannot be written\n",
-            b"lotosseq: stopped before the first line: output cannot be written\n",
-        ),
-        6,
-    )
+    let request = search_request(rt.alloc());
+    for (cause, last, prefix, message, status) in SEARCH_STOPS {
+        let ended = stopped(rt.alloc(), *cause, *last, *prefix)?;
+        expect_end(&rt, &request, &ended, *message, *status);
+    }
+    Ok(())
 }
 
-#[test]
-fn a_search_that_stopped_at_an_oversized_prefix(rt: HostRuntime) -> Result<(), AllocError> {
-    let prefix = String::from_str(rt.alloc(), "B A")?;
-    let other = String::from_str(rt.alloc(), "<empty>")?;
-    expect_stop(
-        &rt,
-        rt.alloc(),
-        (Why::OverTerms(prefix), Why::OverTerms(other)),
-        (
-            b"lotosseq: stopped after A exit: more than 300 terms at B A\n",
-            b"lotosseq: stopped before the first line: more than 300 terms at <empty>\n",
-        ),
+/// Why a cover stops, the last sequence and the prefix, its message and its status.
+const COVER_STOPS: &[(Stop, Option<&str>, Option<&str>, &[u8], u8)] = &[
+    (
+        Stop::States,
+        Some("A exit"),
+        None,
+        b"lotosseq: stopped after A exit: more than 400 sets; --states N allows more\n",
         4,
-    )
-}
+    ),
+    (
+        Stop::States,
+        None,
+        None,
+        b"lotosseq: stopped before the first line: more than 400 sets; --states N allows more\n",
+        4,
+    ),
+    (
+        Stop::Terms,
+        None,
+        Some("B A"),
+        b"lotosseq: stopped before the first line: more than 300 terms at B A\n",
+        4,
+    ),
+];
 
 #[test]
-fn a_cover_that_stopped_at_too_many_sets(rt: HostRuntime) -> Result<(), AllocError> {
-    expect_stop(
-        &rt,
-        rt.alloc(),
-        (Why::OverStates, Why::OverStates),
-        (
-            b"lotosseq: stopped after A exit: more than 400 sets; --states N allows more\n",
-            b"lotosseq: stopped before the first line: more than 400 sets; --states N allows more\n",
-        ),
-        4,
-    )
+fn a_cover_that_stopped(rt: HostRuntime) -> Result<(), AllocError> {
+    let request = cover_request();
+    for (cause, last, prefix, message, status) in COVER_STOPS {
+        let ended = stopped(rt.alloc(), *cause, *last, *prefix)?;
+        expect_end(&rt, &request, &ended, *message, *status);
+    }
+    Ok(())
 }
 
 #[test]
 fn a_search_that_did_not_stop(rt: HostRuntime) {
-    expect_search(&rt, Ended::Complete { lines: 0 }, b"", 1);
+    let request = search_request(rt.alloc());
+    let empty = Ended::Done(Listed { lines: 0 });
+    expect_end(&rt, &request, &empty, b"", 1);
     for lines in [1u64, 256, 65_536, 4_294_967_296] {
-        expect_search(&rt, Ended::Complete { lines }, b"", 0);
+        expect_end(&rt, &request, &Ended::Done(Listed { lines }), b"", 0);
     }
     let refused = Ended::Refused(Refusal::E49(300));
     let message = b"lotosseq: E49 word 300 is no gate of the specification\n";
-    expect_search(&rt, refused, message, 2);
+    expect_end(&rt, &request, &refused, message, 2);
 }
 
 /// Expects what a check reports that ended so.
-fn expect_check(rt: &impl Abort, ended: Ended, message: &[u8], status: u8) {
+pub fn expect_check(rt: &impl Abort, ended: &Ended<Processes, ()>, message: &[u8], status: u8) {
     let mut err = ArrayWriter::new(4096);
-    let found = report_check(&ended, &mut err);
-    expect_report(rt, &err, message, found, status);
+    report_end(&mut err, ended);
+    expect_report(rt, &err, message, ended.status(), status);
+}
+
+/// A check that stopped for this cause.
+fn stopped_check(cause: Stop) -> Ended<Processes, ()> {
+    Ended::Stopped { cause, place: () }
 }
 
 #[test]
 fn checks(rt: HostRuntime) {
-    for lines in [0u64, 1, 256] {
-        expect_check(&rt, Ended::Complete { lines }, b"", 0);
+    for count in [0u64, 1, 256] {
+        expect_check(&rt, &Ended::Done(Processes { count }), b"", 0);
     }
     let refused = Ended::Refused(Refusal::E47);
-    expect_check(&rt, refused, b"lotosseq: E47 input cannot be read\n", 2);
-    let full = Ended::Stopped {
-        last: None,
-        why: Why::Write,
-    };
-    expect_check(&rt, full, b"lotosseq: output cannot be written\n", 6);
-    let memory = Ended::Stopped {
-        last: None,
-        why: Why::Memory,
-    };
-    expect_check(&rt, memory, b"lotosseq: E99 out of memory\n", 5);
+    expect_check(&rt, &refused, b"lotosseq: E47 input cannot be read\n", 2);
+    let full = stopped_check(Stop::Write);
+    expect_check(&rt, &full, b"lotosseq: output cannot be written\n", 6);
+    let memory = stopped_check(Stop::Memory);
+    expect_check(&rt, &memory, b"lotosseq: E99 out of memory\n", 5);
 }
 
-/// Expects what a search for a match reports that ended so, with 300 as the bound on the states, if it is not known how
-/// much was looked at.
-fn expect_ever(rt: &impl Abort, ended: EverEnded, message: &[u8], status: u8) {
-    let mut err = ArrayWriter::new(4096);
-    let found = report_ever(&ended, &None, &[], 300, &mut err);
-    expect_report(rt, &err, message, found, status);
-}
-
-/// Why a search for a match stops, its message and its status.
-const EVER_STOPS: &[(EverWhy, &[u8], u8)] = &[
+/// Why a search for a match stops, what was found by then, its message and its status.
+const EVER_STOPS: &[(Stop, Option<Occurrence>, &[u8], u8)] = &[
     (
-        EverWhy::TooManyStates,
+        Stop::States,
+        None,
         b"lotosseq: stopped: more than 300 states; --states N allows more, and a system that grows for ever has no end\n",
         4,
     ),
-    (EverWhy::Memory, b"lotosseq: E99 out of memory\n", 5),
-    (EverWhy::Write, b"lotosseq: output cannot be written\n", 6),
-    (EverWhy::Flush, b"lotosseq: output cannot be written\n", 6),
+    (Stop::Memory, None, b"lotosseq: E99 out of memory\n", 5),
+    (
+        Stop::Write,
+        Some(Occurrence::Ever),
+        b"lotosseq: output cannot be written\n",
+        6,
+    ),
+    (
+        Stop::Write,
+        Some(Occurrence::Never),
+        b"lotosseq: output cannot be written\n",
+        6,
+    ),
 ];
 
 #[test]
 fn searches_for_a_match(rt: HostRuntime) {
-    expect_ever(&rt, EverEnded::Matched, b"", 0);
-    expect_ever(
-        &rt,
-        EverEnded::NoMatch,
-        b"lotosseq: it happens at no depth\n",
-        1,
-    );
-    let refused = EverEnded::Refused(Refusal::E47);
-    expect_ever(&rt, refused, b"lotosseq: E47 input cannot be read\n", 2);
-    for (why, message, status) in EVER_STOPS {
-        expect_ever(&rt, EverEnded::Stopped(*why), *message, *status);
+    let request = ever_request(rt.alloc());
+    expect_end(&rt, &request, &Ended::Done(Occurrence::Ever), b"", 0);
+    let never = Ended::Done(Occurrence::Never);
+    let message = b"lotosseq: it happens at no depth\n";
+    expect_end(&rt, &request, &never, message, 1);
+    let refused = Ended::Refused(Refusal::E47);
+    let message = b"lotosseq: E47 input cannot be read\n";
+    expect_end(&rt, &request, &refused, message, 2);
+    for (cause, found, message, status) in EVER_STOPS {
+        let ended = Ended::Stopped {
+            cause: *cause,
+            place: *found,
+        };
+        expect_end(&rt, &request, &ended, *message, *status);
     }
 }
 
-/// Expects what a command reports that follows the sequence of these words and ended so, with 300 as the bound on the
-/// terms.
-fn expect_after(rt: &impl Abort, ended: AfterEnded, words: &[String], message: &[u8], status: u8) {
-    let mut err = ArrayWriter::new(4096);
-    let found = report_after(&ended, words, 300, &mut err);
-    expect_report(rt, &err, message, found, status);
-}
-
-/// Why a command that follows a sequence stops, its message and its status.
-const AFTER_STOPS: &[(AfterWhy, &[u8], u8)] = &[
+/// Why a command that follows a sequence stops, after how many labels if that is the cause, its message and its status.
+const AFTER_STOPS: &[(Stop, Option<usize>, &[u8], u8)] = &[
     (
-        AfterWhy::TooManyTerms(0),
+        Stop::Terms,
+        Some(0),
         b"lotosseq: stopped: more than 300 terms after 0 labels\n",
         4,
     ),
     (
-        AfterWhy::TooManyTerms(65_536),
+        Stop::Terms,
+        Some(65_536),
         b"lotosseq: stopped: more than 300 terms after 65536 labels\n",
         4,
     ),
-    (AfterWhy::Memory, b"lotosseq: E99 out of memory\n", 5),
-    (AfterWhy::Write, b"lotosseq: output cannot be written\n", 6),
+    (Stop::Memory, None, b"lotosseq: E99 out of memory\n", 5),
+    (
+        Stop::Write,
+        None,
+        b"lotosseq: output cannot be written\n",
+        6,
+    ),
 ];
 
 #[test]
 fn sequences_that_are_followed(rt: HostRuntime) {
-    expect_after(&rt, AfterEnded::Followed, &[], b"", 0);
-    let refused = AfterEnded::Refused(Refusal::E47);
+    let request = after_request(Vec::new(rt.alloc()));
+    expect_end(&rt, &request, &Ended::Done(Continuation::Followed), b"", 0);
+    let refused = Ended::Refused(Refusal::E47);
     let message = b"lotosseq: E47 input cannot be read\n";
-    expect_after(&rt, refused, &[], message, 2);
-    let refused = AfterEnded::Refused(Refusal::E41(300));
-    expect_after(
-        &rt,
-        refused,
-        &[],
-        b"lotosseq: E41 word 300 is no label\n",
-        2,
-    );
-    for (why, message, status) in AFTER_STOPS {
-        expect_after(&rt, AfterEnded::Stopped(*why), &[], *message, *status);
+    expect_end(&rt, &request, &refused, message, 2);
+    let refused = Ended::Refused(Refusal::E41(300));
+    let message = b"lotosseq: E41 word 300 is no label\n";
+    expect_end(&rt, &request, &refused, message, 2);
+    for (cause, labels, message, status) in AFTER_STOPS {
+        let ended = Ended::Stopped {
+            cause: *cause,
+            place: *labels,
+        };
+        expect_end(&rt, &request, &ended, *message, *status);
     }
 }
 
@@ -301,35 +395,16 @@ const LABELS: &[(usize, Option<&str>, &[u8])] = &[
     ),
 ];
 
-/// Expects this message, and status 1, of the label with this number of the words.
-fn expect_label(
-    rt: &impl Abort,
-    alloc: Global,
-    words: &[String],
-    number: usize,
-    instead: Option<&str>,
-    message: &[u8],
-) -> Result<(), AllocError> {
-    let instead = match instead {
-        Some(labels) => Some(String::from_str(alloc, labels)?),
-        None => None,
-    };
-    let ended = AfterEnded::CannotCome { number, instead };
-    expect_after(rt, ended, words, message, 1);
-    Ok(())
-}
-
-fn expect_labels(rt: &impl Abort, alloc: Global, words: &[String]) -> Result<(), AllocError> {
-    for (number, instead, message) in LABELS {
-        expect_label(rt, alloc, words, *number, *instead, *message)?;
-    }
-    Ok(())
-}
-
 #[test]
 fn labels_that_cannot_come(rt: HostRuntime) -> Result<(), AllocError> {
-    let words = three_words(rt.alloc())?;
-    expect_labels(&rt, rt.alloc(), words.as_slice())
+    let request = after_request(three_words(rt.alloc())?);
+    for (number, instead, message) in LABELS {
+        let instead = copied(rt.alloc(), *instead)?;
+        let number = *number;
+        let ended = Ended::Done(Continuation::CannotCome { number, instead });
+        expect_end(&rt, &request, &ended, *message, 1);
+    }
+    Ok(())
 }
 
 /// Expects what is written for a fault of the words.

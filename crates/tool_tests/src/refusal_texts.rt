@@ -3,16 +3,14 @@
 //! The matches have no arm for what is left, so a variant that is new needs its text here. `tools/check message-rows` sees that
 //! each variant is made by a test.
 
-use super::memory_devices::ArrayWriter;
-use super::message_texts::{expect_report, expect_text};
+use super::message_texts::{
+    after_request, ever_request, expect_check, expect_end, expect_text, search_request,
+};
 use lotos_check::{AcceptFault, CheckFault};
 use lotos_listing::MarkFault;
 use lotos_pattern::PatternFault;
 use lotos_text::{Functionality, Placed, Specification, TextFault, parse};
-use lotos_tool::{
-    AfterEnded, Bounds, Ended, EverEnded, Refusal, report_after, report_check, report_ever,
-    report_search,
-};
+use lotos_tool::{Ended, Refusal};
 use std::alloc::{AllocError, Global};
 use std::process::Abort;
 
@@ -87,72 +85,59 @@ fn mark_message(fault: &MarkFault) -> &'static str {
 }
 
 /// Expects that a listing and a check that are refused so say why, with status 2.
-fn expect_refused(rt: &impl Abort, refusal: Refusal) {
+fn expect_refused(rt: &impl Abort, alloc: Global, refusal: Refusal) {
     let message = message_of(&refusal).as_bytes();
     let ended = Ended::Refused(refusal);
-    expect_listing(rt, &ended, message);
-    expect_check(rt, &ended, message);
-}
-
-fn expect_listing(rt: &impl Abort, ended: &Ended, message: &[u8]) {
-    let mut err = ArrayWriter::new(4096);
-    let bounds = Bounds {
-        terms: 1,
-        states: 1,
-    };
-    let found = report_search(ended, bounds, &mut err);
-    expect_report(rt, &err, message, found, 2);
-}
-
-fn expect_check(rt: &impl Abort, ended: &Ended, message: &[u8]) {
-    let mut err = ArrayWriter::new(4096);
-    let found = report_check(ended, &mut err);
-    expect_report(rt, &err, message, found, 2);
+    expect_end(rt, &search_request(alloc), &ended, message, 2);
+    if let Ended::Refused(refusal) = ended {
+        expect_check(rt, &Ended::Refused(refusal), message, 2);
+    }
 }
 
 /// The same of a search for a match.
-fn expect_refused_match(rt: &impl Abort, refusal: Refusal) {
+fn expect_refused_match(rt: &impl Abort, alloc: Global, refusal: Refusal) {
     let message = message_of(&refusal).as_bytes();
-    let ended = EverEnded::Refused(refusal);
-    let mut err = ArrayWriter::new(4096);
-    let found = report_ever(&ended, &None, &[], 1, &mut err);
-    expect_report(rt, &err, message, found, 2);
+    expect_end(
+        rt,
+        &ever_request(alloc),
+        &Ended::Refused(refusal),
+        message,
+        2,
+    );
 }
 
 /// The same of a command that follows a sequence.
-fn expect_refused_sequence(rt: &impl Abort, refusal: Refusal) {
+fn expect_refused_sequence(rt: &impl Abort, alloc: Global, refusal: Refusal) {
     let message = message_of(&refusal).as_bytes();
-    let ended = AfterEnded::Refused(refusal);
-    let mut err = ArrayWriter::new(4096);
-    let found = report_after(&ended, &[], 1, &mut err);
-    expect_report(rt, &err, message, found, 2);
+    let request = after_request(Vec::new(alloc));
+    expect_end(rt, &request, &Ended::Refused(refusal), message, 2);
 }
 
 /// Expects what is written of a fault of the text at line 300 and column 7.
-fn expect_text_fault(rt: &impl Abort, fault: TextFault) {
+fn expect_text_fault(rt: &impl Abort, alloc: Global, fault: TextFault) {
     let place = Some((300, 7));
-    expect_refused(rt, Refusal::Text { fault, place });
+    expect_refused(rt, alloc, Refusal::Text { fault, place });
 }
 
 #[test]
 fn faults_of_texts(rt: HostRuntime) {
-    expect_text_fault(&rt, TextFault::E01(1));
-    expect_text_fault(&rt, TextFault::E02(1));
-    expect_text_fault(&rt, TextFault::E04(1));
-    expect_text_fault(&rt, TextFault::E05(1));
-    expect_text_fault(&rt, TextFault::E06(1));
-    expect_text_fault(&rt, TextFault::E07(1));
+    expect_text_fault(&rt, rt.alloc(), TextFault::E01(1));
+    expect_text_fault(&rt, rt.alloc(), TextFault::E02(1));
+    expect_text_fault(&rt, rt.alloc(), TextFault::E04(1));
+    expect_text_fault(&rt, rt.alloc(), TextFault::E05(1));
+    expect_text_fault(&rt, rt.alloc(), TextFault::E06(1));
+    expect_text_fault(&rt, rt.alloc(), TextFault::E07(1));
 }
 
 /// Expects what is written of a fault of the text that has no place.
-fn expect_unplaced(rt: &impl Abort, fault: TextFault) {
-    expect_refused(rt, Refusal::Text { fault, place: None });
+fn expect_unplaced(rt: &impl Abort, alloc: Global, fault: TextFault) {
+    expect_refused(rt, alloc, Refusal::Text { fault, place: None });
 }
 
 #[test]
 fn faults_of_texts_without_a_place(rt: HostRuntime) {
-    expect_unplaced(&rt, TextFault::E03);
-    expect_unplaced(&rt, TextFault::E99(AllocError));
+    expect_unplaced(&rt, rt.alloc(), TextFault::E03);
+    expect_unplaced(&rt, rt.alloc(), TextFault::E99(AllocError));
 }
 
 /// The name PING_1.
@@ -169,9 +154,10 @@ fn whole_name(alloc: Global, specification: &Specification) -> Result<Placed, Te
 }
 
 /// Expects what is written of a fault of a specification at line 300 and column 7.
-fn expect_check_fault(rt: &impl Abort, fault: CheckFault) {
+fn expect_check_fault(rt: &impl Abort, alloc: Global, fault: CheckFault) {
     expect_refused(
         rt,
+        alloc,
         Refusal::Check {
             fault,
             line: 300,
@@ -182,10 +168,10 @@ fn expect_check_fault(rt: &impl Abort, fault: CheckFault) {
 
 #[test]
 fn faults_of_names(rt: HostRuntime) -> Result<(), TextFault> {
-    expect_check_fault(&rt, CheckFault::E20(placed(rt.alloc())?));
-    expect_check_fault(&rt, CheckFault::E21(placed(rt.alloc())?));
-    expect_check_fault(&rt, CheckFault::E22(placed(rt.alloc())?));
-    expect_check_fault(&rt, CheckFault::E24(placed(rt.alloc())?));
+    expect_check_fault(&rt, rt.alloc(), CheckFault::E20(placed(rt.alloc())?));
+    expect_check_fault(&rt, rt.alloc(), CheckFault::E21(placed(rt.alloc())?));
+    expect_check_fault(&rt, rt.alloc(), CheckFault::E22(placed(rt.alloc())?));
+    expect_check_fault(&rt, rt.alloc(), CheckFault::E24(placed(rt.alloc())?));
     Ok(())
 }
 
@@ -199,8 +185,13 @@ fn other_number(call: Placed) -> CheckFault {
 }
 
 /// Expects what is written of PING_1 if it is declared so and is otherwise.
-fn expect_other_functionality(rt: &impl Abort, name: Placed, declared: Functionality) {
-    expect_check_fault(rt, CheckFault::E25 { name, declared });
+fn expect_other_functionality(
+    rt: &impl Abort,
+    alloc: Global,
+    name: Placed,
+    declared: Functionality,
+) {
+    expect_check_fault(rt, alloc, CheckFault::E25 { name, declared });
 }
 
 /// Unguarded recursion of which PING_1 is the first.
@@ -211,12 +202,12 @@ fn unguarded(alloc: Global, name: Placed) -> CheckFault {
 
 #[test]
 fn faults_of_processes(rt: HostRuntime) -> Result<(), TextFault> {
-    expect_check_fault(&rt, other_number(placed(rt.alloc())?));
-    expect_other_functionality(&rt, placed(rt.alloc())?, Functionality::Exit);
-    expect_other_functionality(&rt, placed(rt.alloc())?, Functionality::NoExit);
-    expect_check_fault(&rt, CheckFault::E26(1));
-    expect_check_fault(&rt, unguarded(rt.alloc(), placed(rt.alloc())?));
-    expect_check_fault(&rt, CheckFault::E99(AllocError));
+    expect_check_fault(&rt, rt.alloc(), other_number(placed(rt.alloc())?));
+    expect_other_functionality(&rt, rt.alloc(), placed(rt.alloc())?, Functionality::Exit);
+    expect_other_functionality(&rt, rt.alloc(), placed(rt.alloc())?, Functionality::NoExit);
+    expect_check_fault(&rt, rt.alloc(), CheckFault::E26(1));
+    expect_check_fault(&rt, rt.alloc(), unguarded(rt.alloc(), placed(rt.alloc())?));
+    expect_check_fault(&rt, rt.alloc(), CheckFault::E99(AllocError));
     Ok(())
 }
 
@@ -236,8 +227,8 @@ const PATTERNS: &[PatternFault] = &[
 #[test]
 fn faults_of_patterns(rt: HostRuntime) {
     for fault in PATTERNS {
-        expect_refused(&rt, Refusal::Pattern(*fault));
-        expect_refused_match(&rt, Refusal::Pattern(*fault));
+        expect_refused(&rt, rt.alloc(), Refusal::Pattern(*fault));
+        expect_refused_match(&rt, rt.alloc(), Refusal::Pattern(*fault));
     }
 }
 
@@ -247,7 +238,7 @@ const MARKS: &[MarkFault] = &[MarkFault::E46, MarkFault::E99(AllocError)];
 #[test]
 fn faults_of_marks(rt: HostRuntime) {
     for fault in MARKS {
-        expect_refused(&rt, Refusal::Mark(*fault));
+        expect_refused(&rt, rt.alloc(), Refusal::Mark(*fault));
     }
 }
 
@@ -258,22 +249,22 @@ fn unknown_name(alloc: Global) -> Result<Refusal, AllocError> {
 
 #[test]
 fn refusals_of_every_command(rt: HostRuntime) -> Result<(), AllocError> {
-    expect_refused(&rt, Refusal::E47);
-    expect_refused(&rt, Refusal::E49(300));
-    expect_refused(&rt, unknown_name(rt.alloc())?);
-    expect_refused_match(&rt, Refusal::E47);
-    expect_refused_match(&rt, Refusal::E49(300));
-    expect_refused_match(&rt, unknown_name(rt.alloc())?);
+    expect_refused(&rt, rt.alloc(), Refusal::E47);
+    expect_refused(&rt, rt.alloc(), Refusal::E49(300));
+    expect_refused(&rt, rt.alloc(), unknown_name(rt.alloc())?);
+    expect_refused_match(&rt, rt.alloc(), Refusal::E47);
+    expect_refused_match(&rt, rt.alloc(), Refusal::E49(300));
+    expect_refused_match(&rt, rt.alloc(), unknown_name(rt.alloc())?);
     Ok(())
 }
 
 #[test]
 fn refusals_of_sequences(rt: HostRuntime) -> Result<(), AllocError> {
-    expect_refused_sequence(&rt, Refusal::E41(300));
-    expect_refused_sequence(&rt, Refusal::E45(300));
-    expect_refused_sequence(&rt, Refusal::E47);
-    expect_refused_sequence(&rt, Refusal::E49(300));
-    expect_refused_sequence(&rt, unknown_name(rt.alloc())?);
+    expect_refused_sequence(&rt, rt.alloc(), Refusal::E41(300));
+    expect_refused_sequence(&rt, rt.alloc(), Refusal::E45(300));
+    expect_refused_sequence(&rt, rt.alloc(), Refusal::E47);
+    expect_refused_sequence(&rt, rt.alloc(), Refusal::E49(300));
+    expect_refused_sequence(&rt, rt.alloc(), unknown_name(rt.alloc())?);
     Ok(())
 }
 

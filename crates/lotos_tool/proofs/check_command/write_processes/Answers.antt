@@ -1,14 +1,20 @@
-use Rattle.std.proofs.Common.{◌∙◌, ap, subst}
-use Rattle.std.specs.Io.KnownBytes.{Appends}
+use Rattle.std.proofs.Common.{◌≡◌, ◌∙◌, ap, length, refl, subst, sym}
+use Rattle.std.proofs.KnownBytes.{Keeps-refl}
+use Rattle.std.proofs.lemmas.List.{length-map}
 use Rattle.std.specs.List.{flat_map}
-use Rattle.lotos_check.specs.CheckedView.{system_of}
-use Rattle.lotos_output.specs.OutputLines.{process_line}
-use Rattle.lotos_tool.proofs.Checks.{process_count, processes_ended}
+use Rattle.lotos_check.specs.CheckedView.{process_of, system_of}
+use Rattle.lotos_output.specs.OutputLines.{check_lines, process_line}
+use Rattle.lotos_output.specs.WholeOutput.{EndsWhole}
+use Rattle.lotos_tool.specs.CheckOutcome.{check_answering}
+use Rattle.lotos_tool.proofs.CallEnds.{whole_ends}
 use Rattle.lotos_tool.proofs.check_command.write_processes.Goals as goal
 
-pub returns-in-Ok-write_bytes-clause-outcome : goal.returns-in-Ok-write_bytes-clause-outcome
-returns-in-Ok-write_bytes-clause-outcome g c =
-    let lines = c.as_slice.ensures.value ∙ c.in-Ok.ensures ∙ ap (flat_map process_line) c.processes.ensures in
-    let written = subst (Appends _ _) lines c.in-Ok-write_bytes.ensures.whole in
-    let count = process_count c.processes-in-Ok-write_bytes.result.now _ c.processes-in-Ok-write_bytes.ensures in
-    processes_ended _ _ _ (system_of c.args.system.now) _ c.flush_complete.result written count c.flush_complete.ensures.finished
+pub returns-in-Ok-clause-ends : goal.returns-in-Ok-clause-ends
+returns-in-Ok-clause-ends g c =
+    let system = system_of c.args.system.now in
+    let lines = c.as_slice.ensures.value ∙ c.in-Ok.ensures ∙ ap (flat_map process_line) c.processes-processes.ensures in
+    let count = sym (length-map c.processes-processes.result.now process_of) ∙ ap length c.processes-processes.ensures in
+    whole_ends check_answering (λ asked. asked ≡ system) system (check_lines system) _ _ _ _ c.write_whole.result refl
+    (record { lines = refl; count = count }) (λ part begun. begun)
+    (subst (λ bytes. EndsWhole bytes (record { count = length c.processes-processes.result.now }) tt (g.W.Sink.state c.args.writer.now).written
+    (g.W.Sink.state c.write_whole.new.writer).written c.write_whole.result) lines c.write_whole.ensures.whole)

@@ -1,7 +1,9 @@
-use Rattle.std.proofs.Common.{refl, subst, sym}
+use Rattle.std.proofs.Common.{None, refl, subst, sym}
 use Rattle.lotos_check.specs.CheckedView.{system_of}
 use Rattle.lotos_outcome.specs.Calls.{Answered}
 use Rattle.lotos_outcome.specs.declared.outcome.Ended.TheVariants.{Stopped}
+use Rattle.lotos_tool.specs.EverOutcome.{ever_answering}
+use Rattle.lotos_tool.specs.EverParts.{IsEverQuestionFor}
 use Rattle.lotos_tool.proofs.EverAnswers.{halted, line_written, never_written}
 use Rattle.lotos_tool.proofs.ever_command.write_match.Goals as goal
 
@@ -16,4 +18,8 @@ returns-in-Ok-None-clause-ends g c =
     (rw c.in-Ok-None.field-0-is at c.in-Ok-None.ensures.line) c.write_found-in-Ok-None.ensures.whole
 
 pub returns-in-Err-clause-ends : goal.returns-in-Err-clause-ends
-returns-in-Err-clause-ends g c = ?
+returns-in-Err-clause-ends g c =
+    let request = c.args.request.now in
+    let got = (g.W.Sink.state c.args.writer.now).written in
+    subst (λ cause. Answered (ever_answering request) (IsEverQuestionFor (system_of c.args.system) c.args.pattern.now) got got (Stopped cause None))
+    (sym c.cause_of_halt.ensures) (halted request (system_of c.args.system) c.args.pattern.now _ c.in-Err.halt c.in-Err.ensures.none)

@@ -5,15 +5,15 @@ use Rattle.lotos_check.specs.NameLists.{Name}
 use Rattle.lotos_check.proofs.SameFault.{passed_on}
 use Rattle.lotos_pattern.specs.Spelling.{parts_of}
 use Rattle.lotos_tool.specs.Interfaces.{AreGatesOf, gates_named}
-use Rattle.lotos_tool.specs.Rejections.{IsListRejection}
-use Rattle.lotos_tool.specs.Rejections.IsListRejection.{list_memory}
+use Rattle.lotos_tool.specs.RefusalCauses.{IsNameRefusal}
+use Rattle.lotos_tool.specs.Rejections.{IsRejectionBy}
 use Rattle.lotos_tool.specs.declared.rejection.Rejection.TheVariants.{Memory}
 use Rattle.lotos_tool.proofs.interface.hide_named.Goals as goal
 
 pub returns-in_err-with_hidden-clause-rejected : goal.returns-in_err-with_hidden-clause-rejected
 returns-in_err-with_hidden-clause-rejected c =
     let r = c.from_residual-in_err-with_hidden in
-    passed_on (IsListRejection (system_of c.args.own).formals (parts_of (string_bytes c.args.names.now))) r.result Memory r.ensures.1 list_memory
+    passed_on (IsRejectionBy (IsNameRefusal (system_of c.args.own).formals (parts_of (string_bytes c.args.names.now)))) r.result Memory r.ensures.1 tt
 
 pub returns-clause-asked : goal.returns-clause-asked
 returns-clause-asked c =

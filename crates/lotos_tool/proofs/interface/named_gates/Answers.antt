@@ -4,15 +4,16 @@ use Rattle.lotos_check.proofs.SameFault.{passed_on}
 use Rattle.lotos_pattern.specs.Spelling.{Text, parts_of, texts_of}
 use Rattle.lotos_pattern.proofs.Words.{word_at}
 use Rattle.lotos_tool.specs.Interfaces.{AreGatesOf}
-use Rattle.lotos_tool.specs.Rejections.{IsListRejection}
-use Rattle.lotos_tool.specs.Rejections.IsListRejection.{list_memory}
+use Rattle.lotos_tool.specs.RefusalCauses.{IsNameRefusal}
+use Rattle.lotos_tool.specs.Rejections.{IsRejectionBy}
 use Rattle.lotos_tool.specs.declared.rejection.Rejection.TheVariants.{Memory}
-use Rattle.lotos_tool.proofs.Interfaces.{known_more, name_rejects, named_more}
+use Rattle.lotos_tool.proofs.Interfaces.{known_more, name_refused, named_more}
+use Rattle.lotos_tool.proofs.Rejections.{rejects_more}
 use Rattle.lotos_tool.proofs.interface.named_gates.Goals as goal
 
 pub returns-in_err-names-clause-rejected : goal.returns-in_err-names-clause-rejected
 returns-in_err-names-clause-rejected c =
-    passed_on (IsListRejection c.args.gates.now (parts_of c.args.list.now)) c.from_residual.result Memory c.from_residual.ensures.1 list_memory
+    passed_on (IsRejectionBy (IsNameRefusal c.args.gates.now (parts_of c.args.list.now))) c.from_residual.result Memory c.from_residual.ensures.1 tt
 
 pub returns-in_err-gate-clause-rejected : goal.returns-in_err-gate-clause-rejected
 returns-in_err-gate-clause-rejected c =
@@ -22,13 +23,13 @@ returns-in_err-gate-clause-rejected c =
     let i = c.loop-name.name-index in
     let name : Text = (get_or items i (record { ref_ptr = (0, 0); now = [] })).now in
     let same : texts_of items ≡ parts_of c.args.list.now = ap texts_of c.deref-name-items.ensures.value ∙ c.in_ok-names.ensures in
-    passed_on (IsListRejection c.args.gates.now (parts_of c.args.list.now)) r.result u r.ensures.1
-    (subst (λ (names : List Text). IsListRejection c.args.gates.now names u) same
-    (name_rejects c.args.gates.now (texts_of items) i name u (word_at items i _ c.loop-name-test.true) c.loop-name.invariant.1
+    passed_on (IsRejectionBy (IsNameRefusal c.args.gates.now (parts_of c.args.list.now))) r.result u r.ensures.1
+    (subst (λ (names : List Text). IsRejectionBy (IsNameRefusal c.args.gates.now names) u) same
+    (rejects_more _ _ u (name_refused c.args.gates.now (texts_of items) i name (word_at items i _ c.loop-name-test.true) c.loop-name.invariant.1)
     c.in_err-gate.ensures.rejected))
 
 pub returns-in-Err-clause-rejected : goal.returns-in-Err-clause-rejected
-returns-in-Err-clause-rejected c = list_memory
+returns-in-Err-clause-rejected c = tt
 
 pub loop-name-preserved : goal.loop-name-preserved
 loop-name-preserved c =

@@ -24,7 +24,7 @@ returns-in-Ok-write_bytes-clause-whole g c =
     c.as_bytes.ensures.value ∙ made ∙ ap (λ x. x ++ run_text (writes_runs (runs_of view)) w ++ 10 ∷ []) begun in (
       record { sequence = item.sequence; run = w },
       record { sequence = printed.sequence; run = texts_are },
-      subst (Appends (g.W.Sink.written c.args.writer.now) (g.W.Sink.written c.write_bytes.new.writer)) line c.in-Ok-write_bytes.ensures.whole,
+      subst (Appends (g.W.Sink.state c.args.writer.now).written (g.W.Sink.state c.write_bytes.new.writer).written) line c.in-Ok-write_bytes.ensures.whole,
     )
 
 pub returns-in-Err-clause-part : goal.returns-in-Err-clause-part
@@ -42,5 +42,5 @@ returns-in-Err-clause-part g c = λ write.
     c.as_bytes.ensures.value ∙ made ∙ ap (λ x. x ++ run_text (writes_runs (runs_of view)) w ++ 10 ∷ []) begun in (
       record { sequence = item.sequence; run = w },
       record { sequence = printed.sequence; run = texts_are },
-      subst (AppendsPart (g.W.Sink.written c.args.writer.now) (g.W.Sink.written c.write_bytes.new.writer)) line c.in-Err.ensures.part,
+      subst (AppendsPart (g.W.Sink.state c.args.writer.now).written (g.W.Sink.state c.write_bytes.new.writer).written) line c.in-Err.ensures.part,
     )

@@ -4,6 +4,9 @@ use Rattle.lotos_tool.specs.WrittenItems.{AreRunsFor}
 use Rattle.lotos_output.specs.ItemRuns.{runs_view}
 use Rattle.lotos_tool.specs.ListingQuestions.{ListingQuestion, names_of}
 use Rattle.lotos_tool.proofs.Calls.{halt_failed, told_end, told_halt, returned_item}
+use Rattle.lotos_outcome.specs.Calls.{Answered}
+use Rattle.lotos_outcome.specs.Outcomes.{is_unwritten}
+use Rattle.lotos_tool.specs.ListingOutcome.{listing_answering}
 use Rattle.lotos_tool.proofs.ListingProgress.{below_limit, ends_finished, ends_halted, ends_limited, ends_unwritten, its_labels_now, its_run_now}
 use Rattle.lotos_tool.proofs.ListingProgress.{none_below, progress_more, progress_none, text_kept, within_more}
 use Rattle.lotos_tool.proofs.listing_output.write_listing.Goals as goal
@@ -25,11 +28,11 @@ returns-in-Ok-None-clause-ends g c =
     let inv = c.loop-found.invariant in
     let old = g.S.ListingSearch.state c.loop-found.search in
     let new = g.S.ListingSearch.state c.next_item.new.self in
-    ends_finished _ _ _ _ c.strict_order.ensures.total _ _ _ _ inv.items inv.progress _ _ c.flush_complete.result inv.question
-    (told_end old new _ inv.stage c.in-Ok-None.field-0-is c.in-Ok-None.ensures.next_returns) inv.below c.flush_complete.ensures.finished
+    ends_finished _ _ _ _ c.strict_order.ensures.total _ _ _ _ inv.items inv.progress _ _ c.end_listing.result inv.question
+    (told_end old new _ inv.stage c.in-Ok-None.field-0-is c.in-Ok-None.ensures.next_returns) inv.below c.end_listing.ensures.finished
 
-pub cause_of_halt-why-requires-clause-halt : goal.cause_of_halt-why-requires-clause-halt
-cause_of_halt-why-requires-clause-halt g c =
+pub stop_at_halt-cause-requires-clause-halt : goal.stop_at_halt-cause-requires-clause-halt
+stop_at_halt-cause-requires-clause-halt g c =
     let inv = c.loop-found.invariant in
     let old = g.S.ListingSearch.state c.loop-found.search in
     let new = g.S.ListingSearch.state c.next_item.new.self in
@@ -41,10 +44,12 @@ returns-in-Err-clause-ends g c =
     let old = g.S.ListingSearch.state c.loop-found.search in
     let new = g.S.ListingSearch.state c.next_item.new.self in
     let halt = told_halt old new c.in-Err.halt c.next_item.ensures.same inv.stage c.in-Err.ensures.next_returns in
-    ends_halted _ _ _ _ c.strict_order.ensures.total _ _ _ _ inv.items inv.progress _ _ _ c.cause_of_halt-why.result
+    let halted = c.stop_at_halt-cause.result in
+    subst (Answered (listing_answering c.args.options) _ _ _) (sym c.stopped.ensures)
+    (ends_halted _ _ _ _ c.strict_order.ensures.total _ _ _ _ inv.items inv.progress _ _ _ halted.cause halted.prefix
     (c.next_item.ensures.same ∙ inv.question)
     inv.below
-    (c.cause_of_halt-why.ensures.cause old.cursor halt) c.cause_of_halt-why.ensures.kept
+    (c.stop_at_halt-cause.ensures.stop old.cursor halt) c.stop_at_halt-cause.ensures.kept)
 
 pub returns-in-Err-clause-failed : goal.returns-in-Err-clause-failed
 returns-in-Err-clause-failed g c =
@@ -52,7 +57,9 @@ returns-in-Err-clause-failed g c =
     let old = g.S.ListingSearch.state c.loop-found.search in
     let new = g.S.ListingSearch.state c.next_item.new.self in
     let halt = told_halt old new c.in-Err.halt c.next_item.ensures.same inv.stage c.in-Err.ensures.next_returns in
-    halt_failed new.question old.cursor _ c.cause_of_halt-why.result (c.cause_of_halt-why.ensures.cause old.cursor halt)
+    let halted = c.stop_at_halt-cause.result in
+    halt_failed new.question old.cursor _ halted.cause halted.prefix (c.stop_at_halt-cause.ensures.stop old.cursor halt)
+    ∙ ap is_unwritten (sym c.stopped.ensures)
 
 pub write_item-requires-clause-printed : goal.write_item-requires-clause-printed
 write_item-requires-clause-printed g c =
@@ -87,10 +94,11 @@ returns-in-Err-write_item-clause-ends g c =
     let new = g.S.ListingSearch.state c.next_item.new.self in
     let returned = returned_item old new _ _ inv.stage c.in-Ok-Some.field-0-is c.in-Ok-Some.ensures.next_returns in
     let failed = c.in-Err-write_item.ensures in
-    ends_unwritten _ _ _ _ c.strict_order.ensures.total _ _ _ _ inv.items inv.progress _ _ _ _ _ c.in-Err-write_item.why inv.question
+    subst (Answered (listing_answering c.args.options) _ _ _) (sym c.stopped-in-Err-write_item.ensures)
+    (ends_unwritten _ _ _ _ c.strict_order.ensures.total _ _ _ _ inv.items inv.progress _ _ _ _ _ c.in-Err-write_item.cause inv.question
     (c.next_item.ensures.same ∙ inv.question) returned.0
     (runs_view c.loop-found.runs) inv.runs inv.below
-    failed.causes (λ e. failed.memory (ap Err e)) (λ e. failed.part (ap Err e))
+    failed.causes (λ e. failed.memory (ap Err e)) (λ e. failed.part (ap Err e)))
 
 pub returns-then-is_at_limit-clause-ends : goal.returns-then-is_at_limit-clause-ends
 returns-then-is_at_limit-clause-ends g c =
@@ -102,8 +110,9 @@ returns-then-is_at_limit-clause-ends g c =
     (c.next_item.ensures.same ∙ inv.question) returned.0
     (runs_view c.loop-found.runs) inv.runs c.in-Ok.ensures.whole c.in-Ok.ensures.text c.saturating_add-lines.ensures in
     let at : is_at_limit c.saturating_add-lines.result c.args.options.limit ≡ true = search rules in
-    ends_limited _ _ _ _ c.strict_order.ensures.total _ _ _ _ _ more _ _ c.flush_stopped-why.result c.is_at_limit.ensures.small at
-    (within_more inv.items c.in-Ok.ensures.whole.0 c.args.options.limit inv.below) c.flush_stopped-why.ensures.cause c.flush_stopped-why.ensures.kept
+    subst (Answered (listing_answering c.args.options) _ _ _) (sym c.stopped-then-is_at_limit.ensures)
+    (ends_limited _ _ _ _ c.strict_order.ensures.total _ _ _ _ _ more _ _ c.flush_stopped-cause.result c.is_at_limit.ensures.small at
+    (within_more inv.items c.in-Ok.ensures.whole.0 c.args.options.limit inv.below) c.flush_stopped-cause.ensures.returned c.flush_stopped-cause.ensures.kept)
 
 pub loop-found-preserved : goal.loop-found-preserved
 loop-found-preserved g c =

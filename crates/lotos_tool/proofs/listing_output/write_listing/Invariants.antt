@@ -18,14 +18,14 @@ invariant-loop-found g l =
     let now = g.S.ListingSearch.state l.search in
     record {
       items : List Item;
-      progress : Progress l.fn.options begun.question begun.cursor (g.W.Sink.written l.fn.writer) (g.W.Sink.written l.writer)
+      progress : Progress l.fn.options begun.question begun.cursor (g.W.Sink.state l.fn.writer).written (g.W.Sink.state l.writer).written
           now.cursor l.lines l.last items;
       last : HasLastText (names_of begun.question) l.labels.items l.last;
       below : IsBelowLimit (length items) l.fn.options.limit;
       runs : AreRunsFor begun.question l.fn.options.runs (runs_view l.runs);
       question : now.question ≡ begun.question;
       stage : now.stage ≡ running;
-      unfailed : g.W.Sink.has_failed l.writer ≡ false;
+      unfailed : (g.W.Sink.state l.writer).has_failed ≡ false;
     }
 
 -- how many sequences of at most as many labels as a member may have come after the last item

@@ -1,81 +1,84 @@
-use Rattle.std.proofs.Common.{◌≡◌, ℕ, Bool, List, Option, inl, inr, rules, subst}
+use Rattle.std.proofs.Common.{◌≡◌, ℕ, ◌+◌, Bool, List, arith, inl, inr, rules, subst}
 use Rattle.lotos_command.specs.Request.{RequestOf, request_view}
-use Rattle.lotos_tool.specs.ProgramRuns.{AfterRan, AfterReported, CheckRan, CheckReported, CoverRan, CoverReported, EverRan, EverReported, SearchRan}
-use Rattle.lotos_tool.specs.ProgramRuns.{SearchReported}
 use Rattle.lotos_command.specs.declared.command.Request.{Request}
-use Rattle.lotos_command.specs.declared.command.Request.TheVariants as one
-use Rattle.lotos_command.specs.declared.command.AfterRequest.{AfterRequest}
-use Rattle.lotos_command.specs.declared.command.CoverRequest.{CoverRequest}
-use Rattle.lotos_command.specs.declared.command.DiagnoseRequest.{DiagnoseRequest}
-use Rattle.lotos_command.specs.declared.command.EverRequest.{EverRequest}
-use Rattle.lotos_command.specs.declared.command.SearchRequest.{SearchRequest}
+use Rattle.lotos_command.specs.declared.command.Request.TheVariants as command
+use Rattle.lotos_device.specs.DeviceStates.{SinkState, SourceState}
+use Rattle.lotos_outcome.specs.Calls.{Meaning, Ran}
+use Rattle.lotos_tool.specs.AfterOutcome.{after_meaning}
+use Rattle.lotos_tool.specs.CheckOutcome.{check_meaning}
+use Rattle.lotos_tool.specs.CoverOutcome.{cover_meaning}
+use Rattle.lotos_tool.specs.EverOutcome.{ever_meaning}
+use Rattle.lotos_tool.specs.Findings.{always, can_come, happens, has_lines}
+use Rattle.lotos_tool.specs.ProgramRuns.{CommandRan, ProgramRan}
+use Rattle.lotos_tool.specs.SearchOutcome.{search_meaning}
+use Rattle.lotos_tool.proofs.CallEnds.{ran_output}
 use Rattle.lotos_tool.proofs.UnreadWords.{answered}
 use Rattle.lotos_tool.proofs.program.run.Goals as goal
 
-module _ (words : List (List ℕ)) (left left' got got' : Option (List ℕ)) (broken : Bool) (status : ℕ) where
-  searched : (asked : Request) (request : SearchRequest) → SearchReported request left left' got got' broken status → asked ≡ one.Search request
-      → RequestOf words (request_view asked) → SearchRan words left left' got got' broken status
-  searched asked request reported is asks =
-      let Asks : Request → Type 0 = λ r. RequestOf words (request_view r) in
-      record { request = request; asked = subst Asks is asks; reported = reported }
+module _ (words : List (List ℕ)) (from from' : SourceState) (to to' : SinkState) (status : ℕ) where
+  -- a command ran by the request that the words make
+  command_ran : {R F P : Type 0} (kind : R → Request) (meaning : R → Meaning F P) (is_yes : F → Bool) (asked : Request) (request : R) →
+      Ran (meaning request) is_yes from from' to to' status → asked ≡ kind request → RequestOf words (request_view asked) →
+      CommandRan words from from' to to' status kind meaning is_yes
+  command_ran kind meaning is_yes asked request ran is asks =
+      record { request = request; asked = subst (λ r. RequestOf words (request_view r)) is asks; ran = ran }
 
-  inspected : (asked : Request) → CheckReported left left' got got' broken status → asked ≡ one.Check → RequestOf words (request_view asked)
-      → CheckRan words left left' got got' broken status
-  inspected asked reported is asks =
-      let Asks : Request → Type 0 = λ r. RequestOf words (request_view r) in
-      record { asked = inl (subst Asks is asks); reported = reported }
+pub returns-in-Ok-Search : goal.returns-in-Ok-Search
+returns-in-Ok-Search g c =
+    let ran = c.run_command.ensures in record {
+      ran = inl (command_ran _ _ _ _ _ _ command.Search search_meaning has_lines c.in-Ok-Search.field-0 c.in-Ok-Search.asked ran (search rules)
+          c.in-Ok-Search.ensures.is);
+      given = ran.call.takes.given;
+      output = ran_output _ _ _ _ _ _ _ ran;
+    }
 
-  diagnosed : (asked : Request) (request : DiagnoseRequest) → CheckReported left left' got got' broken status → asked ≡ one.Diagnose request
-      → RequestOf words (request_view asked) → CheckRan words left left' got got' broken status
-  diagnosed asked request reported is asks =
-      let Asks : Request → Type 0 = λ r. RequestOf words (request_view r) in
-      record { asked = inr (request, subst Asks is asks); reported = reported }
+pub returns-in-Ok-Check : goal.returns-in-Ok-Check
+returns-in-Ok-Check g c =
+    let ran = c.run_check.ensures in record {
+      ran = inr (inl (inl (command_ran _ _ _ _ _ _ (λ u. command.Check) (λ u. check_meaning) always _ tt ran (search rules) c.in-Ok-Check.ensures.is)));
+      given = ran.call.takes.given;
+      output = ran_output _ _ _ _ _ _ _ ran;
+    }
 
-  questioned : (asked : Request) (request : EverRequest) → EverReported request left left' got got' broken status → asked ≡ one.Ever request
-      → RequestOf words (request_view asked) → EverRan words left left' got got' broken status
-  questioned asked request reported is asks =
-      let Asks : Request → Type 0 = λ r. RequestOf words (request_view r) in
-      record { request = request; asked = subst Asks is asks; reported = reported }
+pub returns-in-Ok-Diagnose : goal.returns-in-Ok-Diagnose
+returns-in-Ok-Diagnose g c =
+    let ran = c.run_diagnosis.ensures in record {
+      ran = inr (inl (inr (command_ran _ _ _ _ _ _ command.Diagnose (λ asked. check_meaning) always c.in-Ok-Diagnose.field-0 c.in-Ok-Diagnose.asked ran
+          (search rules) c.in-Ok-Diagnose.ensures.is)));
+      given = ran.call.takes.given;
+      output = ran_output _ _ _ _ _ _ _ ran;
+    }
 
-  followed : (asked : Request) (request : AfterRequest) → AfterReported request left left' got got' broken status → asked ≡ one.After request
-      → RequestOf words (request_view asked) → AfterRan words left left' got got' broken status
-  followed asked request reported is asks =
-      let Asks : Request → Type 0 = λ r. RequestOf words (request_view r) in
-      record { request = request; asked = subst Asks is asks; reported = reported }
+pub returns-in-Ok-Ever : goal.returns-in-Ok-Ever
+returns-in-Ok-Ever g c =
+    let ran = c.run_command-in-Ok-Ever.ensures in record {
+      ran = inr (inr (inl (command_ran _ _ _ _ _ _ command.Ever ever_meaning happens c.in-Ok-Ever.field-0 c.in-Ok-Ever.asked ran (search rules)
+          c.in-Ok-Ever.ensures.is)));
+      given = ran.call.takes.given;
+      output = ran_output _ _ _ _ _ _ _ ran;
+    }
 
-  covered : (asked : Request) (request : CoverRequest) → CoverReported request left left' got got' broken status → asked ≡ one.Cover request
-      → RequestOf words (request_view asked) → CoverRan words left left' got got' broken status
-  covered asked request reported is asks =
-      let Asks : Request → Type 0 = λ r. RequestOf words (request_view r) in
-      record { request = request; asked = subst Asks is asks; reported = reported }
+pub returns-in-Ok-After : goal.returns-in-Ok-After
+returns-in-Ok-After g c =
+    let ran = c.run_command-in-Ok-After.ensures in record {
+      ran = inr (inr (inr (inl (command_ran _ _ _ _ _ _ command.After after_meaning can_come c.in-Ok-After.field-0 c.in-Ok-After.asked ran (search rules)
+          c.in-Ok-After.ensures.is))));
+      given = ran.call.takes.given;
+      output = ran_output _ _ _ _ _ _ _ ran;
+    }
 
-pub returns-in-Ok-Cover-clause-ran : goal.returns-in-Ok-Cover-clause-ran
-returns-in-Ok-Cover-clause-ran g c =
-    inr (inr (inr (inr (inl (covered _ _ _ _ _ _ _ c.in-Ok-Cover.field-0 c.in-Ok-Cover.asked c.run_cover.ensures.reported (search rules)
-    c.in-Ok-Cover.ensures.is)))))
+pub returns-in-Ok-Cover : goal.returns-in-Ok-Cover
+returns-in-Ok-Cover g c =
+    let ran = c.run_command-in-Ok-Cover.ensures in record {
+      ran = inr (inr (inr (inr (inl (command_ran _ _ _ _ _ _ command.Cover cover_meaning has_lines c.in-Ok-Cover.field-0 c.in-Ok-Cover.asked ran
+          (search rules) c.in-Ok-Cover.ensures.is)))));
+      given = ran.call.takes.given;
+      output = ran_output _ _ _ _ _ _ _ ran;
+    }
 
-pub returns-in-Ok-After-clause-ran : goal.returns-in-Ok-After-clause-ran
-returns-in-Ok-After-clause-ran g c =
-    inr (inr (inr (inl (followed _ _ _ _ _ _ _ c.in-Ok-After.field-0 c.in-Ok-After.asked c.run_after.ensures.reported (search rules)
-    c.in-Ok-After.ensures.is))))
-
-pub returns-in-Ok-Ever-clause-ran : goal.returns-in-Ok-Ever-clause-ran
-returns-in-Ok-Ever-clause-ran g c =
-    inr (inr (inl (questioned _ _ _ _ _ _ _ c.in-Ok-Ever.field-0 c.in-Ok-Ever.asked c.run_ever.ensures.reported (search rules) c.in-Ok-Ever.ensures.is)))
-
-pub returns-in-Ok-Check-clause-ran : goal.returns-in-Ok-Check-clause-ran
-returns-in-Ok-Check-clause-ran g c = inr (inl (inspected _ _ _ _ _ _ _ _ c.run_check.ensures.reported (search rules) c.in-Ok-Check.ensures.is))
-
-pub returns-in-Ok-Diagnose-clause-ran : goal.returns-in-Ok-Diagnose-clause-ran
-returns-in-Ok-Diagnose-clause-ran g c =
-    inr (inl (diagnosed _ _ _ _ _ _ _ c.in-Ok-Diagnose.field-0 c.in-Ok-Diagnose.asked c.run_diagnosis.ensures.reported (search rules)
-    c.in-Ok-Diagnose.ensures.is))
-
-pub returns-in-Ok-Search-clause-ran : goal.returns-in-Ok-Search-clause-ran
-returns-in-Ok-Search-clause-ran g c =
-    inl (searched _ _ _ _ _ _ _ c.in-Ok-Search.field-0 c.in-Ok-Search.asked c.run_search.ensures.reported (search rules) c.in-Ok-Search.ensures.is)
-
-pub returns-in-Err-clause-ran : goal.returns-in-Err-clause-ran
-returns-in-Err-clause-ran g c =
-    inr (inr (inr (inr (inr (answered _ c.in-Err.fault _ _ _ _ _ (search rules) c.in-Err.ensures.fault c.in-Err.ensures.taken
-    c.end_without_command.ensures.answer)))))
+pub returns-in-Err : goal.returns-in-Err
+returns-in-Err g c = record {
+  ran = inr (inr (inr (inr (inr (answered _ c.in-Err.fault _ _ _ _ c.in-Err.ensures.fault c.in-Err.ensures.taken c.end_without_command.ensures.answer)))));
+  given = omega arith;
+  output = c.end_without_command.ensures.output;
+}

@@ -3,15 +3,15 @@ use Rattle.lotos_check.proofs.SameFault.{passed_on}
 use Rattle.lotos_pattern.specs.PatternFaults.{IsCause, SpellsNone}
 use Rattle.lotos_pattern.specs.Spelling.{texts_of}
 use Rattle.lotos_tool.specs.QuestionParts.{words_of}
-use Rattle.lotos_tool.specs.Rejections.{IsPatternRejection, pattern_rejection}
-use Rattle.lotos_tool.specs.Rejections.IsPatternRejection.{pattern_memory}
+use Rattle.lotos_tool.specs.RefusalCauses.{IsPatternRefusal}
+use Rattle.lotos_tool.specs.Rejections.{IsRejectionBy, pattern_rejection}
 use Rattle.lotos_tool.specs.declared.rejection.Rejection.TheVariants.{Memory}
 use Rattle.lotos_tool.proofs.Rejections.{pattern_rejected_for}
 use Rattle.lotos_tool.proofs.question_parts.read_pattern.Goals as goal
 
 pub returns-in_err-texts-clause-rejected : goal.returns-in_err-texts-clause-rejected
 returns-in_err-texts-clause-rejected c =
-    passed_on (IsPatternRejection c.args.strong (words_of c.args.words.now)) c.from_residual.result Memory c.from_residual.ensures.1 pattern_memory
+    passed_on (IsRejectionBy (IsPatternRefusal c.args.strong (words_of c.args.words.now))) c.from_residual.result Memory c.from_residual.ensures.1 tt
 
 pub returns-in_err-read-clause-rejected : goal.returns-in_err-read-clause-rejected
 returns-in_err-read-clause-rejected c =
@@ -19,6 +19,6 @@ returns-in_err-read-clause-rejected c =
     let r = c.from_residual-in_err-read in
     let same : texts_of c.as_slice-2.result.now ≡ words_of c.args.words.now =
     ap texts_of c.as_slice-2.ensures.value ∙ c.in_ok-texts.ensures ∙ ap (map string_bytes) c.as_slice.ensures.value in
-    passed_on (IsPatternRejection c.args.strong (words_of c.args.words.now)) r.result (pattern_rejection fault) r.ensures.1
+    passed_on (IsRejectionBy (IsPatternRefusal c.args.strong (words_of c.args.words.now))) r.result (pattern_rejection fault) r.ensures.1
     (pattern_rejected_for c.args.strong (words_of c.args.words.now) fault (subst (λ words. IsCause c.args.strong words fault) same c.in_err-read.ensures.cause)
     (subst (λ words. SpellsNone c.args.strong words fault) same c.in_err-read.ensures.nothing))

@@ -4,12 +4,12 @@ use Rattle.lotos_tool.specs.RefusalCauses.{IsCoverRefusal}
 use Rattle.lotos_tool.specs.RefusalCauses.IsCoverRefusal.{of_input, of_line}
 use Rattle.lotos_tool.specs.Rejections.{IsRejectionBy}
 use Rattle.lotos_tool.proofs.Rejections.{nothing_taken, rejects_more}
-use Rattle.lotos_tool.proofs.cover_command.read_parts.Goals as goal
+use Rattle.lotos_tool.proofs.cover_command.CoverRequestCommand.read_parts.Goals as goal
 
 pub returns-in_err-mark-clause-rejected : goal.returns-in_err-mark-clause-rejected
 returns-in_err-mark-clause-rejected g c =
     let r = c.from_residual in
-    passed_on (IsRejectionBy (IsCoverRefusal c.args.request.now _ _)) r.result c.in_err-mark.field-0.0 r.ensures.1
+    passed_on (IsRejectionBy (IsCoverRefusal c.args.self.now _ _)) r.result c.in_err-mark.field-0.0 r.ensures.1
     (rejects_more _ _ c.in_err-mark.field-0.0 (λ cause. of_line (Keeps-refl _)) c.in_err-mark.ensures.rejected)
 
 pub returns-in_err-mark-clause-takes : goal.returns-in_err-mark-clause-takes
@@ -18,7 +18,7 @@ returns-in_err-mark-clause-takes g c = nothing_taken _
 pub returns-in_err-system-clause-rejected : goal.returns-in_err-system-clause-rejected
 returns-in_err-system-clause-rejected g c =
     let r = c.from_residual-in_err-system in
-    passed_on (IsRejectionBy (IsCoverRefusal c.args.request.now _ _)) r.result c.in_err-system.field-0.0 r.ensures.1
+    passed_on (IsRejectionBy (IsCoverRefusal c.args.self.now _ _)) r.result c.in_err-system.field-0.0 r.ensures.1
     (rejects_more _ _ c.in_err-system.field-0.0 (λ cause. of_input) c.in_err-system.ensures.refused)
 
 pub returns-clause-parts : goal.returns-clause-parts
