@@ -14,7 +14,6 @@ use crate::command::{
     Request, Runs, SearchRequest,
 };
 use crate::command_line::{Question, lotosseq_command, question_command};
-use crate::help::{NO_EXTENT, TWO_EXTENTS, TWO_INTERFACES};
 use clap::error::ErrorKind;
 use clap::{ArgMatches, Error};
 use std::alloc::{AllocError, Global};
@@ -24,6 +23,16 @@ const DEFAULT_TERMS: usize = 100_000;
 
 /// The most product states that may be stored, or sets that may be reached, unless `--states` is given.
 const DEFAULT_STATES: usize = 1_000_000;
+
+/// What is wrong with a search that has neither `--depth` nor `--length`.
+const NO_EXTENT: &str = "the following required arguments were not provided:
+  <--depth <N>|--length <N>>";
+
+/// What is wrong with a search that has both.
+const TWO_EXTENTS: &str = "the argument '--depth <N>' cannot be used with '--length <N>'";
+
+/// What is wrong with a question that has both `--hide` and `--only`.
+const TWO_INTERFACES: &str = "the argument '--hide <GATES>' cannot be used with '--only <GATES>'";
 
 /// The request that the words of a command line make. The first word is the program's own name.
 ///
