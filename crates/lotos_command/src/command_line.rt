@@ -1,8 +1,8 @@
 //! The command line of `lotosseq` as clap has it: subcommands, options and their help.
-ghost use Rattle.std.specs.Prelude.{◌≡◌, IfOk, false, map};
+ghost use Rattle.std.specs.Prelude.{◌≡◌, IfOk, codes, map, true};
+ghost use Rattle.std.specs.List.{list_all};
 ghost use Rattle.clap.specs.Words.{app_of, rule_of};
-ghost use Rattle.clap.specs.declared.builder.command.Command.TheViews.{out-Command as fields_of};
-ghost use Rattle.lotos_command.specs.CommandRules.{AreCommandsOf, after_app, after_rules, check_app, check_rules, cover_app, cover_rules, ever_app, extent_rule, ever_rules, flag_rule, limit_rule, lotosseq, number_rule, option_rule, search_app, search_rules, states_rule, subcommand_apps, terms_rule, words_rule};
+ghost use Rattle.lotos_command.specs.CommandRules.{AreCommandsOf, IsCommandOf, after_rules, check_rules, cover_rules, ever_rules, extent_rule, flag_rule, lotosseq, number_rule, option_rule, search_rules, states_rule, subcommand_app, subcommand_apps, terms_rule, words_rule};
 
 use crate::help::{Help, VERSION, after, check, common, cover, ever, program, search};
 use clap::{Arg, ArgAction, Command, value_parser};
@@ -57,26 +57,12 @@ fn subcommands<'a>(alloc: Global) -> Result<Vec<Command<'a>>, AllocError>
 }
 
 fn search_command<'a>(alloc: Global) -> Result<Command<'a>, AllocError>
-    ensures app { IfOk result (λ c. app_of c ≡ search_app) }
-    ensures local { IfOk result (λ c. (fields_of c).has_globals ≡ false) }
+    ensures { IfOk result (IsCommandOf (subcommand_app (codes "search") search_rules)) }
 {
-    let args = search_args(alloc)?;
-    Command::new(alloc, "search")
-        .override_usage(search::USAGE)
-        .about(search::ABOUT.short)
-        .long_about(search::ABOUT.long)
-        .after_help(search::STATUSES)
-        .args(args)
-}
-
-/// The arguments of `search`, in the order of its help.
-fn search_args<'a>(alloc: Global) -> Result<Vec<Arg<'a>>, AllocError>
-    ensures { IfOk result (λ args. map rule_of args.items ≡ search_rules) }
-{
-    Ok(vec![in alloc;
+    let args = vec![in alloc;
         extent_arg(alloc, "depth", search::DEPTH),
         extent_arg(alloc, "length", search::LENGTH),
-        limit_arg(alloc),
+        number_arg(alloc, "limit", 1000000000, common::LIMIT),
         terms_arg(alloc, search::TERMS),
         option(alloc, "after", "LINE", common::AFTER),
         flag(alloc, "explain", search::EXPLAIN),
@@ -87,48 +73,25 @@ fn search_args<'a>(alloc: Global) -> Result<Vec<Arg<'a>>, AllocError>
         flag(alloc, "known", search::KNOWN),
         flag(alloc, "progress", common::PROGRESS),
         words_arg(alloc, "WORD", search::WORDS),
-    ]?)
+    ]?;
+    let search = subcommand(alloc, "search", search::ABOUT, search::STATUSES, args)?;
+    Ok(search.override_usage(search::USAGE))
 }
 
 fn check_command<'a>(alloc: Global) -> Result<Command<'a>, AllocError>
-    ensures app { IfOk result (λ c. app_of c ≡ check_app) }
-    ensures local { IfOk result (λ c. (fields_of c).has_globals ≡ false) }
+    ensures { IfOk result (IsCommandOf (subcommand_app (codes "check") check_rules)) }
 {
-    let args = check_args(alloc)?;
-    Command::new(alloc, "check")
-        .about(check::ABOUT.short)
-        .long_about(check::ABOUT.long)
-        .after_help(check::STATUSES)
-        .args(args)
-}
-
-/// The arguments of `check`, in the order of its help.
-fn check_args<'a>(alloc: Global) -> Result<Vec<Arg<'a>>, AllocError>
-    ensures { IfOk result (λ args. map rule_of args.items ≡ check_rules) }
-{
-    Ok(vec![in alloc;
+    let args = vec![in alloc;
         flag(alloc, "explain", check::EXPLAIN),
         flag(alloc, "warn", check::WARN),
-    ]?)
+    ]?;
+    subcommand(alloc, "check", check::ABOUT, check::STATUSES, args)
 }
 
 fn ever_command<'a>(alloc: Global) -> Result<Command<'a>, AllocError>
-    ensures app { IfOk result (λ c. app_of c ≡ ever_app) }
-    ensures local { IfOk result (λ c. (fields_of c).has_globals ≡ false) }
+    ensures { IfOk result (IsCommandOf (subcommand_app (codes "ever") ever_rules)) }
 {
-    let args = ever_args(alloc)?;
-    Command::new(alloc, "ever")
-        .about(ever::ABOUT.short)
-        .long_about(ever::ABOUT.long)
-        .after_help(ever::STATUSES)
-        .args(args)
-}
-
-/// The arguments of `ever`, in the order of its help.
-fn ever_args<'a>(alloc: Global) -> Result<Vec<Arg<'a>>, AllocError>
-    ensures { IfOk result (λ args. map rule_of args.items ≡ ever_rules) }
-{
-    Ok(vec![in alloc;
+    let args = vec![in alloc;
         states_arg(alloc, ever::STATES),
         flag(alloc, "explain", ever::EXPLAIN),
         flag(alloc, "hidden", ever::HIDDEN),
@@ -137,53 +100,29 @@ fn ever_args<'a>(alloc: Global) -> Result<Vec<Arg<'a>>, AllocError>
         flag(alloc, "strong", ever::STRONG),
         flag(alloc, "progress", common::PROGRESS),
         words_arg(alloc, "WORD", ever::WORDS),
-    ]?)
+    ]?;
+    subcommand(alloc, "ever", ever::ABOUT, ever::STATUSES, args)
 }
 
 fn after_command<'a>(alloc: Global) -> Result<Command<'a>, AllocError>
-    ensures app { IfOk result (λ c. app_of c ≡ after_app) }
-    ensures local { IfOk result (λ c. (fields_of c).has_globals ≡ false) }
+    ensures { IfOk result (IsCommandOf (subcommand_app (codes "after") after_rules)) }
 {
-    let args = after_args(alloc)?;
-    Command::new(alloc, "after")
-        .about(after::ABOUT.short)
-        .long_about(after::ABOUT.long)
-        .after_help(after::STATUSES)
-        .args(args)
-}
-
-/// The arguments of `after`, in the order of its help.
-fn after_args<'a>(alloc: Global) -> Result<Vec<Arg<'a>>, AllocError>
-    ensures { IfOk result (λ args. map rule_of args.items ≡ after_rules) }
-{
-    Ok(vec![in alloc;
+    let args = vec![in alloc;
         terms_arg(alloc, after::TERMS),
         option(alloc, "hide", "GATES", common::HIDE),
         option(alloc, "only", "GATES", common::ONLY),
         flag(alloc, "strong", after::STRONG),
         flag(alloc, "progress", common::PROGRESS),
         words_arg(alloc, "LABEL", after::LABELS),
-    ]?)
+    ]?;
+    subcommand(alloc, "after", after::ABOUT, after::STATUSES, args)
 }
 
 fn cover_command<'a>(alloc: Global) -> Result<Command<'a>, AllocError>
-    ensures app { IfOk result (λ c. app_of c ≡ cover_app) }
-    ensures local { IfOk result (λ c. (fields_of c).has_globals ≡ false) }
+    ensures { IfOk result (IsCommandOf (subcommand_app (codes "cover") cover_rules)) }
 {
-    let args = cover_args(alloc)?;
-    Command::new(alloc, "cover")
-        .about(cover::ABOUT.short)
-        .long_about(cover::ABOUT.long)
-        .after_help(cover::STATUSES)
-        .args(args)
-}
-
-/// The arguments of `cover`, in the order of its help.
-fn cover_args<'a>(alloc: Global) -> Result<Vec<Arg<'a>>, AllocError>
-    ensures { IfOk result (λ args. map rule_of args.items ≡ cover_rules) }
-{
-    Ok(vec![in alloc;
-        limit_arg(alloc),
+    let args = vec![in alloc;
+        number_arg(alloc, "limit", 1000000000, common::LIMIT),
         terms_arg(alloc, cover::TERMS),
         states_arg(alloc, cover::STATES),
         option(alloc, "after", "LINE", common::AFTER),
@@ -191,7 +130,26 @@ fn cover_args<'a>(alloc: Global) -> Result<Vec<Arg<'a>>, AllocError>
         option(alloc, "only", "GATES", common::ONLY),
         flag(alloc, "strong", cover::STRONG),
         flag(alloc, "progress", common::PROGRESS),
-    ]?)
+    ]?;
+    subcommand(alloc, "cover", cover::ABOUT, cover::STATUSES, args)
+}
+
+/// A subcommand with these texts in its help. The arguments are in the order of the help.
+fn subcommand<'a>(
+    alloc: Global,
+    name: &'a str,
+    about: Help,
+    statuses: &'a str,
+    args: Vec<Arg<'a>>,
+) -> Result<Command<'a>, AllocError>
+    requires { list_all (λ r. r.is_simple) (map rule_of args.items) ≡ true }
+    ensures { IfOk result (IsCommandOf (subcommand_app name.now (map rule_of args.entry.items))) }
+{
+    Command::new(alloc, name)
+        .about(about.short)
+        .long_about(about.long)
+        .after_help(statuses)
+        .args(args)
 }
 
 /// An option that says which sequences are listed.
@@ -199,12 +157,6 @@ fn extent_arg<'a>(alloc: Global, name: &'a str, help: Help) -> Arg<'a>
     ensures { rule_of result ≡ extent_rule name.now }
 {
     option(alloc, name, "N", help).value_parser(value_parser!(u8))
-}
-
-fn limit_arg<'a>(alloc: Global) -> Arg<'a>
-    ensures { rule_of result ≡ limit_rule }
-{
-    number_arg(alloc, "limit", 1000000000, common::LIMIT)
 }
 
 fn terms_arg<'a>(alloc: Global, help: Help) -> Arg<'a>
