@@ -49,5 +49,5 @@ gets_subcommands old new [] [] h are = ap app_of (sym h)
 gets_subcommands old new [] (c ∷ commands) h are = absurd are
 gets_subcommands old new (a ∷ apps) [] h are = absurd are
 gets_subcommands old new (a ∷ apps) (c ∷ commands) h are =
-    gets_subcommands h.0 new apps commands h.2 are.2
-    ∙ ap (λ app. with_subcommands app apps) (h.1.shape are.1 ∙ ap (λ (its : App). with_subcommand (app_of old) its.top) are.0)
+    gets_subcommands h.0 new apps commands h.2 are.1
+    ∙ ap (λ app. with_subcommands app apps) (h.1.shape are.0.1 ∙ ap (λ (its : App). with_subcommand (app_of old) its.top) are.0.0)

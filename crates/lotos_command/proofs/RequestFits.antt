@@ -1,5 +1,5 @@
 -- Words without a fault name `search`, `check`, `ever`, `after` or `cover`, with entries that can be read.
-use Rattle.std.proofs.Common.{◌≡◌, ◌∙◌, ◌≤◌, ◌||◌, ◌==◌, ℕ, Bool, cond, true, false, refl, sym, ap, subst, arith, List, [], ◌∷◌, Option, Some, None, codes, drop, find, is_some, inl, inr, map}
+use Rattle.std.proofs.Common.{◌≡◌, ◌∙◌, ◌≤◌, ◌||◌, ◌==◌, ℕ, Bool, cond, true, false, refl, sym, ap, subst, arith, List, [], ◌∷◌, ◌++◌, get_or, Option, Some, None, codes, drop, find, is_some, inl, inr, map}
 use Rattle.std.specs.Prelude.{IfSome, slice_get, pos, unwrap_or}
 use Rattle.std.specs.Option.{option_map, option_map_or, option_and_then}
 use Rattle.std.specs.Str.{bytes_eq}
@@ -10,15 +10,16 @@ use Rattle.std.proofs.lemmas.Str.Parse.{digit_from_value}
 use Rattle.std.proofs.lemmas.Slice.Eq.{bytes_eq-Decides}
 use Rattle.clap.specs.Lexer.{without_minus}
 use Rattle.clap.specs.Facts.{parser_of_value}
-use Rattle.clap.specs.Values.{Accepts, IsSignedIn, read_as, refused_kind}
+use Rattle.clap.specs.Values.{Accepts, IsSignedIn, read_as, reading_of, refused_kind}
 use Rattle.clap.specs.ValueTests.{accepts}
 use Rattle.clap.proofs.ValueTestLemmas.{accepts-Accepts}
 use Rattle.clap.specs.Walk.{Row, Rule, Text, action_of, arg_by_id, nothing_held, one_of, reading_by, row_text}
 use Rattle.clap.specs.Simple.{App, Shape, argument_words, built, entered, matches_of, names_of, new_shape, rows_at, subcommand_of}
 use Rattle.clap.specs.Kinds.{value_kinds}
+use Rattle.clap.specs.declared.builder.value_parser.ValueParser.TheVariants as vp
 use Rattle.clap.specs.Faults.{check_fault, entered_fault, fault_of, level_fault, values_fault}
 use Rattle.lotos_command.specs.CommandRules.{lotosseq}
-use Rattle.lotos_command.specs.EntryRules.{FitsAfter, FitsCheck, FitsCover, FitsEver, FitsRequest, FitsSearch, IsNumberIn, IsTruthText}
+use Rattle.lotos_command.specs.EntryRules.{AreReadable, FitsRequest, IsNumberIn, IsTruthText}
 use Rattle.lotos_command.specs.Request.{number}
 use Rattle.lotos_command.proofs.KindsAbsent.{both_empty, not_empty}
 use Rattle.lotos_command.proofs.ReadyArguments.{Each, IsOrdinary, IsReady, counts, each_found}
@@ -127,31 +128,26 @@ if_some_more P Q (Some t) more h = more t h
 abbrev whole : App
 whole = built lotosseq
 
-abbrev first : List Shape → Shape
-first [] = new_shape []
-first (x ∷ xs) = x
-
-abbrev others : List Shape → List Shape
-others [] = []
-others (x ∷ xs) = xs
+abbrev nth : ℕ → Shape
+nth n = get_or whole.subs n (new_shape [])
 
 abbrev search_shape : Shape
-search_shape = first whole.subs
+search_shape = nth 0
 
 abbrev check_shape : Shape
-check_shape = first (others whole.subs)
+check_shape = nth 1
 
 abbrev ever_shape : Shape
-ever_shape = first (others (others whole.subs))
+ever_shape = nth 2
 
 abbrev after_shape : Shape
-after_shape = first (others (others (others whole.subs)))
+after_shape = nth 3
 
 abbrev cover_shape : Shape
-cover_shape = first (others (others (others (others whole.subs))))
+cover_shape = nth 4
 
 abbrev help_shape : Shape
-help_shape = first (others (others (others (others (others whole.subs)))))
+help_shape = nth 5
 
 -- arguments that are each the first with their id, and do not count their uses, are ordinary
 each_ordinary : (rules more : List Rule) → map (λ a. arg_by_id rules a.id) more ≡ map Some more
@@ -166,122 +162,91 @@ each_ordinary rules (a ∷ more) own once =
 top_is_ordinary : Each (IsOrdinary whole.top.rules) whole.top.rules
 top_is_ordinary = each_ordinary whole.top.rules whole.top.rules refl refl
 
--- the arguments of `search` are ordinary
-search_is_ordinary : Each (IsOrdinary search_shape.rules) search_shape.rules
-search_is_ordinary = each_ordinary search_shape.rules search_shape.rules refl refl
+-- ---- the arguments of all subcommands together
 
--- the arguments of `check` are ordinary
-check_is_ordinary : Each (IsOrdinary check_shape.rules) check_shape.rules
-check_is_ordinary = each_ordinary check_shape.rules check_shape.rules refl refl
+abbrev all_rules : List Rule
+all_rules = search_shape.rules ++ (ever_shape.rules ++ check_shape.rules)
 
--- the arguments of `ever` are ordinary
-ever_is_ordinary : Each (IsOrdinary ever_shape.rules) ever_shape.rules
-ever_is_ordinary = each_ordinary ever_shape.rules ever_shape.rules refl refl
+-- each argument is the one that has its id among those of all subcommands
+abbrev AreShared : List Rule → Type 0
+AreShared rules = map (λ a. arg_by_id all_rules a.id) rules ≡ map Some rules
 
--- the arguments of `after` are ordinary
-after_is_ordinary : Each (IsOrdinary after_shape.rules) after_shape.rules
-after_is_ordinary = each_ordinary after_shape.rules after_shape.rules refl refl
+-- an id that such arguments have is that of the same argument among those of all subcommands
+shared_is : (rules : List Rule) (id : Text) (a : Rule) → AreShared rules → arg_by_id rules id ≡ Some a → arg_by_id all_rules id ≡ Some a
+shared_is [] id a shared e = cc
+shared_is (b ∷ rules) id a shared e =
+    let others : AreShared rules = cc in
+    go (bytes_eq b.id id) refl e (shared_is rules id a others)
+  where
+    go : (same : Bool) → bytes_eq b.id id ≡ same → cond same (Some b) (arg_by_id rules id) ≡ Some a
+        → (arg_by_id rules id ≡ Some a → arg_by_id all_rules id ≡ Some a) → arg_by_id all_rules id ≡ Some a
+    go true is found later =
+        let here : b.id ≡ id = (bytes_eq-Decides b.id id).0 is in
+        let first : arg_by_id all_rules b.id ≡ Some b = cc in
+        ap (arg_by_id all_rules) (sym here) ∙ first ∙ found
+    go false is found later = later found
 
--- the arguments of `cover` are ordinary
-cover_is_ordinary : Each (IsOrdinary cover_shape.rules) cover_shape.rules
-cover_is_ordinary = each_ordinary cover_shape.rules cover_shape.rules refl refl
+-- entries that are ready with such arguments are ready with those of all subcommands
+shared_ready : (rules : List Rule) (rows : List Row) → AreShared rules → Each (IsReady rules) rows → Each (IsReady all_rules) rows
+shared_ready rules [] shared all = tt
+shared_ready rules (row ∷ rows) shared all = (
+  record {
+    rule = all.0.rule;
+    is = shared_is rules row.id all.0.rule shared all.0.is;
+    read = all.0.read;
+    passed = all.0.passed;
+    filled = all.0.filled;
+  },
+  shared_ready rules rows shared all.1,
+)
 
--- if the entries of `search` are ready, their numbers are within their bounds, and the flags can be read
-search_fits : (rows : List Row) → Each (IsReady search_shape.rules) rows → FitsSearch rows
-search_fits rows all = record {
-  depth = if_some_more _ (IsNumberIn 0 255) (one_of (codes "depth") rows)
-      (λ t read. subst (IsNumberIn 0 255) (sym read.is) (signed_is_within 0 255 read.value read.accepted))
-      (entry_fits search_shape.rules rows all (codes "depth") _ refl);
-  length = if_some_more _ (IsNumberIn 0 255) (one_of (codes "length") rows)
-      (λ t read. subst (IsNumberIn 0 255) (sym read.is) (signed_is_within 0 255 read.value read.accepted))
-      (entry_fits search_shape.rules rows all (codes "length") _ refl);
-  limit = if_some_more _ (IsNumberIn 1 1000000000) (one_of (codes "limit") rows)
-      (λ t read. subst (IsNumberIn 1 1000000000) (sym read.is) (signed_is_within 1 1000000000 read.value read.accepted))
-      (entry_fits search_shape.rules rows all (codes "limit") _ refl);
-  terms = if_some_more _ (IsNumberIn 1 1000000) (one_of (codes "terms") rows)
-      (λ t read. subst (IsNumberIn 1 1000000) (sym read.is) (signed_is_within 1 1000000 read.value read.accepted))
-      (entry_fits search_shape.rules rows all (codes "terms") _ refl);
-  explain = if_some_more _ IsTruthText (one_of (codes "explain") rows)
-      (λ t read. subst IsTruthText (sym read.is) read.accepted)
-      (entry_fits search_shape.rules rows all (codes "explain") _ refl);
-  hidden = if_some_more _ IsTruthText (one_of (codes "hidden") rows)
-      (λ t read. subst IsTruthText (sym read.is) read.accepted)
-      (entry_fits search_shape.rules rows all (codes "hidden") _ refl);
-  strong = if_some_more _ IsTruthText (one_of (codes "strong") rows)
-      (λ t read. subst IsTruthText (sym read.is) read.accepted)
-      (entry_fits search_shape.rules rows all (codes "strong") _ refl);
-  known = if_some_more _ IsTruthText (one_of (codes "known") rows)
-      (λ t read. subst IsTruthText (sym read.is) read.accepted)
-      (entry_fits search_shape.rules rows all (codes "known") _ refl);
-  progress = if_some_more _ IsTruthText (one_of (codes "progress") rows)
-      (λ t read. subst IsTruthText (sym read.is) read.accepted)
-      (entry_fits search_shape.rules rows all (codes "progress") _ refl);
-}
+-- ---- the entries of a subcommand
 
--- if the entries of `check` are ready, the flags can be read
-check_fits : (rows : List Row) → Each (IsReady check_shape.rules) rows → FitsCheck rows
-check_fits rows all = record {
-  explain = if_some_more _ IsTruthText (one_of (codes "explain") rows)
-      (λ t read. subst IsTruthText (sym read.is) read.accepted)
-      (entry_fits check_shape.rules rows all (codes "explain") _ refl);
-  warn = if_some_more _ IsTruthText (one_of (codes "warn") rows)
-      (λ t read. subst IsTruthText (sym read.is) read.accepted)
-      (entry_fits check_shape.rules rows all (codes "warn") _ refl);
-}
+module _ (rows : List Row) (all : Each (IsReady all_rules) rows) where
+  -- the entry of an option for numbers within bounds, if there is one, is such a number
+  number_fits : (id : Text) (low high : ℕ) (a : Rule) → arg_by_id all_rules id ≡ Some a → a.parser ≡ Some (vp.Signed (pos low) (pos high))
+      → IfSome (one_of id rows) (IsNumberIn low high)
+  number_fits id low high a is parser = if_some_more (IsReadFrom a) (IsNumberIn low high) (one_of id rows) go (entry_fits all_rules rows all id a is)
+    where
+      go : (t : Text) → IsReadFrom a t → IsNumberIn low high t
+      go t read =
+          let text : t ≡ without_minus read.value = read.is ∙ ap (λ p. read_as (reading_of (parser_of_value p)) read.value) parser in
+          let taken : IsSignedIn (pos low) (pos high) read.value =
+          subst (λ p. Accepts a.ignore_case (parser_of_value p) read.value) parser read.accepted in
+          subst (IsNumberIn low high) (sym text) (signed_is_within low high read.value taken)
 
--- if the entries of `ever` are ready, their number is within its bounds, and the flags can be read
-ever_fits : (rows : List Row) → Each (IsReady ever_shape.rules) rows → FitsEver rows
-ever_fits rows all = record {
-  states = if_some_more _ (IsNumberIn 1 100000000) (one_of (codes "states") rows)
-      (λ t read. subst (IsNumberIn 1 100000000) (sym read.is) (signed_is_within 1 100000000 read.value read.accepted))
-      (entry_fits ever_shape.rules rows all (codes "states") _ refl);
-  explain = if_some_more _ IsTruthText (one_of (codes "explain") rows)
-      (λ t read. subst IsTruthText (sym read.is) read.accepted)
-      (entry_fits ever_shape.rules rows all (codes "explain") _ refl);
-  hidden = if_some_more _ IsTruthText (one_of (codes "hidden") rows)
-      (λ t read. subst IsTruthText (sym read.is) read.accepted)
-      (entry_fits ever_shape.rules rows all (codes "hidden") _ refl);
-  strong = if_some_more _ IsTruthText (one_of (codes "strong") rows)
-      (λ t read. subst IsTruthText (sym read.is) read.accepted)
-      (entry_fits ever_shape.rules rows all (codes "strong") _ refl);
-  progress = if_some_more _ IsTruthText (one_of (codes "progress") rows)
-      (λ t read. subst IsTruthText (sym read.is) read.accepted)
-      (entry_fits ever_shape.rules rows all (codes "progress") _ refl);
-}
+  -- the entry of a flag, if there is one, is a truth value
+  flag_fits : (id : Text) (a : Rule) → arg_by_id all_rules id ≡ Some a → a.parser ≡ Some vp.Bool → IfSome (one_of id rows) IsTruthText
+  flag_fits id a is parser = if_some_more (IsReadFrom a) IsTruthText (one_of id rows) go (entry_fits all_rules rows all id a is)
+    where
+      go : (t : Text) → IsReadFrom a t → IsTruthText t
+      go t read =
+          let text : t ≡ read.value = read.is ∙ ap (λ p. read_as (reading_of (parser_of_value p)) read.value) parser in
+          subst IsTruthText (sym text) (subst (λ p. Accepts a.ignore_case (parser_of_value p) read.value) parser read.accepted)
 
--- if the entries of `after` are ready, their number is within its bounds, and the flags can be read
-after_fits : (rows : List Row) → Each (IsReady after_shape.rules) rows → FitsAfter rows
-after_fits rows all = record {
-  terms = if_some_more _ (IsNumberIn 1 1000000) (one_of (codes "terms") rows)
-      (λ t read. subst (IsNumberIn 1 1000000) (sym read.is) (signed_is_within 1 1000000 read.value read.accepted))
-      (entry_fits after_shape.rules rows all (codes "terms") _ refl);
-  strong = if_some_more _ IsTruthText (one_of (codes "strong") rows)
-      (λ t read. subst IsTruthText (sym read.is) read.accepted)
-      (entry_fits after_shape.rules rows all (codes "strong") _ refl);
-  progress = if_some_more _ IsTruthText (one_of (codes "progress") rows)
-      (λ t read. subst IsTruthText (sym read.is) read.accepted)
-      (entry_fits after_shape.rules rows all (codes "progress") _ refl);
-}
+  -- all entries can be read
+  entries_fit : AreReadable rows
+  entries_fit = record {
+    depth = number_fits (codes "depth") 0 255 _ refl refl;
+    length = number_fits (codes "length") 0 255 _ refl refl;
+    limit = number_fits (codes "limit") 1 1000000000 _ refl refl;
+    terms = number_fits (codes "terms") 1 1000000 _ refl refl;
+    states = number_fits (codes "states") 1 100000000 _ refl refl;
+    explain = flag_fits (codes "explain") _ refl refl;
+    hidden = flag_fits (codes "hidden") _ refl refl;
+    strong = flag_fits (codes "strong") _ refl refl;
+    known = flag_fits (codes "known") _ refl refl;
+    progress = flag_fits (codes "progress") _ refl refl;
+    warn = flag_fits (codes "warn") _ refl refl;
+  }
 
--- if the entries of `cover` are ready, their numbers are within their bounds, and the flags can be read
-cover_fits : (rows : List Row) → Each (IsReady cover_shape.rules) rows → FitsCover rows
-cover_fits rows all = record {
-  limit = if_some_more _ (IsNumberIn 1 1000000000) (one_of (codes "limit") rows)
-      (λ t read. subst (IsNumberIn 1 1000000000) (sym read.is) (signed_is_within 1 1000000000 read.value read.accepted))
-      (entry_fits cover_shape.rules rows all (codes "limit") _ refl);
-  terms = if_some_more _ (IsNumberIn 1 1000000) (one_of (codes "terms") rows)
-      (λ t read. subst (IsNumberIn 1 1000000) (sym read.is) (signed_is_within 1 1000000 read.value read.accepted))
-      (entry_fits cover_shape.rules rows all (codes "terms") _ refl);
-  states = if_some_more _ (IsNumberIn 1 100000000) (one_of (codes "states") rows)
-      (λ t read. subst (IsNumberIn 1 100000000) (sym read.is) (signed_is_within 1 100000000 read.value read.accepted))
-      (entry_fits cover_shape.rules rows all (codes "states") _ refl);
-  strong = if_some_more _ IsTruthText (one_of (codes "strong") rows)
-      (λ t read. subst IsTruthText (sym read.is) read.accepted)
-      (entry_fits cover_shape.rules rows all (codes "strong") _ refl);
-  progress = if_some_more _ IsTruthText (one_of (codes "progress") rows)
-      (λ t read. subst IsTruthText (sym read.is) read.accepted)
-      (entry_fits cover_shape.rules rows all (codes "progress") _ refl);
-}
+-- a subcommand with ordinary and shared arguments, entered without a fault, has entries that can be read
+subcommand_fits : (s : Shape) (words : List Text) → map (λ a. arg_by_id s.rules a.id) s.rules ≡ map Some s.rules
+    → map (λ a. counts (action_of a)) s.rules ≡ map (λ _. false) s.rules → AreShared s.rules
+    → level_fault s [] nothing_held words false [] ≡ [] → AreReadable (rows_at s words).1
+subcommand_fits s words own once shared e =
+    let left = level_leaves s [] (each_ordinary s.rules s.rules own once) words false [] e in
+    entries_fit _ (shared_ready s.rules _ shared left.ready)
 
 -- the subcommand that a word names, given whether it is `search`, `check`, `ever`, `after`, `cover` or `help`
 abbrev named : Bool → Bool → Bool → Bool → Bool → Bool → Option Shape
@@ -305,21 +270,11 @@ stop_fits rows (Some p) well below check =
         → option_map_or (λ s. level_fault s [] nothing_held p.1 false []) (named is_search is_check is_ever is_after is_cover is_help) [] ≡ []
         → check_fault whole.top rows (is_some (option_map (λ s. rows_at s p.1) (named is_search is_check is_ever is_after is_cover is_help))) ≡ []
         → FitsRequest (option_map (λ s. rows_at s p.1) (named is_search is_check is_ever is_after is_cover is_help))
-    go true is_check is_ever is_after is_cover is_help e under check =
-        let left = level_leaves search_shape [] search_is_ordinary p.1 false [] under in
-        inl (refl, search_fits _ left.ready)
-    go false true is_ever is_after is_cover is_help e under check =
-        let left = level_leaves check_shape [] check_is_ordinary p.1 false [] under in
-        inr (inl (refl, check_fits _ left.ready))
-    go false false true is_after is_cover is_help e under check =
-        let left = level_leaves ever_shape [] ever_is_ordinary p.1 false [] under in
-        inr (inr (inl (refl, ever_fits _ left.ready)))
-    go false false false true is_cover is_help e under check =
-        let left = level_leaves after_shape [] after_is_ordinary p.1 false [] under in
-        inr (inr (inr (inl (refl, after_fits _ left.ready))))
-    go false false false false true is_help e under check =
-        let left = level_leaves cover_shape [] cover_is_ordinary p.1 false [] under in
-        inr (inr (inr (inr (refl, cover_fits _ left.ready))))
+    go true is_check is_ever is_after is_cover is_help e under check = (inl refl, subcommand_fits search_shape p.1 refl refl refl under)
+    go false true is_ever is_after is_cover is_help e under check = (inr (inl refl), subcommand_fits check_shape p.1 refl refl refl under)
+    go false false true is_after is_cover is_help e under check = (inr (inr (inl refl)), subcommand_fits ever_shape p.1 refl refl refl under)
+    go false false false true is_cover is_help e under check = (inr (inr (inr (inl refl))), subcommand_fits after_shape p.1 refl refl refl under)
+    go false false false false true is_help e under check = (inr (inr (inr (inr refl))), subcommand_fits cover_shape p.1 refl refl refl under)
     go false false false false false true e under check =
         let name : codes "help" ≡ p.0 = (bytes_eq-Decides (codes "help") p.0).0 e in
         let bad : true ≡ false = subst (AsksNoHelp whole.top (names_of whole) top_is_ordinary) (sym name) well in

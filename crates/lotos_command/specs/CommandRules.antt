@@ -20,37 +20,17 @@ option_rule name = record (new_rule name) {
 abbrev pub extent_rule : Text → Rule
 extent_rule name = record (option_rule name) { parser = Some (Signed (pos 0) (pos 255)) }
 
--- `--depth N`
-abbrev pub depth_rule : Rule
-depth_rule = extent_rule (codes "depth")
-
--- `--length N`
-abbrev pub length_rule : Rule
-length_rule = extent_rule (codes "length")
-
 -- `--NAME N`, with a number from 1 to this one
 abbrev pub number_rule : Text → ℕ → Rule
 number_rule name most = record (option_rule name) { parser = Some (Signed (pos 1) (pos most)) }
-
--- `--limit N`, with a number from 1 to 1,000,000,000
-abbrev pub limit_rule : Rule
-limit_rule = number_rule (codes "limit") 1000000000
 
 -- `--terms N`, with a number from 1 to 1,000,000; 100,000 if it is not given
 abbrev pub terms_rule : Rule
 terms_rule = record (number_rule (codes "terms") 1000000) { defaults = codes "100000" ∷ [] }
 
--- `--after LINE`, with any text
-abbrev pub after_rule : Rule
-after_rule = option_rule (codes "after")
-
--- `--hide GATES`, with any text
-abbrev pub hide_rule : Rule
-hide_rule = option_rule (codes "hide")
-
--- `--only GATES`, with any text
-abbrev pub only_rule : Rule
-only_rule = option_rule (codes "only")
+-- `--states N`, with a number from 1 to 100,000,000; 1,000,000 if it is not given
+abbrev pub states_rule : Rule
+states_rule = record (number_rule (codes "states") 100000000) { defaults = codes "1000000" ∷ [] }
 
 -- `--NAME`, which takes no value
 abbrev pub flag_rule : Text → Rule
@@ -58,30 +38,6 @@ flag_rule name = record (new_rule name) {
   long = Some name;
   action = Some SetTrue;
 }
-
--- `--explain`
-abbrev pub explain_rule : Rule
-explain_rule = flag_rule (codes "explain")
-
--- `--hidden`
-abbrev pub hidden_rule : Rule
-hidden_rule = flag_rule (codes "hidden")
-
--- `--strong`
-abbrev pub strong_rule : Rule
-strong_rule = flag_rule (codes "strong")
-
--- `--known`
-abbrev pub known_rule : Rule
-known_rule = flag_rule (codes "known")
-
--- `--progress`
-abbrev pub progress_rule : Rule
-progress_rule = flag_rule (codes "progress")
-
--- `--warn`
-abbrev pub warn_rule : Rule
-warn_rule = flag_rule (codes "warn")
 
 -- `WORD ..`, any number of words that are no option, in order
 abbrev pub words_rule : Rule
@@ -96,58 +52,45 @@ abbrev pub with_rules : App → List Rule → App
 with_rules app [] = app
 with_rules app (rule ∷ rules) = with_rules (with_rule app rule) rules
 
--- the arguments of `search`, in the order of its help
+-- the arguments of `search [--depth N] [--length N] [--limit N] [--terms N] [--after LINE] [--explain] [--hidden]
+-- [--hide GATES] [--only GATES] [--strong] [--known] [--progress] [WORD ..]`; just one of the depth and the length, and
+-- at most one of `--hide` and `--only`, make a request
 abbrev pub search_rules : List Rule
 search_rules =
-    depth_rule ∷ length_rule ∷ limit_rule ∷ terms_rule ∷ after_rule ∷ explain_rule ∷ hidden_rule ∷ hide_rule
-    ∷ only_rule ∷ strong_rule ∷ known_rule ∷ progress_rule ∷ words_rule ∷ []
+    extent_rule (codes "depth") ∷ extent_rule (codes "length") ∷ number_rule (codes "limit") 1000000000 ∷ terms_rule
+    ∷ option_rule (codes "after") ∷ flag_rule (codes "explain") ∷ flag_rule (codes "hidden")
+    ∷ option_rule (codes "hide") ∷ option_rule (codes "only") ∷ flag_rule (codes "strong") ∷ flag_rule (codes "known")
+    ∷ flag_rule (codes "progress") ∷ words_rule ∷ []
 
--- `search [--depth N] [--length N] [--limit N] [--terms N] [--after LINE] [--explain] [--hidden] [--hide GATES]
--- [--only GATES] [--strong] [--known] [--progress] [WORD ..]`; just one of the depth and the length, and at most one of
--- `--hide` and `--only`, make a request
-abbrev pub search_app : App
-search_app = with_rules (new_app (codes "search")) search_rules
+-- the arguments of `check [--explain] [--warn]`
+abbrev pub check_rules : List Rule
+check_rules = flag_rule (codes "explain") ∷ flag_rule (codes "warn") ∷ []
 
--- `--states N`, with a number from 1 to 100,000,000; 1,000,000 if it is not given
-abbrev pub states_rule : Rule
-states_rule = record (number_rule (codes "states") 100000000) { defaults = codes "1000000" ∷ [] }
-
--- the arguments of `ever`, in the order of its help
+-- the arguments of `ever [--states N] [--explain] [--hidden] [--hide GATES] [--only GATES] [--strong] [--progress]
+-- [WORD ..]`; at most one of `--hide` and `--only` makes a request
 abbrev pub ever_rules : List Rule
 ever_rules =
-    states_rule ∷ explain_rule ∷ hidden_rule ∷ hide_rule ∷ only_rule ∷ strong_rule ∷ progress_rule ∷ words_rule ∷ []
+    states_rule ∷ flag_rule (codes "explain") ∷ flag_rule (codes "hidden") ∷ option_rule (codes "hide")
+    ∷ option_rule (codes "only") ∷ flag_rule (codes "strong") ∷ flag_rule (codes "progress") ∷ words_rule ∷ []
 
--- `ever [--states N] [--explain] [--hidden] [--hide GATES] [--only GATES] [--strong] [--progress] [WORD ..]`; at most
--- one of `--hide` and `--only` makes a request
-abbrev pub ever_app : App
-ever_app = with_rules (new_app (codes "ever")) ever_rules
-
--- the arguments of `after`, in the order of its help
+-- the arguments of `after [--terms N] [--hide GATES] [--only GATES] [--strong] [--progress] [LABEL ..]`; at most one of
+-- `--hide` and `--only` makes a request
 abbrev pub after_rules : List Rule
-after_rules = terms_rule ∷ hide_rule ∷ only_rule ∷ strong_rule ∷ progress_rule ∷ words_rule ∷ []
+after_rules =
+    terms_rule ∷ option_rule (codes "hide") ∷ option_rule (codes "only") ∷ flag_rule (codes "strong")
+    ∷ flag_rule (codes "progress") ∷ words_rule ∷ []
 
--- `after [--terms N] [--hide GATES] [--only GATES] [--strong] [--progress] [LABEL ..]`; at most one of `--hide` and
--- `--only` makes a request
-abbrev pub after_app : App
-after_app = with_rules (new_app (codes "after")) after_rules
-
--- the arguments of `cover`, in the order of its help
+-- the arguments of `cover [--limit N] [--terms N] [--states N] [--after LINE] [--hide GATES] [--only GATES] [--strong]
+-- [--progress]`; at most one of `--hide` and `--only` makes a request
 abbrev pub cover_rules : List Rule
 cover_rules =
-    limit_rule ∷ terms_rule ∷ states_rule ∷ after_rule ∷ hide_rule ∷ only_rule ∷ strong_rule ∷ progress_rule ∷ []
+    number_rule (codes "limit") 1000000000 ∷ terms_rule ∷ states_rule ∷ option_rule (codes "after")
+    ∷ option_rule (codes "hide") ∷ option_rule (codes "only") ∷ flag_rule (codes "strong")
+    ∷ flag_rule (codes "progress") ∷ []
 
--- `cover [--limit N] [--terms N] [--states N] [--after LINE] [--hide GATES] [--only GATES] [--strong] [--progress]`; at
--- most one of `--hide` and `--only` makes a request
-abbrev pub cover_app : App
-cover_app = with_rules (new_app (codes "cover")) cover_rules
-
--- the arguments of `check`, in the order of its help
-abbrev pub check_rules : List Rule
-check_rules = explain_rule ∷ warn_rule ∷ []
-
--- `check [--explain] [--warn]`
-abbrev pub check_app : App
-check_app = with_rules (new_app (codes "check")) check_rules
+-- the subcommand with this name and these arguments, which are in the order of its help
+abbrev pub subcommand_app : Text → List Rule → App
+subcommand_app name rules = with_rules (new_app name) rules
 
 -- the command with these subcommands added, in this order
 abbrev pub with_subcommands : App → List App → App
@@ -156,7 +99,10 @@ with_subcommands app (subcommand ∷ subcommands) = with_subcommands (with_subco
 
 -- the subcommands, in the order of the help
 abbrev pub subcommand_apps : List App
-subcommand_apps = search_app ∷ check_app ∷ ever_app ∷ after_app ∷ cover_app ∷ []
+subcommand_apps =
+    subcommand_app (codes "search") search_rules ∷ subcommand_app (codes "check") check_rules
+    ∷ subcommand_app (codes "ever") ever_rules ∷ subcommand_app (codes "after") after_rules
+    ∷ subcommand_app (codes "cover") cover_rules ∷ []
 
 -- `lotosseq`, which has a version and needs one of its subcommands
 abbrev pub lotosseq : App
@@ -165,10 +111,13 @@ lotosseq =
     (on_top (λ s. record s { has_version = true; subcommand_required = true }) (new_app (codes "lotosseq")))
     subcommand_apps
 
--- the commands are these, in this order, and no argument of theirs is global
+-- the command is this one, and no argument of it is global
+abbrev pub IsCommandOf : App → Command → Type 0
+IsCommandOf app command = (app_of command ≡ app) × ((fields_of command).has_globals ≡ false)
+
+-- the commands are these, in this order
 abbrev pub AreCommandsOf : List App → List Command → Type 0
 AreCommandsOf [] [] = ⊤
 AreCommandsOf [] (command ∷ commands) = ⊥
 AreCommandsOf (app ∷ apps) [] = ⊥
-AreCommandsOf (app ∷ apps) (command ∷ commands) =
-    (app_of command ≡ app) × ((fields_of command).has_globals ≡ false) × AreCommandsOf apps commands
+AreCommandsOf (app ∷ apps) (command ∷ commands) = IsCommandOf app command × AreCommandsOf apps commands

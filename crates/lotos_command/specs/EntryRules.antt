@@ -15,49 +15,27 @@ pub record IsNumberIn (low high : ℕ) (text : Text) : Type 0 where
 abbrev pub IsTruthText : Text → Type 0
 IsTruthText text = (bytes_eq text (codes "true") || bytes_eq text (codes "false")) ≡ true
 
--- the numbers among the entries of `search` are within their bounds, and the flags can be read
-pub record FitsSearch (rows : List Row) : Type 0 where
+-- the entries of a subcommand can be read: numbers are within the bounds of their options, and flags have a truth value
+pub record AreReadable (rows : List Row) : Type 0 where
   pub depth : IfSome (one_of (codes "depth") rows) (IsNumberIn 0 255)
   pub length : IfSome (one_of (codes "length") rows) (IsNumberIn 0 255)
   pub limit : IfSome (one_of (codes "limit") rows) (IsNumberIn 1 1000000000)
   pub terms : IfSome (one_of (codes "terms") rows) (IsNumberIn 1 1000000)
+  pub states : IfSome (one_of (codes "states") rows) (IsNumberIn 1 100000000)
   pub explain : IfSome (one_of (codes "explain") rows) IsTruthText
   pub hidden : IfSome (one_of (codes "hidden") rows) IsTruthText
   pub strong : IfSome (one_of (codes "strong") rows) IsTruthText
   pub known : IfSome (one_of (codes "known") rows) IsTruthText
   pub progress : IfSome (one_of (codes "progress") rows) IsTruthText
-
--- the number among the entries of `ever` is within its bounds, and the flags can be read
-pub record FitsEver (rows : List Row) : Type 0 where
-  pub states : IfSome (one_of (codes "states") rows) (IsNumberIn 1 100000000)
-  pub explain : IfSome (one_of (codes "explain") rows) IsTruthText
-  pub hidden : IfSome (one_of (codes "hidden") rows) IsTruthText
-  pub strong : IfSome (one_of (codes "strong") rows) IsTruthText
-  pub progress : IfSome (one_of (codes "progress") rows) IsTruthText
-
--- the number among the entries of `after` is within its bounds, and the flags can be read
-pub record FitsAfter (rows : List Row) : Type 0 where
-  pub terms : IfSome (one_of (codes "terms") rows) (IsNumberIn 1 1000000)
-  pub strong : IfSome (one_of (codes "strong") rows) IsTruthText
-  pub progress : IfSome (one_of (codes "progress") rows) IsTruthText
-
--- the numbers among the entries of `cover` are within their bounds, and the flags can be read
-pub record FitsCover (rows : List Row) : Type 0 where
-  pub limit : IfSome (one_of (codes "limit") rows) (IsNumberIn 1 1000000000)
-  pub terms : IfSome (one_of (codes "terms") rows) (IsNumberIn 1 1000000)
-  pub states : IfSome (one_of (codes "states") rows) (IsNumberIn 1 100000000)
-  pub strong : IfSome (one_of (codes "strong") rows) IsTruthText
-  pub progress : IfSome (one_of (codes "progress") rows) IsTruthText
-
--- the flags among the entries of `check` can be read
-pub record FitsCheck (rows : List Row) : Type 0 where
-  pub explain : IfSome (one_of (codes "explain") rows) IsTruthText
   pub warn : IfSome (one_of (codes "warn") rows) IsTruthText
 
--- `search`, `check`, `ever`, `after` or `cover` was given, and its entries can be read
+-- the name of one of the subcommands
+abbrev pub IsSubcommand : Text → Type 0
+IsSubcommand name =
+    (name ≡ codes "search") ⊎ ((name ≡ codes "check") ⊎ ((name ≡ codes "ever") ⊎ ((name ≡ codes "after")
+    ⊎ (name ≡ codes "cover"))))
+
+-- a subcommand was given, and its entries can be read
 abbrev pub FitsRequest : Option (Text × List Row) → Type 0
 FitsRequest None = ⊥
-FitsRequest (Some p) =
-    ((p.0 ≡ codes "search") × FitsSearch p.1) ⊎ (((p.0 ≡ codes "check") × FitsCheck p.1)
-    ⊎ (((p.0 ≡ codes "ever") × FitsEver p.1) ⊎ (((p.0 ≡ codes "after") × FitsAfter p.1)
-    ⊎ ((p.0 ≡ codes "cover") × FitsCover p.1))))
+FitsRequest (Some p) = IsSubcommand p.0 × AreReadable p.1

@@ -1,13 +1,22 @@
-//! The help texts, and the version.
+//! The help texts, and the version. Made of share/help.txt by tools/help-texts.
+
+/// What `-h` and `--help` show of a command or an argument.
+#[derive(Clone, Copy)]
+pub(crate) struct Help {
+    pub(crate) short: &'static str,
+    pub(crate) long: &'static str,
+}
 
 /// The version of the program, and the logic with which it is proved.
 pub(crate) const VERSION: &str = "0.1.0 (proved, logic dac8208d650f15bf)";
 
-pub(crate) const ABOUT: &str =
-    "Checks a basic LOTOS specification, and lists its observable action sequences";
+/// The help of the program.
+pub(crate) mod program {
+    use super::Help;
 
-pub(crate) const LONG_ABOUT: &str =
-    "Checks a basic LOTOS specification, and lists its observable action sequences
+    pub(crate) const ABOUT: Help = Help {
+        short: "Checks a basic LOTOS specification, and lists its observable action sequences",
+        long: "Checks a basic LOTOS specification, and lists its observable action sequences
 
 The specification is read from standard input, and what is asked of it is written to
 standard output. A file is given by `< FILE`, as in
@@ -15,9 +24,10 @@ standard output. A file is given by `< FILE`, as in
 `lotosseq check --help` is about the static rules, `lotosseq search --help` about the
 listing, its options and the words of a pattern, `lotosseq ever --help` about matches
 of any length, `lotosseq after --help` about what can come after a sequence, and
-`lotosseq cover --help` about sequences that show all that can be observed.";
+`lotosseq cover --help` about sequences that show all that can be observed.",
+    };
 
-pub(crate) const STATUSES: &str = "Statuses:
+    pub(crate) const STATUSES: &str = "Statuses:
   0  the specification is accepted, the listing is complete and has lines, there is a
      match, or the sequence can happen
   1  the listing is complete and has none, there is no match, or the sequence cannot
@@ -28,58 +38,15 @@ pub(crate) const STATUSES: &str = "Statuses:
   4  a prefix reaches too many terms, or there are too many states or sets
   5  out of memory, or an argument is not Unicode
   6  the output cannot be written";
+}
 
-pub(crate) const CHECK_ABOUT: &str = "Checks the static rules and lists the processes";
+/// The help of `search`.
+pub(crate) mod search {
+    use super::Help;
 
-pub(crate) const CHECK_LONG_ABOUT: &str = "Checks the static rules and lists the processes
-
-Reads a specification in basic LOTOS from standard input. If it breaks no static
-rule, a line is written for each process, in the order of their definitions: its name,
-the number of its gates, and `exit` or `noexit`. Otherwise the first fault is named on
-standard error, with its position: the line, and the column in bytes.
-
-For example, with the specification
-  specification S [a] : noexit behaviour P[a]
-  where process P [x] : noexit := x; P[x] endproc endspec
-the command `lotosseq check` lists
-  P 1 noexit";
-
-pub(crate) const CHECK_STATUSES: &str = "Statuses:
-  0  the specification is accepted
-  2  the command or the specification is refused, or cannot be read
-  5  out of memory, or an argument is not Unicode
-  6  the output cannot be written";
-
-pub(crate) const CHECK_EXPLAIN_HELP: &str = "Explains a fault";
-
-pub(crate) const CHECK_EXPLAIN_LONG_HELP: &str = "Explains a fault
-
-The message of a fault in the specification is followed on standard error by its line
-with a mark under the position, and by what to do; if a word or a sign does not fit,
-also by what is there and what could be there. Output and status stay the same. For
-example, for `behaviour a stop` it writes
-  behaviour a stop
-              ^
-  `stop` is a reserved word
-  could be here, among others: `;` `[` `[]` `|[` `||` `|||` `[>` `>>` `where` `endspec`
-  Put what is missing before it, or remove it.";
-
-pub(crate) const WARN_HELP: &str = "Warns of what is allowed and may be a mistake";
-
-pub(crate) const WARN_LONG_HELP: &str = "Warns of what is allowed and may be a mistake
-
-If the specification is accepted, standard error has a line with the position of each
-  process that no call names, or that is not reached from the specification's behaviour,
-  process or specification that is declared `exit` and can never terminate,
-  specification whose behaviour is not `stop`, and can do nothing at all,
-  gate of the specification or of a process that its behaviour does not use,
-  gate in `|[..]|` that the left side or the right side never offers.
-Output and status stay the same. For example, it warns of the gate `b` of
-  specification S [a,b] : noexit behaviour a; stop endspec";
-
-pub(crate) const SEARCH_ABOUT: &str = "Lists the sequences that match a pattern";
-
-pub(crate) const SEARCH_LONG_ABOUT: &str = "Lists the sequences that match a pattern
+    pub(crate) const ABOUT: Help = Help {
+        short: "Lists the sequences that match a pattern",
+        long: "Lists the sequences that match a pattern
 
 Reads a specification in basic LOTOS from standard input (a file is given by `< FILE`)
 and writes a listing to standard output. With `--length N` it has every sequence of at
@@ -94,145 +61,24 @@ the order of their labels: gates by their names, then `exit`.
 For example, with the specification
   specification S [a,b] : exit behaviour a; b; exit endspec
 the command `lotosseq search --length 3 a b exit` lists
-  A B exit";
+  A B exit",
+    };
 
-/// The usage line: one of `--depth` and `--length` is required.
-pub(crate) const SEARCH_USAGE: &str =
-    "lotosseq search [OPTIONS] <--depth <N>|--length <N>> [WORD]...";
+    pub(crate) const USAGE: &str = "lotosseq search [OPTIONS] <--depth <N>|--length <N>> [WORD]...";
 
-/// What is wrong with a search that has neither `--depth` nor `--length`.
-pub(crate) const NO_EXTENT: &str = "the following required arguments were not provided:
-  <--depth <N>|--length <N>>";
+    pub(crate) const STATUSES: &str = "Statuses:
+  0  the listing is complete and has lines
+  1  the listing is complete and has none
+  2  the command, the pattern, the mark or the specification is refused, or cannot
+     be read
+  3  the limit of lines is reached
+  4  a prefix reaches too many terms
+  5  out of memory, or an argument is not Unicode
+  6  the output cannot be written";
 
-/// What is wrong with a search that has both.
-pub(crate) const TWO_EXTENTS: &str =
-    "the argument '--depth <N>' cannot be used with '--length <N>'";
-
-/// What is wrong with a question that has both `--hide` and `--only`.
-pub(crate) const TWO_INTERFACES: &str =
-    "the argument '--hide <GATES>' cannot be used with '--only <GATES>'";
-
-pub(crate) const DEPTH_HELP: &str = "The most steps of a derivation, 0 to 255";
-
-pub(crate) const DEPTH_LONG_HELP: &str = "The most steps of a derivation, 0 to 255
-
-Every step counts, those of the internal action `i` too, and so does successful
-termination. For example, for `a; b; exit` the sequence `A B exit` is listed with
-`--depth 3` and not with `--depth 2`.";
-
-pub(crate) const LENGTH_HELP: &str = "The most labels of a sequence, 0 to 255";
-
-pub(crate) const LENGTH_LONG_HELP: &str = "The most labels of a sequence, 0 to 255
-
-A derivation may have any number of steps, and internal steps count only with
-`--strong`. For example, for `i; i; a; b; exit` the sequence `A B` is listed with
-`--length 2`.";
-
-pub(crate) const LIMIT_HELP: &str = "The most lines that are written, 1 to 1000000000";
-
-pub(crate) const LIMIT_LONG_HELP: &str = "The most lines that are written, 1 to 1000000000
-
-The search stops when so many lines are written, with status 3, even if no line
-would follow. For example, `--limit 1` writes the first line alone.";
-
-pub(crate) const TERMS_HELP: &str = "The most terms that a prefix may reach, 1 to 1000000";
-
-pub(crate) const TERMS_LONG_HELP: &str = "The most terms that a prefix may reach, 1 to 1000000
-
-A prefix is a beginning of a sequence that can still match. It reaches the terms in
-which the derivations end that have it as their sequence. With `--length` terms count as
-one if they are seen to differ only in relabelling, hiding and calls. The search stops
-with status 4 at the first prefix that reaches more. For example, with `--terms 1` the
-specification's behaviour `i; a; stop` stops the search at `<empty>`, which reaches two
-terms.";
-
-pub(crate) const AFTER_HELP: &str = "Lists only what comes after this line of a listing";
-
-pub(crate) const AFTER_LONG_HELP: &str = "Lists only what comes after this line of a listing
-
-LINE is a line as the listing has it, in upper or lower case; what follows ` : ` in it
-is ignored. It need not be a line of this listing. In a shell it is quoted. For
-example, `--after \"A B\"` goes on after the line `A B`, and `--after \"<empty>\"`
-after the empty sequence.";
-
-pub(crate) const EXPLAIN_HELP: &str = "Writes the least run of each sequence too";
-
-pub(crate) const EXPLAIN_LONG_HELP: &str = "Writes the least run of each sequence too
-
-A line is then the sequence, ` : ` and its least run: the labels of a derivation that
-has the sequence, internal steps included. It is one with the fewest steps, and of
-these the first in the order of labels, `i` being the last label. With `--length` it may
-have any number of steps. For example, `i; i; a; stop` with `--length 1 --explain A`
-lists
-  A : i i A";
-
-pub(crate) const HIDDEN_HELP: &str = "Writes the least run with what makes each internal step";
-
-pub(crate) const HIDDEN_LONG_HELP: &str = "Writes the least run with what makes each internal step
-
-As `--explain`, which it implies, but an internal step is written by what makes it:
-`i` is an `i` of the text, `i(SEND)` an action of the gate SEND that a `hide` makes
-internal, and `i(exit)` the termination of the left side of `>>`. For example,
-`hide s in a; s; (exit >> i; b; stop)` with `--length 2 --hidden A B` lists
-  A B : A i(S) i(exit) i B";
-
-pub(crate) const HIDE_HELP: &str = "Hides these gates";
-
-pub(crate) const HIDE_LONG_HELP: &str = "Hides these gates
-
-GATES are names of gates, joined by commas without blanks, in upper or lower case. What
-happens at a hidden gate is an internal step, which cannot be observed unless `--strong`
-is given. A name that is no gate of the specification's own list is refused with E52.
-Only one of `--hide` and `--only` may be given. For example, with the specification
-  specification S [a,b,c] : noexit behaviour P[a,b,c]
-  where process P [x,y,z] : noexit := x; y; z; P[x,y,z] endproc endspec
-the command `lotosseq ever --hide B A C` writes
-  A C
-and `lotosseq ever A C` finds nothing, as B comes between.";
-
-pub(crate) const ONLY_HELP: &str = "Asks about these gates; all others are hidden";
-
-pub(crate) const ONLY_LONG_HELP: &str = "Asks about these gates; all others are hidden
-
-GATES are names of gates, joined by commas without blanks, in upper or lower case. What
-happens at a hidden gate is an internal step, which cannot be observed unless `--strong`
-is given. A name that is no gate of the specification's own list is refused with E52.
-Only one of `--hide` and `--only` may be given. For example, with the specification
-  specification S [a,b,c] : noexit behaviour P[a,b,c]
-  where process P [x,y,z] : noexit := x; y; z; P[x,y,z] endproc endspec
-the command `lotosseq ever --only A,C A C` writes
-  A C
-and `lotosseq ever A C` finds nothing, as B comes between.";
-
-pub(crate) const STRONG_HELP: &str = "Makes the internal action `i` a label like others";
-
-pub(crate) const STRONG_LONG_HELP: &str = "Makes the internal action `i` a label like others
-
-Sequences may then have it, it may be a word of the pattern, and elements match it. For
-example, `i; i; a; stop` with `--length 3 --strong i i A` lists
-  i i A";
-
-pub(crate) const KNOWN_HELP: &str = "Refuses words that name no gate of the specification";
-
-pub(crate) const KNOWN_LONG_HELP: &str = "Refuses words that name no gate of the specification
-
-Each label of the pattern must then be a gate of the specification's own list, `exit`,
-or with `--strong` `i`. Without this option the name of any other gate is accepted with
-a warning, and no sequence has that label. For example, with the specification
-  specification S [a] : exit behaviour a; exit endspec
-the command `lotosseq search --length 2 --known B exit` is refused with
-  E49 word 1 is no gate of the specification";
-
-pub(crate) const PROGRESS_HELP: &str = "Says on standard error how far the search is";
-
-pub(crate) const PROGRESS_LONG_HELP: &str = "Says on standard error how far the search is
-
-At a terminal this is one line, which is renewed; otherwise each report is a new line.
-Output and status stay the same.";
-
-pub(crate) const WORDS_HELP: &str = "The words of the pattern: labels and elements";
-
-pub(crate) const WORDS_LONG_HELP: &str = "The words of the pattern
+    pub(crate) const WORDS: Help = Help {
+        short: "The words of the pattern: labels and elements",
+        long: "The words of the pattern
 
 A pattern is a list of at most 256 elements. A sequence matches if it can be split into
 segments, one for each element in turn, and each element matches its segment. Without
@@ -270,21 +116,147 @@ may demand something of the last term.
 `i` is a word of a pattern only with `--strong`, as the internal action cannot be
 observed; without it `<not> A` is never an internal step. The name of a gate that the
 specification does not have is accepted with a warning, unless `--known` is given; no
-sequence has that label.";
+sequence has that label.",
+    };
 
-pub(crate) const SEARCH_STATUSES: &str = "Statuses:
-  0  the listing is complete and has lines
-  1  the listing is complete and has none
-  2  the command, the pattern, the mark or the specification is refused, or cannot
-     be read
-  3  the limit of lines is reached
-  4  a prefix reaches too many terms
+    pub(crate) const DEPTH: Help = Help {
+        short: "The most steps of a derivation, 0 to 255",
+        long: "The most steps of a derivation, 0 to 255
+
+Every step counts, those of the internal action `i` too, and so does successful
+termination. For example, for `a; b; exit` the sequence `A B exit` is listed with
+`--depth 3` and not with `--depth 2`.",
+    };
+
+    pub(crate) const LENGTH: Help = Help {
+        short: "The most labels of a sequence, 0 to 255",
+        long: "The most labels of a sequence, 0 to 255
+
+A derivation may have any number of steps, and internal steps count only with
+`--strong`. For example, for `i; i; a; b; exit` the sequence `A B` is listed with
+`--length 2`.",
+    };
+
+    pub(crate) const TERMS: Help = Help {
+        short: "The most terms that a prefix may reach, 1 to 1000000",
+        long: "The most terms that a prefix may reach, 1 to 1000000
+
+A prefix is a beginning of a sequence that can still match. It reaches the terms in
+which the derivations end that have it as their sequence. With `--length` terms count as
+one if they are seen to differ only in relabelling, hiding and calls. The search stops
+with status 4 at the first prefix that reaches more. For example, with `--terms 1` the
+specification's behaviour `i; a; stop` stops the search at `<empty>`, which reaches two
+terms.",
+    };
+
+    pub(crate) const EXPLAIN: Help = Help {
+        short: "Writes the least run of each sequence too",
+        long: "Writes the least run of each sequence too
+
+A line is then the sequence, ` : ` and its least run: the labels of a derivation that
+has the sequence, internal steps included. It is one with the fewest steps, and of
+these the first in the order of labels, `i` being the last label. With `--length` it may
+have any number of steps. For example, `i; i; a; stop` with `--length 1 --explain A`
+lists
+  A : i i A",
+    };
+
+    pub(crate) const HIDDEN: Help = Help {
+        short: "Writes the least run with what makes each internal step",
+        long: "Writes the least run with what makes each internal step
+
+As `--explain`, which it implies, but an internal step is written by what makes it:
+`i` is an `i` of the text, `i(SEND)` an action of the gate SEND that a `hide` makes
+internal, and `i(exit)` the termination of the left side of `>>`. For example,
+`hide s in a; s; (exit >> i; b; stop)` with `--length 2 --hidden A B` lists
+  A B : A i(S) i(exit) i B",
+    };
+
+    pub(crate) const STRONG: Help = Help {
+        short: "Makes the internal action `i` a label like others",
+        long: "Makes the internal action `i` a label like others
+
+Sequences may then have it, it may be a word of the pattern, and elements match it. For
+example, `i; i; a; stop` with `--length 3 --strong i i A` lists
+  i i A",
+    };
+
+    pub(crate) const KNOWN: Help = Help {
+        short: "Refuses words that name no gate of the specification",
+        long: "Refuses words that name no gate of the specification
+
+Each label of the pattern must then be a gate of the specification's own list, `exit`,
+or with `--strong` `i`. Without this option the name of any other gate is accepted with
+a warning, and no sequence has that label. For example, with the specification
+  specification S [a] : exit behaviour a; exit endspec
+the command `lotosseq search --length 2 --known B exit` is refused with
+  E49 word 1 is no gate of the specification",
+    };
+}
+
+/// The help of `check`.
+pub(crate) mod check {
+    use super::Help;
+
+    pub(crate) const ABOUT: Help = Help {
+        short: "Checks the static rules and lists the processes",
+        long: "Checks the static rules and lists the processes
+
+Reads a specification in basic LOTOS from standard input. If it breaks no static
+rule, a line is written for each process, in the order of their definitions: its name,
+the number of its gates, and `exit` or `noexit`. Otherwise the first fault is named on
+standard error, with its position: the line, and the column in bytes.
+
+For example, with the specification
+  specification S [a] : noexit behaviour P[a]
+  where process P [x] : noexit := x; P[x] endproc endspec
+the command `lotosseq check` lists
+  P 1 noexit",
+    };
+
+    pub(crate) const STATUSES: &str = "Statuses:
+  0  the specification is accepted
+  2  the command or the specification is refused, or cannot be read
   5  out of memory, or an argument is not Unicode
   6  the output cannot be written";
 
-pub(crate) const EVER_ABOUT: &str = "Finds a shortest match, of any length";
+    pub(crate) const EXPLAIN: Help = Help {
+        short: "Explains a fault",
+        long: "Explains a fault
 
-pub(crate) const EVER_LONG_ABOUT: &str = "Finds a shortest match, of any length
+The message of a fault in the specification is followed on standard error by its line
+with a mark under the position, and by what to do; if a word or a sign does not fit,
+also by what is there and what could be there. Output and status stay the same. For
+example, for `behaviour a stop` it writes
+  behaviour a stop
+              ^
+  `stop` is a reserved word
+  could be here, among others: `;` `[` `[]` `|[` `||` `|||` `[>` `>>` `where` `endspec`
+  Put what is missing before it, or remove it.",
+    };
+
+    pub(crate) const WARN: Help = Help {
+        short: "Warns of what is allowed and may be a mistake",
+        long: "Warns of what is allowed and may be a mistake
+
+If the specification is accepted, standard error has a line with the position of each
+  process that no call names, or that is not reached from the specification's behaviour,
+  process or specification that is declared `exit` and can never terminate,
+  specification whose behaviour is not `stop`, and can do nothing at all,
+  gate of the specification or of a process that its behaviour does not use,
+  gate in `|[..]|` that the left side or the right side never offers.
+Output and status stay the same. For example, it warns of the gate `b` of
+  specification S [a,b] : noexit behaviour a; stop endspec",
+    };
+}
+
+/// The help of `ever`.
+pub(crate) mod ever {
+    use super::Help;
+
+    pub(crate) const ABOUT: Help = Help {
+        short: "Finds a shortest match, of any length",
+        long: "Finds a shortest match, of any length
 
 Reads a specification in basic LOTOS from standard input (a file is given by `< FILE`)
 and looks for a derivation, of any number of steps, whose sequence matches the pattern.
@@ -298,9 +270,10 @@ For example, with the specification
   where process P [x,y] : noexit := x; y; P[x,y] endproc endspec
 the command `lotosseq ever '<while>' '<any>' B B` says that it happens at no depth,
 and `lotosseq ever '<until>' B` writes
-  A B";
+  A B",
+    };
 
-pub(crate) const EVER_STATUSES: &str = "Statuses:
+    pub(crate) const STATUSES: &str = "Statuses:
   0  there is a match
   1  there is none, of any length
   2  the command, the pattern or the specification is refused, or cannot be read
@@ -308,50 +281,9 @@ pub(crate) const EVER_STATUSES: &str = "Statuses:
   5  out of memory, or an argument is not Unicode
   6  the output cannot be written";
 
-pub(crate) const STATES_HELP: &str = "The most states that may be reached, 1 to 100000000";
-
-pub(crate) const STATES_LONG_HELP: &str = "The most states that may be reached, 1 to 100000000
-
-A state is one of the specification and of the pattern together: a term that can be
-reached, and how much of the pattern the labels on the way match. If more of them are
-reached before a match is found, the search stops with status 4. Each takes some
-150 to 600 bytes of memory; the steps that are kept of all of them take at most some
-400 MB more. For example, for `a; b; stop` and the pattern `A B` the search stops with
-`--states 1`.
-
-With `<livelock>`, `<forever>` and `<never>` all states of the specification that can
-be reached are found first. If they are more, the search stops too.";
-
-pub(crate) const EVER_EXPLAIN_HELP: &str = "Writes the least run of the sequence too";
-
-pub(crate) const EVER_EXPLAIN_LONG_HELP: &str = "Writes the least run of the sequence too
-
-The line is then the sequence, ` : ` and its least run: the labels of the derivation,
-internal steps included. For example, `i; i; a; stop` with `--explain A` writes
-  A : i i A
-
-If the pattern ends with `<livelock>` or `<forever> SET`, the line goes on with steps that
-never end: ` <forever> `, the labels of some steps, and in brackets those of a loop, which
-can be repeated for ever. `A : A <forever> i [B C]` means A, i, B, C, B, C and so on.";
-
-pub(crate) const EVER_HIDDEN_LONG_HELP: &str =
-    "Writes the least run with what makes each internal step
-
-As `--explain`, which it implies, but an internal step is written by what makes it:
-`i` is an `i` of the text, `i(SEND)` an action of the gate SEND that a `hide` makes
-internal, and `i(exit)` the termination of the left side of `>>`. For example,
-`hide s in a; s; (exit >> i; b; stop)` with `--hidden A B` writes
-  A B : A i(S) i(exit) i B
-
-Steps that never end are written so too: `A B : A B <forever> [i(H)]`.";
-
-pub(crate) const EVER_STRONG_LONG_HELP: &str = "Makes the internal action `i` a label like others
-
-Sequences may then have it, it may be a word of the pattern, and elements match it. For
-example, `i; i; a; stop` with `--strong i i A` writes
-  i i A";
-
-pub(crate) const EVER_WORDS_LONG_HELP: &str = "The words of the pattern
+    pub(crate) const WORDS: Help = Help {
+        short: "The words of the pattern: labels and elements",
+        long: "The words of the pattern
 
 A pattern is a list of at most 256 elements. A sequence matches if it can be split into
 segments, one for each element in turn, and each element matches its segment. Without
@@ -397,11 +329,67 @@ observed; without it `<not> A` is never an internal step. A name that is neither
 nor `i` must be that of a gate of the specification's own list; otherwise its word is
 refused with E49 and status 2, as no sequence has that label. For example, `C` is
 refused for
-  specification S [a,b] : noexit behaviour a; b; stop endspec";
+  specification S [a,b] : noexit behaviour a; b; stop endspec",
+    };
 
-pub(crate) const NEXT_ABOUT: &str = "Writes what can come after a sequence";
+    pub(crate) const STATES: Help = Help {
+        short: "The most states that may be reached, 1 to 100000000",
+        long: "The most states that may be reached, 1 to 100000000
 
-pub(crate) const NEXT_LONG_ABOUT: &str = "Writes what can come after a sequence
+A state is one of the specification and of the pattern together: a term that can be
+reached, and how much of the pattern the labels on the way match. If more of them are
+reached before a match is found, the search stops with status 4. Each takes some
+150 to 600 bytes of memory; the steps that are kept of all of them take at most some
+400 MB more. For example, for `a; b; stop` and the pattern `A B` the search stops with
+`--states 1`.
+
+With `<livelock>`, `<forever>` and `<never>` all states of the specification that can
+be reached are found first. If they are more, the search stops too.",
+    };
+
+    pub(crate) const EXPLAIN: Help = Help {
+        short: "Writes the least run of the sequence too",
+        long: "Writes the least run of the sequence too
+
+The line is then the sequence, ` : ` and its least run: the labels of the derivation,
+internal steps included. For example, `i; i; a; stop` with `--explain A` writes
+  A : i i A
+
+If the pattern ends with `<livelock>` or `<forever> SET`, the line goes on with steps that
+never end: ` <forever> `, the labels of some steps, and in brackets those of a loop, which
+can be repeated for ever. `A : A <forever> i [B C]` means A, i, B, C, B, C and so on.",
+    };
+
+    pub(crate) const HIDDEN: Help = Help {
+        short: "Writes the least run with what makes each internal step",
+        long: "Writes the least run with what makes each internal step
+
+As `--explain`, which it implies, but an internal step is written by what makes it:
+`i` is an `i` of the text, `i(SEND)` an action of the gate SEND that a `hide` makes
+internal, and `i(exit)` the termination of the left side of `>>`. For example,
+`hide s in a; s; (exit >> i; b; stop)` with `--hidden A B` writes
+  A B : A i(S) i(exit) i B
+
+Steps that never end are written so too: `A B : A B <forever> [i(H)]`.",
+    };
+
+    pub(crate) const STRONG: Help = Help {
+        short: "Makes the internal action `i` a label like others",
+        long: "Makes the internal action `i` a label like others
+
+Sequences may then have it, it may be a word of the pattern, and elements match it. For
+example, `i; i; a; stop` with `--strong i i A` writes
+  i i A",
+    };
+}
+
+/// The help of `after`.
+pub(crate) mod after {
+    use super::Help;
+
+    pub(crate) const ABOUT: Help = Help {
+        short: "Writes what can come after a sequence",
+        long: "Writes what can come after a sequence
 
 Reads a specification in basic LOTOS from standard input (a file is given by `< FILE`)
 and follows the sequence of the labels. If some derivation, of any number of steps,
@@ -418,9 +406,10 @@ the command `lotosseq after A` writes
   B
   C
 and `lotosseq after A A` writes to standard error
-  label 2, A, cannot come here; what can: B C";
+  label 2, A, cannot come here; what can: B C",
+    };
 
-pub(crate) const NEXT_STATUSES: &str = "Statuses:
+    pub(crate) const STATUSES: &str = "Statuses:
   0  the sequence can happen
   1  the sequence cannot happen
   2  the command, a label or the specification is refused, or cannot be read
@@ -428,32 +417,44 @@ pub(crate) const NEXT_STATUSES: &str = "Statuses:
   5  out of memory, or an argument is not Unicode
   6  the output cannot be written";
 
-pub(crate) const NEXT_TERMS_LONG_HELP: &str = "The most terms that a prefix may reach, 1 to 1000000
+    pub(crate) const LABELS: Help = Help {
+        short: "The labels of the sequence",
+        long: "The labels of the sequence
+
+Each is a gate of the specification's own list, or `exit` for successful termination, in
+upper or lower case. A word of the command may hold several, with blanks between.
+Without labels the command writes what can come first. `i` is a label only with
+`--strong`, as the internal action cannot be observed.",
+    };
+
+    pub(crate) const TERMS: Help = Help {
+        short: "The most terms that a prefix may reach, 1 to 1000000",
+        long: "The most terms that a prefix may reach, 1 to 1000000
 
 A prefix is a beginning of the sequence, or the whole of it. It reaches the terms in
 which the derivations end that have it as their sequence. Terms count as one if they are
 seen to differ only in relabelling, hiding and calls. If a prefix reaches more, the
 search stops with status 4. For example, with `--terms 1` and the specification's
-behaviour `i; a; stop` it stops at once: without labels, two terms are reached.";
+behaviour `i; a; stop` it stops at once: without labels, two terms are reached.",
+    };
 
-pub(crate) const NEXT_STRONG_LONG_HELP: &str = "Makes the internal action `i` a label like others
+    pub(crate) const STRONG: Help = Help {
+        short: "Makes the internal action `i` a label like others",
+        long: "Makes the internal action `i` a label like others
 
 It may then be a label of the sequence, and come after it. For example, for
 `i; a; stop` the command `lotosseq after --strong i` writes
-  A";
+  A",
+    };
+}
 
-pub(crate) const LABELS_HELP: &str = "The labels of the sequence";
+/// The help of `cover`.
+pub(crate) mod cover {
+    use super::Help;
 
-pub(crate) const LABELS_LONG_HELP: &str = "The labels of the sequence
-
-Each is a gate of the specification's own list, or `exit` for successful termination, in
-upper or lower case. A word of the command may hold several, with blanks between.
-Without labels the command writes what can come first. `i` is a label only with
-`--strong`, as the internal action cannot be observed.";
-
-pub(crate) const COVER_ABOUT: &str = "Lists sequences that show all that can be observed";
-
-pub(crate) const COVER_LONG_ABOUT: &str = "Lists sequences that show all that can be observed
+    pub(crate) const ABOUT: Help = Help {
+        short: "Lists sequences that show all that can be observed",
+        long: "Lists sequences that show all that can be observed
 
 Reads a specification in basic LOTOS from standard input (a file is given by `< FILE`)
 and writes a listing to standard output: a finite test suite.
@@ -474,9 +475,10 @@ For example, with the specification
 the command `lotosseq cover` lists
   A A
   A B
-as `A B` reaches the same terms as the empty sequence.";
+as `A B` reaches the same terms as the empty sequence.",
+    };
 
-pub(crate) const COVER_STATUSES: &str = "Statuses:
+    pub(crate) const STATUSES: &str = "Statuses:
   0  the listing is complete and has lines
   1  the listing is complete and has none
   2  the command, the mark or the specification is refused, or cannot be read
@@ -485,24 +487,93 @@ pub(crate) const COVER_STATUSES: &str = "Statuses:
   5  out of memory, or an argument is not Unicode
   6  the output cannot be written";
 
-pub(crate) const COVER_TERMS_LONG_HELP: &str = "The most terms that a prefix may reach, 1 to 1000000
+    pub(crate) const TERMS: Help = Help {
+        short: "The most terms that a prefix may reach, 1 to 1000000",
+        long: "The most terms that a prefix may reach, 1 to 1000000
 
 A prefix is a beginning of a line. It reaches the terms in which the derivations end
 that have it as their sequence. Terms count as one if they are seen to differ only in
 relabelling, hiding and calls. The search stops with status 4 at the first prefix that
 reaches more. For example, with `--terms 1` the specification's behaviour `i; a; stop`
-stops the search at `<empty>`, which reaches two terms.";
+stops the search at `<empty>`, which reaches two terms.",
+    };
 
-pub(crate) const SETS_HELP: &str = "The most sets that may be reached, 1 to 100000000";
-
-pub(crate) const SETS_LONG_HELP: &str = "The most sets that may be reached, 1 to 100000000
+    pub(crate) const STATES: Help = Help {
+        short: "The most sets that may be reached, 1 to 100000000",
+        long: "The most sets that may be reached, 1 to 100000000
 
 A set has all terms that a sequence reaches, and counts once, however many sequences
 reach it. If more sets than these are reached, the search stops with status 4. For
 example, for `a; b; stop` it stops with `--states 2`, as `<empty>`, `A` and `A B` reach
-three sets.";
+three sets.",
+    };
 
-pub(crate) const COVER_STRONG_LONG_HELP: &str = "Makes the internal action `i` a label like others
+    pub(crate) const STRONG: Help = Help {
+        short: "Makes the internal action `i` a label like others",
+        long: "Makes the internal action `i` a label like others
 
 Sequences may then have it. For example, for `i; a; stop` and `--strong` the listing has
-  i A";
+  i A",
+    };
+}
+
+/// The help of several commands.
+pub(crate) mod common {
+    use super::Help;
+
+    pub(crate) const LIMIT: Help = Help {
+        short: "The most lines that are written, 1 to 1000000000",
+        long: "The most lines that are written, 1 to 1000000000
+
+The search stops when so many lines are written, with status 3, even if no line
+would follow. For example, `--limit 1` writes the first line alone.",
+    };
+
+    pub(crate) const AFTER: Help = Help {
+        short: "Lists only what comes after this line of a listing",
+        long: "Lists only what comes after this line of a listing
+
+LINE is a line as the listing has it, in upper or lower case; what follows ` : ` in it
+is ignored. It need not be a line of this listing. In a shell it is quoted. For
+example, `--after \"A B\"` goes on after the line `A B`, and `--after \"<empty>\"`
+after the empty sequence.",
+    };
+
+    pub(crate) const HIDE: Help = Help {
+        short: "Hides these gates",
+        long: "Hides these gates
+
+GATES are names of gates, joined by commas without blanks, in upper or lower case. What
+happens at a hidden gate is an internal step, which cannot be observed unless `--strong`
+is given. A name that is no gate of the specification's own list is refused with E52.
+Only one of `--hide` and `--only` may be given. For example, with the specification
+  specification S [a,b,c] : noexit behaviour P[a,b,c]
+  where process P [x,y,z] : noexit := x; y; z; P[x,y,z] endproc endspec
+the command `lotosseq ever --hide B A C` writes
+  A C
+and `lotosseq ever A C` finds nothing, as B comes between.",
+    };
+
+    pub(crate) const ONLY: Help = Help {
+        short: "Asks about these gates; all others are hidden",
+        long: "Asks about these gates; all others are hidden
+
+GATES are names of gates, joined by commas without blanks, in upper or lower case. What
+happens at a hidden gate is an internal step, which cannot be observed unless `--strong`
+is given. A name that is no gate of the specification's own list is refused with E52.
+Only one of `--hide` and `--only` may be given. For example, with the specification
+  specification S [a,b,c] : noexit behaviour P[a,b,c]
+  where process P [x,y,z] : noexit := x; y; z; P[x,y,z] endproc endspec
+the command `lotosseq ever --only A,C A C` writes
+  A C
+and `lotosseq ever A C` finds nothing, as B comes between.",
+    };
+
+    pub(crate) const PROGRESS: Help = Help {
+        short: "Says on standard error how far the search is",
+        long: "Says on standard error how far the search is
+
+At a terminal this is one line, which is renewed; otherwise each report is a new line.
+Output and status stay the same.",
+    };
+}

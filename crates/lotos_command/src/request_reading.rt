@@ -5,7 +5,7 @@ ghost use Rattle.clap.specs.Walk.{texts as texts_of};
 ghost use Rattle.clap.specs.declared.error.kind.ErrorKind.TheVariants as ErrorKind;
 ghost use Rattle.clap.specs.Words.{all_of, first_of, found_of, kind_of, one_of, rows_of, subcommand_rows_of};
 ghost use Rattle.lotos_command.specs.CommandFaults.{AreAccepted, IsFaultOf, IsFaultOfEntries, IsFaultOfKind, IsNoRequestFault};
-ghost use Rattle.lotos_command.specs.EntryRules.{FitsAfter, FitsCheck, FitsCover, FitsEver, FitsRequest, FitsSearch, IsNumberIn, IsTruthText};
+ghost use Rattle.lotos_command.specs.EntryRules.{AreReadable, FitsRequest, IsNumberIn, IsTruthText};
 ghost use Rattle.lotos_command.specs.PatternWords.{parts_between_blanks, pattern_words, pattern_words_in};
 ghost use Rattle.lotos_command.specs.Request.{HasBounds, HasCoverBounds, HasSearchBounds, RequestOf, after_from, after_view, check_from, cover_from, cover_view, ever_from, ever_view, extent_from, flag, interface_from, interface_view, number, request_from, request_view, runs_from, search_from, search_view};
 
@@ -14,7 +14,6 @@ use crate::command::{
     Request, Runs, SearchRequest,
 };
 use crate::command_line::{Question, lotosseq_command, question_command};
-use crate::help::{NO_EXTENT, TWO_EXTENTS, TWO_INTERFACES};
 use clap::error::ErrorKind;
 use clap::{ArgMatches, Error};
 use std::alloc::{AllocError, Global};
@@ -24,6 +23,16 @@ const DEFAULT_TERMS: usize = 100_000;
 
 /// The most product states that may be stored, or sets that may be reached, unless `--states` is given.
 const DEFAULT_STATES: usize = 1_000_000;
+
+/// What is wrong with a search that has neither `--depth` nor `--length`.
+const NO_EXTENT: &str = "the following required arguments were not provided:
+  <--depth <N>|--length <N>>";
+
+/// What is wrong with a search that has both.
+const TWO_EXTENTS: &str = "the argument '--depth <N>' cannot be used with '--length <N>'";
+
+/// What is wrong with a question that has both `--hide` and `--only`.
+const TWO_INTERFACES: &str = "the argument '--hide <GATES>' cannot be used with '--only <GATES>'";
 
 /// The request that the words of a command line make. The first word is the program's own name.
 ///
@@ -73,12 +82,12 @@ fn read_request(alloc: Global, found: &ArgMatches<'_>) -> Result<Request, Comman
 }
 
 fn read_check_request(found: &ArgMatches<'_>) -> Request
-    requires { FitsCheck (rows_of (found_of found.now)) }
+    requires { AreReadable (rows_of (found_of found.now)) }
     ensures is { request_view result ≡ check_from (rows_of (found_of found.now)) }
     ensures bounds { HasBounds result }
 {
-    let explain = read_explain(found);
-    let warn = read_warn(found);
+    let explain = read_flag("explain", found);
+    let warn = read_flag("warn", found);
     if explain || warn {
         Request::Diagnose(DiagnoseRequest { explain, warn })
     } else {
@@ -88,7 +97,7 @@ fn read_check_request(found: &ArgMatches<'_>) -> Request
 
 /// A search that has two faults is refused for that of its extent.
 fn read_search_request(alloc: Global, found: &ArgMatches<'_>) -> Result<SearchRequest, CommandFault>
-    requires { FitsSearch (rows_of (found_of found.now)) }
+    requires { AreReadable (rows_of (found_of found.now)) }
     ensures is { IfOk result (λ r. search_from (rows_of (found_of found.now)) ≡ Some (search_view r)) }
     ensures bounds { IfOk result HasSearchBounds }
     ensures fault { IfErr result (IsFaultOfEntries (search_from (rows_of (found_of found.now)))) }
@@ -97,75 +106,66 @@ fn read_search_request(alloc: Global, found: &ArgMatches<'_>) -> Result<SearchRe
     let interface = read_interface(alloc, Question::Search, found)?;
     Ok(SearchRequest {
         extent,
-        limit: read_limit(found),
-        terms: read_terms(found),
+        limit: read_number("limit", found),
+        terms: read_number_or("terms", DEFAULT_TERMS, found),
         after: read_text(alloc, "after", found)?,
         runs: read_runs(found),
         interface,
-        strong: read_strong(found),
-        known: read_known(found),
-        progress: read_progress(found),
+        strong: read_flag("strong", found),
+        known: read_flag("known", found),
+        progress: read_flag("progress", found),
         words: read_words(alloc, found)?,
     })
 }
 
 fn read_ever_request(alloc: Global, found: &ArgMatches<'_>) -> Result<EverRequest, CommandFault>
-    requires { FitsEver (rows_of (found_of found.now)) }
+    requires { AreReadable (rows_of (found_of found.now)) }
     ensures is { IfOk result (λ r. ever_from (rows_of (found_of found.now)) ≡ Some (ever_view r)) }
     ensures bounds { IfOk result (λ r. 1 ≤ r.states) }
     ensures fault { IfErr result (IsFaultOfEntries (ever_from (rows_of (found_of found.now)))) }
 {
     let interface = read_interface(alloc, Question::Ever, found)?;
-    let runs = read_runs(found);
-    let strong = read_strong(found);
-    let progress = read_progress(found);
     Ok(EverRequest {
-        states: read_states(found),
-        runs,
+        states: read_number_or("states", DEFAULT_STATES, found),
+        runs: read_runs(found),
         interface,
-        strong,
-        progress,
+        strong: read_flag("strong", found),
+        progress: read_flag("progress", found),
         words: read_words(alloc, found)?,
     })
 }
 
 fn read_after_request(alloc: Global, found: &ArgMatches<'_>) -> Result<AfterRequest, CommandFault>
-    requires { FitsAfter (rows_of (found_of found.now)) }
+    requires { AreReadable (rows_of (found_of found.now)) }
     ensures is { IfOk result (λ r. after_from (rows_of (found_of found.now)) ≡ Some (after_view r)) }
     ensures bounds { IfOk result (λ r. 1 ≤ r.terms) }
     ensures fault { IfErr result (IsFaultOfEntries (after_from (rows_of (found_of found.now)))) }
 {
     let interface = read_interface(alloc, Question::After, found)?;
-    let strong = read_strong(found);
-    let progress = read_progress(found);
     Ok(AfterRequest {
-        terms: read_terms(found),
+        terms: read_number_or("terms", DEFAULT_TERMS, found),
         interface,
-        strong,
-        progress,
+        strong: read_flag("strong", found),
+        progress: read_flag("progress", found),
         words: read_words(alloc, found)?,
     })
 }
 
 fn read_cover_request(alloc: Global, found: &ArgMatches<'_>) -> Result<CoverRequest, CommandFault>
-    requires { FitsCover (rows_of (found_of found.now)) }
+    requires { AreReadable (rows_of (found_of found.now)) }
     ensures is { IfOk result (λ r. cover_from (rows_of (found_of found.now)) ≡ Some (cover_view r)) }
     ensures bounds { IfOk result HasCoverBounds }
     ensures fault { IfErr result (IsFaultOfEntries (cover_from (rows_of (found_of found.now)))) }
 {
     let interface = read_interface(alloc, Question::Cover, found)?;
-    let limit = read_limit(found);
-    let states = read_states(found);
-    let strong = read_strong(found);
-    let progress = read_progress(found);
     Ok(CoverRequest {
-        limit,
+        limit: read_number("limit", found),
         after: read_text(alloc, "after", found)?,
-        terms: read_terms(found),
-        states,
+        terms: read_number_or("terms", DEFAULT_TERMS, found),
+        states: read_number_or("states", DEFAULT_STATES, found),
         interface,
-        strong,
-        progress,
+        strong: read_flag("strong", found),
+        progress: read_flag("progress", found),
     })
 }
 
@@ -175,7 +175,7 @@ fn read_extent(alloc: Global, found: &ArgMatches<'_>) -> Result<Extent, CommandF
     ensures is { IfOk result (λ e. extent_from (rows_of (found_of found.now)) ≡ Some e) }
     ensures fault { IfErr result (IsFaultOfEntries (extent_from (rows_of (found_of found.now)))) }
 {
-    match (read_depth(found), read_length(found)) {
+    match (read_small("depth", found), read_small("length", found)) {
         (Some(depth), None) => Ok(Extent::Depth(depth)),
         (None, Some(length)) => Ok(Extent::Length(length)),
         (Some(_), Some(_)) => Err(no_request_fault(
@@ -245,44 +245,22 @@ fn no_request_error(
     question_command(alloc, question)?.error(kind, message)
 }
 
-fn read_depth(found: &ArgMatches<'_>) -> Option<u8>
-    requires { IfSome (one_of (codes "depth") (rows_of (found_of found.now))) (IsNumberIn 0 255) }
-    ensures { result ≡ option_map number (one_of (codes "depth") (rows_of (found_of found.now))) }
+/// The number of the option with this name, at most 255, if it is given.
+fn read_small(name: &str, found: &ArgMatches<'_>) -> Option<u8>
+    requires { IfSome (one_of name.now (rows_of (found_of found.now))) (IsNumberIn 0 255) }
+    ensures { result ≡ option_map number (one_of name.now (rows_of (found_of found.now))) }
 {
-    found.get_one::<u8>("depth")
+    found.get_one::<u8>(name)
 }
 
-fn read_length(found: &ArgMatches<'_>) -> Option<u8>
-    requires { IfSome (one_of (codes "length") (rows_of (found_of found.now))) (IsNumberIn 0 255) }
-    ensures { result ≡ option_map number (one_of (codes "length") (rows_of (found_of found.now))) }
+/// The number of the option with this name, or the default if it is not given.
+fn read_number_or(name: &str, default: usize, found: &ArgMatches<'_>) -> usize
+    requires { IfSome (one_of name.now (rows_of (found_of found.now))) (IsNumberIn 1 4294967295) }
+    ensures { result ≡ option_map_or number (one_of name.now (rows_of (found_of found.now))) default }
 {
-    found.get_one::<u8>("length")
-}
-
-fn read_limit(found: &ArgMatches<'_>) -> Option<u32>
-    requires { IfSome (one_of (codes "limit") (rows_of (found_of found.now))) (IsNumberIn 1 1000000000) }
-    ensures { result ≡ option_map number (one_of (codes "limit") (rows_of (found_of found.now))) }
-{
-    read_number("limit", found)
-}
-
-fn read_terms(found: &ArgMatches<'_>) -> usize
-    requires { IfSome (one_of (codes "terms") (rows_of (found_of found.now))) (IsNumberIn 1 1000000) }
-    ensures { result ≡ option_map_or number (one_of (codes "terms") (rows_of (found_of found.now))) 100000 }
-{
-    match read_number("terms", found) {
-        Some(terms) => terms as usize,
-        None => DEFAULT_TERMS,
-    }
-}
-
-fn read_states(found: &ArgMatches<'_>) -> usize
-    requires { IfSome (one_of (codes "states") (rows_of (found_of found.now))) (IsNumberIn 1 100000000) }
-    ensures { result ≡ option_map_or number (one_of (codes "states") (rows_of (found_of found.now))) 1000000 }
-{
-    match read_number("states", found) {
-        Some(states) => states as usize,
-        None => DEFAULT_STATES,
+    match read_number(name, found) {
+        Some(number) => number as usize,
+        None => default,
     }
 }
 
@@ -315,55 +293,21 @@ fn read_runs(found: &ArgMatches<'_>) -> Runs
     requires hidden { IfSome (one_of (codes "hidden") (rows_of (found_of found.now))) IsTruthText }
     ensures { result ≡ runs_from (rows_of (found_of found.now)) }
 {
-    if read_hidden(found) {
+    if read_flag("hidden", found) {
         Runs::Origins
-    } else if read_explain(found) {
+    } else if read_flag("explain", found) {
         Runs::Labels
     } else {
         Runs::Omitted
     }
 }
 
-fn read_hidden(found: &ArgMatches<'_>) -> bool
-    requires { IfSome (one_of (codes "hidden") (rows_of (found_of found.now))) IsTruthText }
-    ensures { result ≡ flag (codes "hidden") (rows_of (found_of found.now)) }
+/// Whether the flag with this name is given.
+fn read_flag(name: &str, found: &ArgMatches<'_>) -> bool
+    requires { IfSome (one_of name.now (rows_of (found_of found.now))) IsTruthText }
+    ensures { result ≡ flag name.now (rows_of (found_of found.now)) }
 {
-    found.get_flag("hidden")
-}
-
-fn read_explain(found: &ArgMatches<'_>) -> bool
-    requires { IfSome (one_of (codes "explain") (rows_of (found_of found.now))) IsTruthText }
-    ensures { result ≡ flag (codes "explain") (rows_of (found_of found.now)) }
-{
-    found.get_flag("explain")
-}
-
-fn read_strong(found: &ArgMatches<'_>) -> bool
-    requires { IfSome (one_of (codes "strong") (rows_of (found_of found.now))) IsTruthText }
-    ensures { result ≡ flag (codes "strong") (rows_of (found_of found.now)) }
-{
-    found.get_flag("strong")
-}
-
-fn read_known(found: &ArgMatches<'_>) -> bool
-    requires { IfSome (one_of (codes "known") (rows_of (found_of found.now))) IsTruthText }
-    ensures { result ≡ flag (codes "known") (rows_of (found_of found.now)) }
-{
-    found.get_flag("known")
-}
-
-fn read_progress(found: &ArgMatches<'_>) -> bool
-    requires { IfSome (one_of (codes "progress") (rows_of (found_of found.now))) IsTruthText }
-    ensures { result ≡ flag (codes "progress") (rows_of (found_of found.now)) }
-{
-    found.get_flag("progress")
-}
-
-fn read_warn(found: &ArgMatches<'_>) -> bool
-    requires { IfSome (one_of (codes "warn") (rows_of (found_of found.now))) IsTruthText }
-    ensures { result ≡ flag (codes "warn") (rows_of (found_of found.now)) }
-{
-    found.get_flag("warn")
+    found.get_flag(name)
 }
 
 fn read_words(alloc: Global, found: &ArgMatches<'_>) -> Result<Vec<String>, AllocError>

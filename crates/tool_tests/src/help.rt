@@ -1,9 +1,81 @@
 //! Runs that ask for help or for the version.
 
+use super::help_summaries::{
+    AFTER_SUMMARY, CHECK_SUMMARY, COVER_SUMMARY, EVER_SUMMARY, PROGRAM_SUMMARY, SEARCH_SUMMARY,
+    VERSION,
+};
+use super::help_texts::{AFTER, CHECK, COVER, EVER, PROGRAM, SEARCH};
 use super::memory_devices::WhenFull;
-use super::runs::{Bytes, Parts, RUN, Run, Taken, UNREAD, WHOLE, expect_parts};
+use super::runs::{Bytes, Outcome, Parts, RUN, Run, Taken, UNREAD, WHOLE, expect, expect_parts};
 use std::alloc::Global;
 use std::process::Abort;
+
+/// Words that ask for help or for the version, and the text.
+type Row = (&'static [&'static str], &'static str);
+
+const LONG: &[Row] = &[
+    (&["lotosseq", "--help"], PROGRAM),
+    (&["lotosseq", "check", "--help"], CHECK),
+];
+
+const SHORT: &[Row] = &[
+    (&["lotosseq", "-h"], PROGRAM_SUMMARY),
+    (&["lotosseq", "search", "-h"], SEARCH_SUMMARY),
+    (&["lotosseq", "ever", "-h"], EVER_SUMMARY),
+    (&["lotosseq", "after", "-h"], AFTER_SUMMARY),
+    (&["lotosseq", "cover", "-h"], COVER_SUMMARY),
+    (&["lotosseq", "check", "-h"], CHECK_SUMMARY),
+    (&["lotosseq", "--version"], VERSION),
+    (&["lotosseq", "-V"], VERSION),
+];
+
+/// Runs the words, and expects this text, no message, status 0 and one flush.
+fn expect_text(rt: &impl Abort, alloc: Global, words: &[&str], text: &str) {
+    let outcome = Outcome {
+        output: text.as_bytes(),
+        message: b"",
+        status: 0,
+        flushes: 1,
+    };
+    expect(rt, alloc, &Run { words, ..RUN }, &outcome);
+}
+
+/// Runs the words of each row, and expects the row's text.
+fn expect_texts(rt: &impl Abort, alloc: Global, rows: &[Row]) {
+    for (words, text) in rows {
+        expect_text(rt, alloc, *words, *text);
+    }
+}
+
+#[test]
+fn help_of_the_program_and_of_check(rt: HostRuntime) {
+    expect_texts(&rt, rt.alloc(), LONG);
+}
+
+#[test]
+fn help_of_search(rt: HostRuntime) {
+    expect_text(&rt, rt.alloc(), &["lotosseq", "search", "--help"], SEARCH);
+}
+
+#[test]
+fn help_of_ever(rt: HostRuntime) {
+    expect_text(&rt, rt.alloc(), &["lotosseq", "ever", "--help"], EVER);
+}
+
+#[test]
+fn help_of_after(rt: HostRuntime) {
+    expect_text(&rt, rt.alloc(), &["lotosseq", "after", "--help"], AFTER);
+}
+
+#[test]
+fn help_of_cover(rt: HostRuntime) {
+    expect_text(&rt, rt.alloc(), &["lotosseq", "cover", "--help"], COVER);
+}
+
+#[test]
+fn summaries_and_the_version(rt: HostRuntime) {
+    expect_texts(&rt, rt.alloc(), SHORT);
+}
 
 /// Command lines that ask for help or for the version, and the first line of the text.
 const ROWS: &[(&[&str], &[u8])] = &[

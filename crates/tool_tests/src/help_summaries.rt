@@ -1,9 +1,7 @@
-//! The summary of the help of the program and of each command, and the version.
-
-use super::help_texts::{Row, expect_texts};
+//! The short help of the program and of each command, and the version. Made of share/help.txt by tools/help-texts.
 
 /// `lotosseq -h`
-const PROGRAM_SUMMARY: &str =
+pub(crate) const PROGRAM_SUMMARY: &str =
     "Checks a basic LOTOS specification, and lists its observable action sequences
 
 Usage: lotosseq <COMMAND>
@@ -34,7 +32,7 @@ Statuses:
 ";
 
 /// `lotosseq search -h`
-const SEARCH_SUMMARY: &str = "Lists the sequences that match a pattern
+pub(crate) const SEARCH_SUMMARY: &str = "Lists the sequences that match a pattern
 
 Usage: lotosseq search [OPTIONS] <--depth <N>|--length <N>> [WORD]...
 
@@ -67,8 +65,25 @@ Statuses:
   6  the output cannot be written
 ";
 
+/// `lotosseq check -h`
+pub(crate) const CHECK_SUMMARY: &str = "Checks the static rules and lists the processes
+
+Usage: lotosseq check [OPTIONS]
+
+Options:
+      --explain  Explains a fault
+      --warn     Warns of what is allowed and may be a mistake
+  -h, --help     Print help (see more with '--help')
+
+Statuses:
+  0  the specification is accepted
+  2  the command or the specification is refused, or cannot be read
+  5  out of memory, or an argument is not Unicode
+  6  the output cannot be written
+";
+
 /// `lotosseq ever -h`
-const EVER_SUMMARY: &str = "Finds a shortest match, of any length
+pub(crate) const EVER_SUMMARY: &str = "Finds a shortest match, of any length
 
 Usage: lotosseq ever [OPTIONS] [WORD]...
 
@@ -95,7 +110,7 @@ Statuses:
 ";
 
 /// `lotosseq after -h`
-const AFTER_SUMMARY: &str = "Writes what can come after a sequence
+pub(crate) const AFTER_SUMMARY: &str = "Writes what can come after a sequence
 
 Usage: lotosseq after [OPTIONS] [LABEL]...
 
@@ -120,7 +135,7 @@ Statuses:
 ";
 
 /// `lotosseq cover -h`
-const COVER_SUMMARY: &str = "Lists sequences that show all that can be observed
+pub(crate) const COVER_SUMMARY: &str = "Lists sequences that show all that can be observed
 
 Usage: lotosseq cover [OPTIONS]
 
@@ -145,39 +160,6 @@ Statuses:
   6  the output cannot be written
 ";
 
-/// `lotosseq check -h`
-const CHECK_SUMMARY: &str = "Checks the static rules and lists the processes
-
-Usage: lotosseq check [OPTIONS]
-
-Options:
-      --explain  Explains a fault
-      --warn     Warns of what is allowed and may be a mistake
-  -h, --help     Print help (see more with '--help')
-
-Statuses:
-  0  the specification is accepted
-  2  the command or the specification is refused, or cannot be read
-  5  out of memory, or an argument is not Unicode
-  6  the output cannot be written
-";
-
 /// `lotosseq --version`
-const VERSION: &str = "lotosseq 0.1.0 (proved, logic dac8208d650f15bf)
+pub(crate) const VERSION: &str = "lotosseq 0.1.0 (proved, logic dac8208d650f15bf)
 ";
-
-const SHORT: &[Row] = &[
-    (&["lotosseq", "-h"], PROGRAM_SUMMARY),
-    (&["lotosseq", "search", "-h"], SEARCH_SUMMARY),
-    (&["lotosseq", "ever", "-h"], EVER_SUMMARY),
-    (&["lotosseq", "after", "-h"], AFTER_SUMMARY),
-    (&["lotosseq", "cover", "-h"], COVER_SUMMARY),
-    (&["lotosseq", "check", "-h"], CHECK_SUMMARY),
-    (&["lotosseq", "--version"], VERSION),
-    (&["lotosseq", "-V"], VERSION),
-];
-
-#[test]
-fn summaries_and_the_version(rt: HostRuntime) {
-    expect_texts(&rt, rt.alloc(), SHORT);
-}

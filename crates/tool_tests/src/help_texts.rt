@@ -1,22 +1,8 @@
-//! The whole help of the program and of each command.
-
-use super::runs::{Outcome, RUN, Run, expect};
-use std::alloc::Global;
-use std::process::Abort;
-
-/// Runs the words, and expects this text, no message, status 0 and one flush.
-fn expect_text(rt: &impl Abort, alloc: Global, words: &[&str], text: &str) {
-    let outcome = Outcome {
-        output: text.as_bytes(),
-        message: b"",
-        status: 0,
-        flushes: 1,
-    };
-    expect(rt, alloc, &Run { words, ..RUN }, &outcome);
-}
+//! The whole help of the program and of each command. Made of share/help.txt by tools/help-texts.
 
 /// `lotosseq --help`
-const PROGRAM: &str = "Checks a basic LOTOS specification, and lists its observable action sequences
+pub(crate) const PROGRAM: &str =
+    "Checks a basic LOTOS specification, and lists its observable action sequences
 
 The specification is read from standard input, and what is asked of it is written to
 standard output. A file is given by `< FILE`, as in
@@ -57,7 +43,7 @@ Statuses:
 ";
 
 /// `lotosseq search --help`
-const SEARCH: &str = "Lists the sequences that match a pattern
+pub(crate) const SEARCH: &str = "Lists the sequences that match a pattern
 
 Reads a specification in basic LOTOS from standard input (a file is given by `< FILE`)
 and writes a listing to standard output. With `--length N` it has every sequence of at
@@ -241,8 +227,60 @@ Statuses:
   6  the output cannot be written
 ";
 
+/// `lotosseq check --help`
+pub(crate) const CHECK: &str = "Checks the static rules and lists the processes
+
+Reads a specification in basic LOTOS from standard input. If it breaks no static
+rule, a line is written for each process, in the order of their definitions: its name,
+the number of its gates, and `exit` or `noexit`. Otherwise the first fault is named on
+standard error, with its position: the line, and the column in bytes.
+
+For example, with the specification
+  specification S [a] : noexit behaviour P[a]
+  where process P [x] : noexit := x; P[x] endproc endspec
+the command `lotosseq check` lists
+  P 1 noexit
+
+Usage: lotosseq check [OPTIONS]
+
+Options:
+      --explain
+          Explains a fault
+         \x20
+          The message of a fault in the specification is followed on standard error by its line
+          with a mark under the position, and by what to do; if a word or a sign does not fit,
+          also by what is there and what could be there. Output and status stay the same. For
+          example, for `behaviour a stop` it writes
+            behaviour a stop
+                        ^
+            `stop` is a reserved word
+            could be here, among others: `;` `[` `[]` `|[` `||` `|||` `[>` `>>` `where` `endspec`
+            Put what is missing before it, or remove it.
+
+      --warn
+          Warns of what is allowed and may be a mistake
+         \x20
+          If the specification is accepted, standard error has a line with the position of each
+            process that no call names, or that is not reached from the specification's behaviour,
+            process or specification that is declared `exit` and can never terminate,
+            specification whose behaviour is not `stop`, and can do nothing at all,
+            gate of the specification or of a process that its behaviour does not use,
+            gate in `|[..]|` that the left side or the right side never offers.
+          Output and status stay the same. For example, it warns of the gate `b` of
+            specification S [a,b] : noexit behaviour a; stop endspec
+
+  -h, --help
+          Print help (see a summary with '-h')
+
+Statuses:
+  0  the specification is accepted
+  2  the command or the specification is refused, or cannot be read
+  5  out of memory, or an argument is not Unicode
+  6  the output cannot be written
+";
+
 /// `lotosseq ever --help`
-const EVER: &str = "Finds a shortest match, of any length
+pub(crate) const EVER: &str = "Finds a shortest match, of any length
 
 Reads a specification in basic LOTOS from standard input (a file is given by `< FILE`)
 and looks for a derivation, of any number of steps, whose sequence matches the pattern.
@@ -400,7 +438,7 @@ Statuses:
 ";
 
 /// `lotosseq after --help`
-const AFTER: &str = "Writes what can come after a sequence
+pub(crate) const AFTER: &str = "Writes what can come after a sequence
 
 Reads a specification in basic LOTOS from standard input (a file is given by `< FILE`)
 and follows the sequence of the labels. If some derivation, of any number of steps,
@@ -494,7 +532,7 @@ Statuses:
 ";
 
 /// `lotosseq cover --help`
-const COVER: &str = "Lists sequences that show all that can be observed
+pub(crate) const COVER: &str = "Lists sequences that show all that can be observed
 
 Reads a specification in basic LOTOS from standard input (a file is given by `< FILE`)
 and writes a listing to standard output: a finite test suite.
@@ -605,95 +643,3 @@ Statuses:
   5  out of memory, or an argument is not Unicode
   6  the output cannot be written
 ";
-
-/// `lotosseq check --help`
-const CHECK: &str = "Checks the static rules and lists the processes
-
-Reads a specification in basic LOTOS from standard input. If it breaks no static
-rule, a line is written for each process, in the order of their definitions: its name,
-the number of its gates, and `exit` or `noexit`. Otherwise the first fault is named on
-standard error, with its position: the line, and the column in bytes.
-
-For example, with the specification
-  specification S [a] : noexit behaviour P[a]
-  where process P [x] : noexit := x; P[x] endproc endspec
-the command `lotosseq check` lists
-  P 1 noexit
-
-Usage: lotosseq check [OPTIONS]
-
-Options:
-      --explain
-          Explains a fault
-         \x20
-          The message of a fault in the specification is followed on standard error by its line
-          with a mark under the position, and by what to do; if a word or a sign does not fit,
-          also by what is there and what could be there. Output and status stay the same. For
-          example, for `behaviour a stop` it writes
-            behaviour a stop
-                        ^
-            `stop` is a reserved word
-            could be here, among others: `;` `[` `[]` `|[` `||` `|||` `[>` `>>` `where` `endspec`
-            Put what is missing before it, or remove it.
-
-      --warn
-          Warns of what is allowed and may be a mistake
-         \x20
-          If the specification is accepted, standard error has a line with the position of each
-            process that no call names, or that is not reached from the specification's behaviour,
-            process or specification that is declared `exit` and can never terminate,
-            specification whose behaviour is not `stop`, and can do nothing at all,
-            gate of the specification or of a process that its behaviour does not use,
-            gate in `|[..]|` that the left side or the right side never offers.
-          Output and status stay the same. For example, it warns of the gate `b` of
-            specification S [a,b] : noexit behaviour a; stop endspec
-
-  -h, --help
-          Print help (see a summary with '-h')
-
-Statuses:
-  0  the specification is accepted
-  2  the command or the specification is refused, or cannot be read
-  5  out of memory, or an argument is not Unicode
-  6  the output cannot be written
-";
-
-/// Words that ask for help or for the version, and the text.
-pub(crate) type Row = (&'static [&'static str], &'static str);
-
-const LONG: &[Row] = &[
-    (&["lotosseq", "--help"], PROGRAM),
-    (&["lotosseq", "check", "--help"], CHECK),
-];
-
-/// Runs the words of each row, and expects the row's text.
-pub(crate) fn expect_texts(rt: &impl Abort, alloc: Global, rows: &[Row]) {
-    for (words, text) in rows {
-        expect_text(rt, alloc, *words, *text);
-    }
-}
-
-#[test]
-fn the_program_and_check(rt: HostRuntime) {
-    expect_texts(&rt, rt.alloc(), LONG);
-}
-
-#[test]
-fn search(rt: HostRuntime) {
-    expect_text(&rt, rt.alloc(), &["lotosseq", "search", "--help"], SEARCH);
-}
-
-#[test]
-fn ever(rt: HostRuntime) {
-    expect_text(&rt, rt.alloc(), &["lotosseq", "ever", "--help"], EVER);
-}
-
-#[test]
-fn after(rt: HostRuntime) {
-    expect_text(&rt, rt.alloc(), &["lotosseq", "after", "--help"], AFTER);
-}
-
-#[test]
-fn cover(rt: HostRuntime) {
-    expect_text(&rt, rt.alloc(), &["lotosseq", "cover", "--help"], COVER);
-}

@@ -1,7 +1,8 @@
-use Rattle.std.proofs.Common.{ap, sym, subst, true, Err, ◌∙◌, ◌≡◌, []}
+use Rattle.std.proofs.Common.{ap, sym, subst, true, Err, ◌∙◌, ◌≡◌, List, []}
+use Rattle.clap.specs.declared.parser.matches.ArgMatches.{ArgMatches}
 use Rattle.std.specs.Prelude.{IfErr}
 use Rattle.std.proofs.lemmas.Result.{err_from_is_err_and}
-use Rattle.clap.specs.Words.{App, HasKind, fault_of, is_simple, is_simple_and_free, kind_of, subcommand_of, subcommand_rows_of, takes}
+use Rattle.clap.specs.Words.{App, HasKind, HasMatchesOf, Text, fault_of, is_simple, is_simple_and_free, kind_of, subcommand_of, subcommand_rows_of, takes}
 use Rattle.lotos_command.specs.CommandRules.{lotosseq}
 use Rattle.lotos_command.specs.CommandFaults.{AreAccepted, IsFaultOf, IsFaultOfEntries}
 use Rattle.lotos_command.specs.EntryRules.{FitsRequest}
@@ -13,15 +14,19 @@ use Rattle.lotos_command.proofs.FaultKinds.{entries_known, entries_memory, fault
 use Rattle.lotos_command.proofs.RequestFits.{request_fits}
 use Rattle.lotos_command.proofs.request_reading.request.Goals as goal
 
+-- matches without a fault are those of words without one, and have the subcommand that the words name
+matched : (app : App) (words : List Text) (found : ArgMatches) → app ≡ lotosseq → (is_simple_and_free app ≡ true → fault_of app words ≡ [])
+    → HasMatchesOf app words found → (fault_of lotosseq words ≡ []) × (subcommand_rows_of found ≡ subcommand_of lotosseq words)
+matched app words found is none matches = (
+  subst (λ (a : App). fault_of a words ≡ []) is (none (ap is_simple_and_free is ∙ simple_and_free)),
+  (matches (ap is_simple is ∙ simple)).1 ∙ ap (λ (a : App). subcommand_of a words) is,
+)
+
 pub read_request-requires : goal.read_request-requires
 read_request-requires c =
-    let app = c.in_ok-lotosseq_command.ensures in
     let words = texts_of c.args.words.now in
-    let none : fault_of lotosseq words ≡ [] =
-    subst (λ (a : App). fault_of a words ≡ []) app (c.in-Ok.ensures.kinds (ap is_simple_and_free app ∙ simple_and_free)) in
-    let given : subcommand_rows_of c.in-Ok.found ≡ subcommand_of lotosseq words =
-    (c.in-Ok.ensures.matches (ap is_simple app ∙ simple)).1 ∙ ap (λ (a : App). subcommand_of a words) app in
-    subst FitsRequest (sym given) (request_fits words none)
+    let m = matched _ words c.in-Ok.found c.in_ok-lotosseq_command.ensures c.in-Ok.ensures.kinds c.in-Ok.ensures.matches in
+    subst FitsRequest (sym m.1) (request_fits words m.0)
 
 pub returns-in-Err-clause-fault : goal.returns-in-Err-clause-fault
 returns-in-Err-clause-fault c =
@@ -39,34 +44,24 @@ returns-in-Err-clause-taken c = λ taken.
 
 pub returns-in_ok-read_request-in-Ok-clause-is : goal.returns-in_ok-read_request-in-Ok-clause-is
 returns-in_ok-read_request-in-Ok-clause-is c =
-    let app = c.in_ok-lotosseq_command.ensures in
     let words = texts_of c.args.words.now in
-    let none : fault_of lotosseq words ≡ [] =
-    subst (λ (a : App). fault_of a words ≡ []) app (c.in-Ok.ensures.kinds (ap is_simple_and_free app ∙ simple_and_free)) in
-    let given : subcommand_rows_of c.in-Ok.found ≡ subcommand_of lotosseq words =
-    (c.in-Ok.ensures.matches (ap is_simple app ∙ simple)).1 ∙ ap (λ (a : App). subcommand_of a words) app in
-    record { faultless = none; reads = ap request_from (sym given) ∙ c.in_ok-read_request-in-Ok.ensures.is }
+    let m = matched _ words c.in-Ok.found c.in_ok-lotosseq_command.ensures c.in-Ok.ensures.kinds c.in-Ok.ensures.matches in
+    record { faultless = m.0; reads = ap request_from (sym m.1) ∙ c.in_ok-read_request-in-Ok.ensures.is }
 
 pub returns-in_err-read_request-in-Ok-clause-fault : goal.returns-in_err-read_request-in-Ok-clause-fault
 returns-in_err-read_request-in-Ok-clause-fault c =
-    let app = c.in_ok-lotosseq_command.ensures in
     let words = texts_of c.args.words.now in
-    let none : fault_of lotosseq words ≡ [] =
-    subst (λ (a : App). fault_of a words ≡ []) app (c.in-Ok.ensures.kinds (ap is_simple_and_free app ∙ simple_and_free)) in
-    let given : subcommand_rows_of c.in-Ok.found ≡ subcommand_of lotosseq words =
-    (c.in-Ok.ensures.matches (ap is_simple app ∙ simple)).1 ∙ ap (λ (a : App). subcommand_of a words) app in
+    let m = matched _ words c.in-Ok.found c.in_ok-lotosseq_command.ensures c.in-Ok.ensures.kinds c.in-Ok.ensures.matches in
     let f = c.in_err-read_request-in-Ok.field-0.0 in
     let p = err_from_is_err_and c.from_residual-in_err-read_request-in-Ok.result c.from_residual-in_err-read_request-in-Ok.ensures.1 in
     subst (λ r. IfErr r (IsFaultOf words)) (sym (p.1 ∙ ap (λ v. Err v) p.2))
-    (entries_known words f none (subst (λ g. IsFaultOfEntries (request_from g) f) given c.in_err-read_request-in-Ok.ensures.fault))
+    (entries_known words f m.0 (subst (λ g. IsFaultOfEntries (request_from g) f) m.1 c.in_err-read_request-in-Ok.ensures.fault))
 
 pub returns-in_err-read_request-in-Ok-clause-taken : goal.returns-in_err-read_request-in-Ok-clause-taken
 returns-in_err-read_request-in-Ok-clause-taken c =
-    let app = c.in_ok-lotosseq_command.ensures in
     let words = texts_of c.args.words.now in
-    let given : subcommand_rows_of c.in-Ok.found ≡ subcommand_of lotosseq words =
-    (c.in-Ok.ensures.matches (ap is_simple app ∙ simple)).1 ∙ ap (λ (a : App). subcommand_of a words) app in
+    let m = matched _ words c.in-Ok.found c.in_ok-lotosseq_command.ensures c.in-Ok.ensures.kinds c.in-Ok.ensures.matches in
     let f = c.in_err-read_request-in-Ok.field-0.0 in
     let p = err_from_is_err_and c.from_residual-in_err-read_request-in-Ok.result c.from_residual-in_err-read_request-in-Ok.ensures.1 in
     subst (λ r. IfErr r (λ e. AreAccepted words → e ≡ Memory)) (sym (p.1 ∙ ap (λ v. Err v) p.2))
-    (λ taken. entries_memory words f taken.1.0 taken.1.1 (subst (λ g. IsFaultOfEntries (request_from g) f) given c.in_err-read_request-in-Ok.ensures.fault))
+    (λ taken. entries_memory words f taken.1.0 taken.1.1 (subst (λ g. IsFaultOfEntries (request_from g) f) m.1 c.in_err-read_request-in-Ok.ensures.fault))

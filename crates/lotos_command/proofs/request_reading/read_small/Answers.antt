@@ -1,14 +1,14 @@
-use Rattle.std.proofs.Common.{arith, codes}
+use Rattle.std.proofs.Common.{arith}
 use Rattle.std.specs.Str.Parse.{ParsesUnsigned, ExplainsUnsignedError, HasUnsignedDigitsIfOk}
 use Rattle.clap.specs.Words.{found_of, one_text, one_of, rows_of}
 use Rattle.clap.proofs.WalkLemmas.{one_text-rows}
 use Rattle.lotos_command.proofs.EntryReading.{entry_reads}
-use Rattle.lotos_command.proofs.request_reading.read_length.Goals as goal
+use Rattle.lotos_command.proofs.request_reading.read_small.Goals as goal
 
 pub returns : goal.returns
 returns c =
     let f = found_of c.args.found.now in
-    let entry = one_of (codes "length") (rows_of f) in
+    let name = c.args.name.now in
     entry_reads _ (λ bs r. ParsesUnsigned 8 10 bs r × ExplainsUnsignedError 10 bs r × HasUnsignedDigitsIfOk bs r) 8 0 255
-    (λ t r read. read.0) (omega arith) (one_text f (codes "length")) entry c.get_one.result (one_text-rows f (codes "length"))
-    c.get_one.ensures.value c.get_one.ensures.none c.requires
+    (λ t r read. read.0) (omega arith) (one_text f name) (one_of name (rows_of f)) c.get_one.result
+    (one_text-rows f name) c.get_one.ensures.value c.get_one.ensures.none c.requires
