@@ -4,7 +4,8 @@ ghost use Rattle.std.specs.Prelude.{IfOk};
 ghost use Rattle.lotos_command.specs.Request.{HasBounds, HasCoverBounds, HasSearchBounds};
 
 use super::memory_devices::{ArrayWriter, SliceReader};
-use super::worked_texts::VANISHING;
+use super::rows::words_of;
+use super::worked_texts::{ONE_GATE, VANISHING};
 use lotos_check::AcceptedText;
 use lotos_device::{FromRead, FromWrite};
 use lotos_tool::{
@@ -14,10 +15,6 @@ use lotos_tool::{
 use std::alloc::{AllocError, Global};
 use std::fmt::Debug;
 use std::process::Abort;
-
-/// Each of its steps is `A`, and it never ends.
-const ONE_GATE: &[u8] =
-    b"specification S [a] : noexit behaviour P[a] where process P [x] : noexit := x; P[x] endproc endspec";
 
 /// What an observer is told.
 #[derive(Clone, Copy, Debug, PartialEq)]
@@ -82,140 +79,50 @@ struct Called<'a> {
 
 /// A call of a command: its words without and with the option for progress, a text, what comes of it, and what an
 /// observer is told.
-struct Row {
-    words: &'static [&'static str],
-    reporting: &'static [&'static str],
+struct Call {
+    words: &'static str,
+    reporting: &'static str,
     text: &'static [u8],
     called: Called<'static>,
     told: Told,
 }
 
 /// Searches. Of each length there is one sequence, and up to a length of 2 there are three prefixes with a label.
-const SEARCHES: &[Row] = &[
-    Row {
-        words: &["lotosseq", "search", "--depth=2", "<while> A"],
-        reporting: &["lotosseq", "search", "--depth=2", "--progress", "<while> A"],
-        text: ONE_GATE,
-        called: Called {
-            result: "Complete { lines: 3 }",
-            output: b"<empty>\nA\nA A\n",
-            flushes: 1,
-        },
-        told: Told {
-            visits: 3,
-            lines: 3,
-            ..ACCEPTED
-        },
-    },
-    Row {
-        words: &["lotosseq", "search", "--depth=2", "--limit=2", "<while> A"],
-        reporting: &[
-            "lotosseq",
-            "search",
-            "--depth=2",
-            "--limit=2",
-            "--progress",
-            "<while> A",
-        ],
-        text: ONE_GATE,
-        called: Called {
-            result: "Stopped { last: Some(\"A\"), why: Limit }",
-            output: b"<empty>\nA\n",
-            flushes: 1,
-        },
-        told: Told {
-            visits: 1,
-            lines: 2,
-            ..ACCEPTED
-        },
-    },
+#[rattlefmt::skip]
+const SEARCHES: &[Call] = &[
+    Call { words: "search --depth=2 '<while> A'", reporting: "search --depth=2 --progress '<while> A'", text: ONE_GATE,
+        called: Called { result: "Complete { lines: 3 }", output: b"<empty>\nA\nA A\n", flushes: 1 },
+        told: Told { visits: 3, lines: 3, ..ACCEPTED } },
+    Call { words: "search --depth=2 --limit=2 '<while> A'",
+        reporting: "search --depth=2 --limit=2 --progress '<while> A'", text: ONE_GATE,
+        called: Called { result: "Stopped { last: Some(\"A\"), why: Limit }", output: b"<empty>\nA\n", flushes: 1 },
+        told: Told { visits: 1, lines: 2, ..ACCEPTED } },
 ];
 
 /// Matches of any length. The term is always the same, and the states are places in the pattern.
-const MATCHES: &[Row] = &[
-    Row {
-        words: &["lotosseq", "ever", "A A"],
-        reporting: &["lotosseq", "ever", "--progress", "A A"],
-        text: ONE_GATE,
-        called: Called {
-            result: "Matched",
-            output: b"A A\n",
-            flushes: 1,
-        },
-        told: Told {
-            visits: 3,
-            lines: 1,
-            ..ACCEPTED
-        },
-    },
-    Row {
-        words: &["lotosseq", "ever", "A exit"],
-        reporting: &["lotosseq", "ever", "--progress", "A exit"],
-        text: ONE_GATE,
-        called: Called {
-            result: "NoMatch",
-            output: b"",
-            flushes: 1,
-        },
-        told: Told {
-            visits: 2,
-            searched: Some(Searched {
-                states: 2,
-                elements: 1,
-                is_stuck: false,
-            }),
-            ..ACCEPTED
-        },
-    },
+#[rattlefmt::skip]
+const MATCHES: &[Call] = &[
+    Call { words: "ever 'A A'", reporting: "ever --progress 'A A'", text: ONE_GATE,
+        called: Called { result: "Matched", output: b"A A\n", flushes: 1 },
+        told: Told { visits: 3, lines: 1, ..ACCEPTED } },
+    Call { words: "ever 'A exit'", reporting: "ever --progress 'A exit'", text: ONE_GATE,
+        called: Called { result: "NoMatch", output: b"", flushes: 1 },
+        told: Told { visits: 2, searched: Some(Searched { states: 2, elements: 1, is_stuck: false }), ..ACCEPTED } },
 ];
 
 /// What can come after a sequence, and a cover: after `A` it may be silent and then take `A`, and it may take `B`, after
 /// which nothing is observed. The sets after `A` and after `A B` are new.
-const NEXT: &[Row] = &[
-    Row {
-        words: &["lotosseq", "after", "A A"],
-        reporting: &["lotosseq", "after", "--progress", "A A"],
-        text: VANISHING,
-        called: Called {
-            result: "Followed",
-            output: b"A\nB\n",
-            flushes: 1,
-        },
-        told: Told {
-            visits: 2,
-            lines: 1,
-            ..ACCEPTED
-        },
-    },
-    Row {
-        words: &["lotosseq", "after", "A exit"],
-        reporting: &["lotosseq", "after", "--progress", "A exit"],
-        text: VANISHING,
-        called: Called {
-            result: "CannotCome { number: 2, instead: Some(\"A B\") }",
-            output: b"",
-            flushes: 0,
-        },
-        told: Told {
-            visits: 1,
-            ..ACCEPTED
-        },
-    },
-    Row {
-        words: &["lotosseq", "cover"],
-        reporting: &["lotosseq", "cover", "--progress"],
-        text: VANISHING,
-        called: Called {
-            result: "Complete { lines: 2 }",
-            output: b"A A\nA B\n",
-            flushes: 1,
-        },
-        told: Told {
-            visits: 2,
-            lines: 2,
-            ..ACCEPTED
-        },
-    },
+#[rattlefmt::skip]
+const NEXT: &[Call] = &[
+    Call { words: "after 'A A'", reporting: "after --progress 'A A'", text: VANISHING,
+        called: Called { result: "Followed", output: b"A\nB\n", flushes: 1 },
+        told: Told { visits: 2, lines: 1, ..ACCEPTED } },
+    Call { words: "after 'A exit'", reporting: "after --progress 'A exit'", text: VANISHING,
+        called: Called { result: "CannotCome { number: 2, instead: Some(\"A B\") }", output: b"", flushes: 0 },
+        told: Told { visits: 1, ..ACCEPTED } },
+    Call { words: "cover", reporting: "cover --progress", text: VANISHING,
+        called: Called { result: "Complete { lines: 2 }", output: b"A A\nA B\n", flushes: 1 },
+        told: Told { visits: 2, lines: 2, ..ACCEPTED } },
 ];
 
 /// Expects that a call has come to this.
@@ -240,76 +147,76 @@ fn expect_called<T: Debug>(
 fn expect_list<P: OutputProgress>(
     rt: &impl Abort,
     alloc: Global,
-    row: &Row,
+    call: &Call,
     asked: &SearchRequest,
     progress: &mut P,
 ) -> Result<(), AllocError>
     requires { HasSearchBounds asked.now }
 {
-    let mut reader = FromRead::new(SliceReader::new(row.text, 4096));
+    let mut reader = FromRead::new(SliceReader::new(call.text, 4096));
     let mut out = FromWrite::new(ArrayWriter::new(4096));
     let ended = list(alloc, asked, &mut reader, &mut out, progress);
-    expect_called(rt, alloc, &ended, out, row.called)
+    expect_called(rt, alloc, &ended, out, call.called)
 }
 
 fn expect_ever<P: OutputProgress>(
     rt: &impl Abort,
     alloc: Global,
-    row: &Row,
+    call: &Call,
     asked: &EverRequest,
     progress: &mut P,
 ) -> Result<(), AllocError> {
-    let mut reader = FromRead::new(SliceReader::new(row.text, 4096));
+    let mut reader = FromRead::new(SliceReader::new(call.text, 4096));
     let mut out = FromWrite::new(ArrayWriter::new(4096));
     let ended = ever(alloc, asked, &mut reader, &mut out, progress);
-    expect_called(rt, alloc, &ended, out, row.called)
+    expect_called(rt, alloc, &ended, out, call.called)
 }
 
 fn expect_after<P: OutputProgress>(
     rt: &impl Abort,
     alloc: Global,
-    row: &Row,
+    call: &Call,
     asked: &AfterRequest,
     progress: &mut P,
 ) -> Result<(), AllocError> {
-    let mut reader = FromRead::new(SliceReader::new(row.text, 4096));
+    let mut reader = FromRead::new(SliceReader::new(call.text, 4096));
     let mut out = FromWrite::new(ArrayWriter::new(4096));
     let ended = after(alloc, asked, &mut reader, &mut out, progress);
-    expect_called(rt, alloc, &ended, out, row.called)
+    expect_called(rt, alloc, &ended, out, call.called)
 }
 
 fn expect_cover<P: OutputProgress>(
     rt: &impl Abort,
     alloc: Global,
-    row: &Row,
+    call: &Call,
     asked: &CoverRequest,
     progress: &mut P,
 ) -> Result<(), AllocError>
     requires { HasCoverBounds asked.now }
 {
-    let mut reader = FromRead::new(SliceReader::new(row.text, 4096));
+    let mut reader = FromRead::new(SliceReader::new(call.text, 4096));
     let mut out = FromWrite::new(ArrayWriter::new(4096));
     let ended = cover(alloc, asked, &mut reader, &mut out, progress);
-    expect_called(rt, alloc, &ended, out, row.called)
+    expect_called(rt, alloc, &ended, out, call.called)
 }
 
 /// Calls the function of the command that is asked for, which has an observer, and expects what comes of it.
 fn expect_call<P: OutputProgress>(
     rt: &impl Abort,
     alloc: Global,
-    row: &Row,
+    call: &Call,
     asked: &Result<Request, CommandFault>,
     progress: &mut P,
 ) -> Result<(), AllocError>
     requires { IfOk asked.now HasBounds }
 {
     match asked {
-        Ok(Request::Search(asked)) => expect_list(rt, alloc, row, asked, progress),
-        Ok(Request::Ever(asked)) => expect_ever(rt, alloc, row, asked, progress),
-        Ok(Request::After(asked)) => expect_after(rt, alloc, row, asked, progress),
-        Ok(Request::Cover(asked)) => expect_cover(rt, alloc, row, asked, progress),
+        Ok(Request::Search(asked)) => expect_list(rt, alloc, call, asked, progress),
+        Ok(Request::Ever(asked)) => expect_ever(rt, alloc, call, asked, progress),
+        Ok(Request::After(asked)) => expect_after(rt, alloc, call, asked, progress),
+        Ok(Request::Cover(asked)) => expect_cover(rt, alloc, call, asked, progress),
         _ => {
-            assert!(rt; false, "no command with an observer: {:?}", row.words);
+            assert!(rt; false, "no command with an observer: {}", call.words);
             Ok(())
         }
     }
@@ -319,40 +226,51 @@ fn expect_call<P: OutputProgress>(
 fn expect_calls(
     rt: &impl Abort,
     alloc: Global,
-    row: &Row,
+    call: &Call,
     asked: &Result<Request, CommandFault>,
 ) -> Result<(), AllocError>
     requires { IfOk asked.now HasBounds }
 {
-    expect_call(rt, alloc, row, asked, &mut NoProgress)?;
+    expect_call(rt, alloc, call, asked, &mut NoProgress)?;
     let mut told = NOTHING;
-    expect_call(rt, alloc, row, asked, &mut told)?;
-    assert_eq!(rt; told, row.told, "{:?}", row.words);
+    expect_call(rt, alloc, call, asked, &mut told)?;
+    assert_eq!(rt; told, call.told, "{}", call.words);
     Ok(())
 }
 
-/// Expects what comes of the words of each row, without and with the option.
-fn expect_rows(rt: &impl Abort, alloc: Global, rows: &[Row]) -> Result<(), AllocError> {
-    for row in rows {
-        expect_calls(rt, alloc, row, &request(alloc, row.words))?;
-        expect_calls(rt, alloc, row, &request(alloc, row.reporting))?;
+/// Expects what comes of these words.
+fn expect_words(
+    rt: &impl Abort,
+    alloc: Global,
+    call: &Call,
+    words: &str,
+) -> Result<(), AllocError> {
+    let words = words_of(alloc, words)?;
+    expect_calls(rt, alloc, call, &request(alloc, words.as_slice()))
+}
+
+/// Expects what comes of the words of each call, without and with the option.
+fn expect_each(rt: &impl Abort, alloc: Global, calls: &[Call]) -> Result<(), AllocError> {
+    for call in calls {
+        expect_words(rt, alloc, call, call.words)?;
+        expect_words(rt, alloc, call, call.reporting)?;
     }
     Ok(())
 }
 
 #[test]
 fn searches(rt: HostRuntime) -> Result<(), AllocError> {
-    expect_rows(&rt, rt.alloc(), SEARCHES)
+    expect_each(&rt, rt.alloc(), SEARCHES)
 }
 
 #[test]
 fn matches_of_any_length(rt: HostRuntime) -> Result<(), AllocError> {
-    expect_rows(&rt, rt.alloc(), MATCHES)
+    expect_each(&rt, rt.alloc(), MATCHES)
 }
 
 #[test]
 fn what_comes_next_and_covers(rt: HostRuntime) -> Result<(), AllocError> {
-    expect_rows(&rt, rt.alloc(), NEXT)
+    expect_each(&rt, rt.alloc(), NEXT)
 }
 
 /// A check has no observer.

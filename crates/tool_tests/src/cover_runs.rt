@@ -1,462 +1,173 @@
 //! Complete runs of `cover`: the output, the message, and the status.
 
+use super::rows::{REFUSED, ROW, Row, expect_rows_in_pieces};
 use super::runs::{
-    Outcome, RUN, Run, SINGLE, Taken, WHOLE, expect, expect_broken, expect_refused_words,
-    expect_unreadable,
+    RUN, Run, SINGLE, Taken, WHOLE, expect_broken, expect_refused_words, expect_unreadable,
 };
-use super::worked_texts::{GROWING, LINK, MEETING, SERVER, VANISHING};
+use super::worked_texts::{
+    BRANCHES, DELAYED, DELAYED_OR_B, GROWING, LINK, MEETING, ONE_GATE, SERVER, SHORT_OR_LONGER,
+    SILENT, UNDECLARED, VANISHING,
+};
 use std::alloc::Global;
 use std::process::Abort;
 
-/// A cover of a text.
-struct Row {
-    name: &'static str,
-    text: &'static [u8],
-    words: &'static [&'static str],
-    output: &'static [u8],
-    message: &'static [u8],
-    status: u8,
-}
-
 const COVER: &[&str] = &["lotosseq", "cover"];
 
+#[rattlefmt::skip]
 const LINES: &[Row] = &[
-    Row {
-        name: "hidden steps that come back, and some without end",
-        text: VANISHING,
-        words: COVER,
-        output: b"A A\nA B\n",
-        message: b"",
-        status: 0,
-    },
-    Row {
-        name: "a label after an internal step and one without",
-        text: SERVER,
-        words: COVER,
-        output: b"REQ NAK\nREQ RSP\n",
-        message: b"",
-        status: 0,
-    },
-    Row {
-        name: "messages that are delivered again and again",
-        text: LINK,
-        words: COVER,
-        output: b"PUT GET PUT\nPUT GET GET PUT\nPUT GET GET GET GET\nPUT GET GET GET PUT\n",
-        message: b"",
-        status: 0,
-    },
-    Row {
-        name: "termination that enables, and termination",
-        text: MEETING,
-        words: COVER,
-        output: b"A B C exit\n",
-        message: b"",
-        status: 0,
-    },
-    Row {
-        name: "a label that leads to two terms, one of which goes on",
-        text: b"specification S [a,b] : noexit behaviour a; stop [] b; stop [] b; a; stop endspec",
-        words: COVER,
-        output: b"A\nB A\n",
-        message: b"",
-        status: 0,
-    },
-    Row {
-        name: "two labels that lead to the same",
+    Row { name: "hidden steps that come back, and some without end", text: VANISHING,
+        words: "cover", output: b"A A\nA B\n", ..ROW },
+    Row { name: "a label after an internal step and one without", text: SERVER,
+        words: "cover", output: b"REQ NAK\nREQ RSP\n", ..ROW },
+    Row { name: "messages that are delivered again and again", text: LINK,
+        words: "cover", output: b"PUT GET PUT\nPUT GET GET PUT\nPUT GET GET GET GET\nPUT GET GET GET PUT\n", ..ROW },
+    Row { name: "termination that enables, and termination", text: MEETING,
+        words: "cover", output: b"A B C exit\n", ..ROW },
+    Row { name: "a label that leads to two terms, one of which goes on", text: BRANCHES,
+        words: "cover", output: b"A\nB A\n", ..ROW },
+    Row { name: "two labels that lead to the same",
         text: b"specification S [a,b] : noexit behaviour a; stop [] b; stop endspec",
-        words: COVER,
-        output: b"A\nB\n",
-        message: b"",
-        status: 0,
-    },
-    Row {
-        name: "one label again and again",
-        text: b"specification S [a] : noexit behaviour P[a] where process P [x] : noexit := x; P[x] endproc endspec",
-        words: COVER,
-        output: b"A\n",
-        message: b"",
-        status: 0,
-    },
-    Row {
-        name: "termination at once",
-        text: b"specification S : exit behaviour exit endspec",
-        words: COVER,
-        output: b"exit\n",
-        message: b"",
-        status: 0,
-    },
+        words: "cover", output: b"A\nB\n", ..ROW },
+    Row { name: "one label again and again", text: ONE_GATE, words: "cover", output: b"A\n", ..ROW },
+    Row { name: "termination at once", text: b"specification S : exit behaviour exit endspec",
+        words: "cover", output: b"exit\n", ..ROW },
 ];
 
 /// Specifications of which nothing can be observed, and marks after all lines.
+#[rattlefmt::skip]
 const NO_LINE: &[Row] = &[
-    Row {
-        name: "a deadlock at once",
-        text: b"specification S : noexit behaviour stop endspec",
-        words: COVER,
-        output: b"",
-        message: b"",
-        status: 1,
-    },
-    Row {
-        name: "silent from the start",
-        text: b"specification S [a] : noexit behaviour hide h in P [h] where process P [h] : noexit := h; P [h] endproc endspec",
-        words: COVER,
-        output: b"",
-        message: b"",
-        status: 1,
-    },
-    Row {
-        name: "no line reaches the limit",
-        text: b"specification S [a] : noexit behaviour stop endspec",
-        words: &["lotosseq", "cover", "--limit", "1", "--states", "1"],
-        output: b"",
-        message: b"",
-        status: 1,
-    },
-    Row {
-        name: "after the last line",
-        text: SERVER,
-        words: &["lotosseq", "cover", "--after", "REQ RSP"],
-        output: b"",
-        message: b"",
-        status: 1,
-    },
-    Row {
-        name: "after a line that is greater than all",
-        text: SERVER,
-        words: &["lotosseq", "cover", "--after", "A A A"],
-        output: b"",
-        message: b"",
-        status: 1,
-    },
+    Row { name: "a deadlock at once", text: b"specification S : noexit behaviour stop endspec",
+        words: "cover", status: 1, ..ROW },
+    Row { name: "silent from the start", text: SILENT, words: "cover", status: 1, ..ROW },
+    Row { name: "no line reaches the limit", text: b"specification S [a] : noexit behaviour stop endspec",
+        words: "cover --limit 1 --states 1", status: 1, ..ROW },
+    Row { name: "after the last line", text: SERVER, words: "cover --after 'REQ RSP'", status: 1, ..ROW },
+    Row { name: "after a line that is greater than all", text: SERVER,
+        words: "cover --after 'A A A'", status: 1, ..ROW },
 ];
 
 /// Internal steps as labels.
+#[rattlefmt::skip]
 const STRONG: &[Row] = &[
-    Row {
-        name: "an internal step at the start",
-        text: b"specification S [a,b] : noexit behaviour i; a; stop [] b; stop endspec",
-        words: &["lotosseq", "cover", "--strong"],
-        output: b"B\ni A\n",
-        message: b"",
-        status: 0,
-    },
-    Row {
-        name: "the same without internal steps",
-        text: b"specification S [a,b] : noexit behaviour i; a; stop [] b; stop endspec",
-        words: COVER,
-        output: b"A\nB\n",
-        message: b"",
-        status: 0,
-    },
-    Row {
-        name: "an internal step between labels",
-        text: SERVER,
-        words: &["lotosseq", "cover", "--strong"],
-        output: b"REQ RSP\nREQ i NAK\n",
-        message: b"",
-        status: 0,
-    },
-    Row {
-        name: "hidden steps",
-        text: VANISHING,
-        words: &["lotosseq", "cover", "--strong"],
-        output: b"A i\nA B i\n",
-        message: b"",
-        status: 0,
-    },
-    Row {
-        name: "hidden steps alone",
-        text: b"specification S [a] : noexit behaviour hide h in P [h] where process P [h] : noexit := h; P [h] endproc endspec",
-        words: &["lotosseq", "cover", "--strong"],
-        output: b"i\n",
-        message: b"",
-        status: 0,
-    },
-    Row {
-        name: "after a line with an internal step",
-        text: VANISHING,
-        words: &["lotosseq", "cover", "--strong", "--after", "A i"],
-        output: b"A B i\n",
-        message: b"",
-        status: 0,
-    },
+    Row { name: "an internal step at the start", text: DELAYED_OR_B,
+        words: "cover --strong", output: b"B\ni A\n", ..ROW },
+    Row { name: "the same without internal steps", text: DELAYED_OR_B, words: "cover", output: b"A\nB\n", ..ROW },
+    Row { name: "an internal step between labels", text: SERVER,
+        words: "cover --strong", output: b"REQ RSP\nREQ i NAK\n", ..ROW },
+    Row { name: "hidden steps", text: VANISHING, words: "cover --strong", output: b"A i\nA B i\n", ..ROW },
+    Row { name: "hidden steps alone", text: SILENT, words: "cover --strong", output: b"i\n", ..ROW },
+    Row { name: "after a line with an internal step", text: VANISHING,
+        words: "cover --strong --after 'A i'", output: b"A B i\n", ..ROW },
 ];
 
 /// Limits on the lines, and marks.
+#[rattlefmt::skip]
 const LIMITS_AND_MARKS: &[Row] = &[
-    Row {
-        name: "a limit of two lines",
-        text: LINK,
-        words: &["lotosseq", "cover", "--limit", "2"],
-        output: b"PUT GET PUT\nPUT GET GET PUT\n",
-        message: b"lotosseq: stopped after PUT GET GET PUT: limit reached\n",
-        status: 3,
-    },
-    Row {
-        name: "a limit of exactly the lines",
-        text: SERVER,
-        words: &["lotosseq", "cover", "--limit=2"],
-        output: b"REQ NAK\nREQ RSP\n",
-        message: b"lotosseq: stopped after REQ RSP: limit reached\n",
-        status: 3,
-    },
-    Row {
-        name: "a limit of one line more",
-        text: SERVER,
-        words: &["lotosseq", "cover", "--limit=3"],
-        output: b"REQ NAK\nREQ RSP\n",
-        message: b"",
-        status: 0,
-    },
-    Row {
-        name: "after a line",
-        text: LINK,
-        words: &["lotosseq", "cover", "--after", "PUT GET GET PUT"],
-        output: b"PUT GET GET GET GET\nPUT GET GET GET PUT\n",
-        message: b"",
-        status: 0,
-    },
-    Row {
-        name: "after a line in lower case with a run, which is not looked at",
-        text: LINK,
-        words: &["lotosseq", "cover", "--after", "put get get put : i i"],
-        output: b"PUT GET GET GET GET\nPUT GET GET GET PUT\n",
-        message: b"",
-        status: 0,
-    },
-    Row {
-        name: "a limit after a line",
-        text: LINK,
-        words: &[
-            "lotosseq",
-            "cover",
-            "--after",
-            "PUT GET PUT",
-            "--limit",
-            "1",
-        ],
-        output: b"PUT GET GET PUT\n",
-        message: b"lotosseq: stopped after PUT GET GET PUT: limit reached\n",
-        status: 3,
-    },
-    Row {
-        name: "after a sequence that is no line",
-        text: LINK,
-        words: &["lotosseq", "cover", "--after", "PUT GET GET GET"],
-        output: b"PUT GET GET PUT\nPUT GET GET GET GET\nPUT GET GET GET PUT\n",
-        message: b"",
-        status: 0,
-    },
-    Row {
-        name: "after the empty sequence",
-        text: SERVER,
-        words: &["lotosseq", "cover", "--after", "<empty>"],
-        output: b"REQ NAK\nREQ RSP\n",
-        message: b"",
-        status: 0,
-    },
+    Row { name: "a limit of two lines", text: LINK, words: "cover --limit 2", output: b"PUT GET PUT\nPUT GET GET PUT\n",
+        message: b"lotosseq: stopped after PUT GET GET PUT: limit reached\n", status: 3, ..ROW },
+    Row { name: "a limit of exactly the lines", text: SERVER, words: "cover --limit=2", output: b"REQ NAK\nREQ RSP\n",
+        message: b"lotosseq: stopped after REQ RSP: limit reached\n", status: 3, ..ROW },
+    Row { name: "a limit of one line more", text: SERVER,
+        words: "cover --limit=3", output: b"REQ NAK\nREQ RSP\n", ..ROW },
+    Row { name: "after a line", text: LINK,
+        words: "cover --after 'PUT GET GET PUT'", output: b"PUT GET GET GET GET\nPUT GET GET GET PUT\n", ..ROW },
+    Row { name: "after a line in lower case with a run, which is not looked at", text: LINK,
+        words: "cover --after 'put get get put : i i'", output: b"PUT GET GET GET GET\nPUT GET GET GET PUT\n", ..ROW },
+    Row { name: "a limit after a line", text: LINK,
+        words: "cover --after 'PUT GET PUT' --limit 1", output: b"PUT GET GET PUT\n",
+        message: b"lotosseq: stopped after PUT GET GET PUT: limit reached\n", status: 3, ..ROW },
+    Row { name: "after a sequence that is no line", text: LINK, words: "cover --after 'PUT GET GET GET'",
+        output: b"PUT GET GET PUT\nPUT GET GET GET GET\nPUT GET GET GET PUT\n", ..ROW },
+    Row { name: "after the empty sequence", text: SERVER,
+        words: "cover --after <empty>", output: b"REQ NAK\nREQ RSP\n", ..ROW },
 ];
 
+/// `b`, or `a` three times, the last after an internal step.
+const ONE_OR_THREE: &[u8] =
+    b"specification S [a,b] : noexit behaviour b; stop [] a; a; i; a; stop endspec";
+
 /// Bounds on the normal forms of a set.
+#[rattlefmt::skip]
 const TERMS: &[Row] = &[
-    Row {
-        name: "two terms at the start, and one is allowed",
-        text: b"specification S [a] : noexit behaviour i; a; stop endspec",
-        words: &["lotosseq", "cover", "--terms", "1"],
-        output: b"",
-        message: b"lotosseq: stopped before the first line: more than 1 terms at <empty>\n",
-        status: 4,
-    },
-    Row {
-        name: "two terms at the start, and two are allowed",
-        text: b"specification S [a] : noexit behaviour i; a; stop endspec",
-        words: &["lotosseq", "cover", "--terms", "2"],
-        output: b"A\n",
-        message: b"",
-        status: 0,
-    },
-    Row {
-        name: "two terms after a label, and one is allowed",
-        text: b"specification S [a,b] : noexit behaviour a; stop [] a; b; stop endspec",
-        words: &["lotosseq", "cover", "--terms", "1"],
-        output: b"",
-        message: b"lotosseq: stopped before the first line: more than 1 terms at A\n",
-        status: 4,
-    },
-    Row {
-        name: "two terms after the first line, and one is allowed",
-        text: b"specification S [a,b] : noexit behaviour b; stop [] a; a; i; a; stop endspec",
-        words: &["lotosseq", "cover", "--terms", "1"],
-        output: b"B\n",
-        message: b"lotosseq: stopped after B: more than 1 terms at A A\n",
-        status: 4,
-    },
-    Row {
-        name: "two terms after the first line, and two are allowed",
-        text: b"specification S [a,b] : noexit behaviour b; stop [] a; a; i; a; stop endspec",
-        words: &["lotosseq", "cover", "--terms", "2", "--states", "5"],
-        output: b"B\nA A A\n",
-        message: b"",
-        status: 0,
-    },
-    Row {
-        name: "internal steps that are labels lead to one term each",
-        text: b"specification S [a,b] : noexit behaviour b; stop [] a; a; i; a; stop endspec",
-        words: &["lotosseq", "cover", "--terms", "1", "--strong"],
-        output: b"B\nA A i A\n",
-        message: b"",
-        status: 0,
-    },
-    Row {
-        name: "a system that grows for ever by internal steps",
-        text: GROWING,
-        words: &["lotosseq", "cover", "--terms=20"],
-        output: b"",
-        message: b"lotosseq: stopped before the first line: more than 20 terms at <empty>\n",
-        status: 4,
-    },
+    Row { name: "two terms at the start, and one is allowed", text: DELAYED, words: "cover --terms 1",
+        message: b"lotosseq: stopped before the first line: more than 1 terms at <empty>\n", status: 4, ..ROW },
+    Row { name: "two terms at the start, and two are allowed", text: DELAYED,
+        words: "cover --terms 2", output: b"A\n", ..ROW },
+    Row { name: "two terms after a label, and one is allowed", text: SHORT_OR_LONGER, words: "cover --terms 1",
+        message: b"lotosseq: stopped before the first line: more than 1 terms at A\n", status: 4, ..ROW },
+    Row { name: "two terms after the first line, and one is allowed", text: ONE_OR_THREE, words: "cover --terms 1",
+        output: b"B\n", message: b"lotosseq: stopped after B: more than 1 terms at A A\n", status: 4, ..ROW },
+    Row { name: "two terms after the first line, and two are allowed", text: ONE_OR_THREE,
+        words: "cover --terms 2 --states 5", output: b"B\nA A A\n", ..ROW },
+    Row { name: "internal steps that are labels lead to one term each", text: ONE_OR_THREE,
+        words: "cover --terms 1 --strong", output: b"B\nA A i A\n", ..ROW },
+    Row { name: "a system that grows for ever by internal steps", text: GROWING, words: "cover --terms=20",
+        message: b"lotosseq: stopped before the first line: more than 20 terms at <empty>\n", status: 4, ..ROW },
 ];
 
 /// Bounds on the sets.
+#[rattlefmt::skip]
 const STATES: &[Row] = &[
-    Row {
-        name: "two sets, and one is allowed",
-        text: SERVER,
-        words: &["lotosseq", "cover", "--states", "1"],
-        output: b"",
+    Row { name: "two sets, and one is allowed", text: SERVER, words: "cover --states 1",
         message: b"lotosseq: stopped before the first line: more than 1 sets; --states N allows more\n",
-        status: 4,
-    },
-    Row {
-        name: "two sets, and two are allowed",
-        text: SERVER,
-        words: &["lotosseq", "cover", "--states", "2"],
-        output: b"REQ NAK\nREQ RSP\n",
-        message: b"",
-        status: 0,
-    },
-    Row {
-        name: "three sets, and two are allowed",
-        text: VANISHING,
-        words: &["lotosseq", "cover", "--states=2"],
-        output: b"A A\n",
-        message: b"lotosseq: stopped after A A: more than 2 sets; --states N allows more\n",
-        status: 4,
-    },
-    Row {
-        name: "three sets, and three are allowed",
-        text: VANISHING,
-        words: &["lotosseq", "cover", "--states=3"],
-        output: b"A A\nA B\n",
-        message: b"",
-        status: 0,
-    },
-    Row {
-        name: "five sets, and four are allowed",
-        text: LINK,
-        words: &["lotosseq", "cover", "--states", "4"],
-        output: b"PUT GET PUT\n",
-        message: b"lotosseq: stopped after PUT GET PUT: more than 4 sets; --states N allows more\n",
-        status: 4,
-    },
-    Row {
-        name: "a set too many after the limit",
-        text: VANISHING,
-        words: &["lotosseq", "cover", "--states", "2", "--limit", "1"],
-        output: b"A A\n",
-        message: b"lotosseq: stopped after A A: limit reached\n",
-        status: 3,
-    },
-    Row {
-        name: "a set too many before the mark",
-        text: VANISHING,
-        words: &["lotosseq", "cover", "--states", "2", "--after", "A A A"],
-        output: b"",
+        status: 4, ..ROW },
+    Row { name: "two sets, and two are allowed", text: SERVER,
+        words: "cover --states 2", output: b"REQ NAK\nREQ RSP\n", ..ROW },
+    Row { name: "three sets, and two are allowed", text: VANISHING, words: "cover --states=2", output: b"A A\n",
+        message: b"lotosseq: stopped after A A: more than 2 sets; --states N allows more\n", status: 4, ..ROW },
+    Row { name: "three sets, and three are allowed", text: VANISHING,
+        words: "cover --states=3", output: b"A A\nA B\n", ..ROW },
+    Row { name: "five sets, and four are allowed", text: LINK, words: "cover --states 4", output: b"PUT GET PUT\n",
+        message: b"lotosseq: stopped after PUT GET PUT: more than 4 sets; --states N allows more\n", status: 4, ..ROW },
+    Row { name: "a set too many after the limit", text: VANISHING, words: "cover --states 2 --limit 1",
+        output: b"A A\n", message: b"lotosseq: stopped after A A: limit reached\n", status: 3, ..ROW },
+    Row { name: "a set too many before the mark", text: VANISHING, words: "cover --states 2 --after 'A A A'",
         message: b"lotosseq: stopped before the first line: more than 2 sets; --states N allows more\n",
-        status: 4,
-    },
+        status: 4, ..ROW },
 ];
 
 /// Texts that are refused.
+#[rattlefmt::skip]
 const REFUSALS: &[Row] = &[
-    Row {
-        name: "a gate that is not declared",
-        text: b"specification S [a] : noexit behaviour b; stop endspec",
-        words: COVER,
-        output: b"",
-        message: b"lotosseq: 1:40: E21 gate B is not declared\n",
-        status: 2,
-    },
-    Row {
-        name: "the empty text",
-        text: b"",
-        words: &["lotosseq", "cover", "--after", "A"],
-        output: b"",
-        message: b"lotosseq: 1:1: E06 text ends too early\n",
-        status: 2,
-    },
+    Row { name: "a gate that is not declared", text: UNDECLARED,
+        words: "cover", message: b"lotosseq: 1:40: E21 gate B is not declared\n", ..REFUSED },
+    Row { name: "the empty text",
+        words: "cover --after A", message: b"lotosseq: 1:1: E06 text ends too early\n", ..REFUSED },
 ];
-
-/// Expects what the row says. One flush ends a cover, with lines or without, and one that stops; none follows a refusal.
-fn expect_row(rt: &impl Abort, alloc: Global, row: &Row) {
-    let run = Run {
-        name: row.name,
-        words: row.words,
-        text: row.text,
-        piece: 7,
-        output: SINGLE,
-        message: Taken { piece: 5, ..WHOLE },
-        ..RUN
-    };
-    let outcome = Outcome {
-        output: row.output,
-        message: row.message,
-        status: row.status,
-        flushes: usize::from(row.status != 2),
-    };
-    expect(rt, alloc, &run, &outcome);
-}
-
-fn expect_rows(rt: &impl Abort, alloc: Global, rows: &[Row]) {
-    for row in rows {
-        expect_row(rt, alloc, row);
-    }
-}
 
 #[test]
 fn lines_of_covers(rt: HostRuntime) {
-    expect_rows(&rt, rt.alloc(), LINES);
+    expect_rows_in_pieces(&rt, rt.alloc(), LINES);
 }
 
 #[test]
 fn covers_without_a_line(rt: HostRuntime) {
-    expect_rows(&rt, rt.alloc(), NO_LINE);
+    expect_rows_in_pieces(&rt, rt.alloc(), NO_LINE);
 }
 
 #[test]
 fn internal_steps_as_labels(rt: HostRuntime) {
-    expect_rows(&rt, rt.alloc(), STRONG);
+    expect_rows_in_pieces(&rt, rt.alloc(), STRONG);
 }
 
 #[test]
 fn limits_and_marks(rt: HostRuntime) {
-    expect_rows(&rt, rt.alloc(), LIMITS_AND_MARKS);
+    expect_rows_in_pieces(&rt, rt.alloc(), LIMITS_AND_MARKS);
 }
 
 #[test]
 fn bounds_on_the_terms(rt: HostRuntime) {
-    expect_rows(&rt, rt.alloc(), TERMS);
+    expect_rows_in_pieces(&rt, rt.alloc(), TERMS);
 }
 
 #[test]
 fn bounds_on_the_sets(rt: HostRuntime) {
-    expect_rows(&rt, rt.alloc(), STATES);
+    expect_rows_in_pieces(&rt, rt.alloc(), STATES);
 }
 
 #[test]
 fn texts_are_refused(rt: HostRuntime) {
-    expect_rows(&rt, rt.alloc(), REFUSALS);
+    expect_rows_in_pieces(&rt, rt.alloc(), REFUSALS);
 }
 
 /// Lines that are none of a listing.

@@ -1,6 +1,7 @@
 //! Complete runs over texts with processes and comments, and the faults of texts.
 
 use super::expected_output::repeated;
+use super::rows::{REFUSED, Row, expect_rows};
 use super::runs::{Outcome, RUN, Run, expect};
 use std::alloc::{AllocError, Global};
 use std::process::Abort;
@@ -14,59 +15,42 @@ fn processes_that_are_not_called_show_nothing(rt: HostRuntime) {
     expect_search(&rt, rt.alloc(), "processes", text, b"A\n", b"");
 }
 
-const FAULTS: &[(&str, &[u8], &[u8])] = &[
-    (
-        "a gate that is not declared beside a parallel expression",
-        b"specification S [a] : noexit behaviour b; stop ||| stop endspec",
-        b"lotosseq: 1:40: E21 gate B is not declared\n",
-    ),
-    (
-        "another functionality of a parallel expression",
-        b"specification S [a] : exit behaviour a; stop ||| stop endspec",
-        b"lotosseq: 1:15: E25 S is declared exit and is noexit\n",
-    ),
-    (
-        "a token too many after a parallel expression",
-        b"specification S [a] : noexit behaviour stop ||| stop stop endspec",
-        b"lotosseq: 1:54: E04 token is not expected\n",
-    ),
-    (
-        "an empty list of gates in a call, which is the mark of a choice",
-        b"specification S [a] : noexit behaviour P[] endspec",
-        b"lotosseq: 1:44: E04 token is not expected\n",
-    ),
-    (
-        "the opening of a comment, whose asterisk closes nothing",
-        b"(*)",
-        b"lotosseq: 1:1: E02 comment is not closed\n",
-    ),
-    (
-        "a comment that is not closed, on the second line",
-        b"specification S [a] :\n noexit (* behaviour stop endspec",
-        b"lotosseq: 2:9: E02 comment is not closed\n",
-    ),
-    (
-        "a comment alone",
-        b"(**)",
-        b"lotosseq: 1:5: E06 text ends too early\n",
-    ),
-    (
-        "a data type",
-        b"type T is endtype",
-        b"lotosseq: 1:1: E07 word of full LOTOS\n",
-    ),
-    (
-        "a data type after a parallel expression",
-        b"specification S [a] : noexit behaviour stop ||| stop where\ntype T is endtype endspec",
-        b"lotosseq: 2:1: E07 word of full LOTOS\n",
-    ),
+/// A search in a text that is refused.
+const FAULT: Row = Row {
+    words: "search --depth 1 A",
+    ..REFUSED
+};
+
+#[rattlefmt::skip]
+const FAULTS: &[Row] = &[
+    Row { name: "a gate that is not declared beside a parallel expression",
+        text: b"specification S [a] : noexit behaviour b; stop ||| stop endspec",
+        message: b"lotosseq: 1:40: E21 gate B is not declared\n", ..FAULT },
+    Row { name: "another functionality of a parallel expression",
+        text: b"specification S [a] : exit behaviour a; stop ||| stop endspec",
+        message: b"lotosseq: 1:15: E25 S is declared exit and is noexit\n", ..FAULT },
+    Row { name: "a token too many after a parallel expression",
+        text: b"specification S [a] : noexit behaviour stop ||| stop stop endspec",
+        message: b"lotosseq: 1:54: E04 token is not expected\n", ..FAULT },
+    Row { name: "an empty list of gates in a call, which is the mark of a choice",
+        text: b"specification S [a] : noexit behaviour P[] endspec",
+        message: b"lotosseq: 1:44: E04 token is not expected\n", ..FAULT },
+    Row { name: "the opening of a comment, whose asterisk closes nothing", text: b"(*)",
+        message: b"lotosseq: 1:1: E02 comment is not closed\n", ..FAULT },
+    Row { name: "a comment that is not closed, on the second line",
+        text: b"specification S [a] :\n noexit (* behaviour stop endspec",
+        message: b"lotosseq: 2:9: E02 comment is not closed\n", ..FAULT },
+    Row { name: "a comment alone", text: b"(**)", message: b"lotosseq: 1:5: E06 text ends too early\n", ..FAULT },
+    Row { name: "a data type", text: b"type T is endtype",
+        message: b"lotosseq: 1:1: E07 word of full LOTOS\n", ..FAULT },
+    Row { name: "a data type after a parallel expression",
+        text: b"specification S [a] : noexit behaviour stop ||| stop where\ntype T is endtype endspec",
+        message: b"lotosseq: 2:1: E07 word of full LOTOS\n", ..FAULT },
 ];
 
 #[test]
 fn faults_of_texts(rt: HostRuntime) {
-    for (name, text, message) in FAULTS {
-        expect_search(&rt, rt.alloc(), *name, *text, b"", *message);
-    }
+    expect_rows(&rt, rt.alloc(), FAULTS);
 }
 
 #[test]

@@ -1,68 +1,32 @@
 //! Numbers in messages: each of them is greater than 255.
 
 use super::expected_output::{expect_message, repeated, repeated_words};
+use super::rows::push_words;
 use std::alloc::{AllocError, Global};
 
 const TEXT: &[u8] = b"specification S [a] : noexit behaviour a; stop endspec";
 
 const SEARCH: &[&str] = &["lotosseq", "search", "--depth", "1", "--known"];
 
-/// The last words of a pattern, after so many times `<while> A`, and the message about the word with the number 301.
-struct Row {
-    count: usize,
-    last: &'static [&'static str],
-    message: &'static [u8],
-}
-
-const ROWS: &[Row] = &[
-    Row {
-        count: 150,
-        last: &["A-B"],
-        message: b"lotosseq: E41 word 301 is neither a label nor an element\n",
-    },
-    Row {
-        count: 150,
-        last: &["<until>"],
-        message: b"lotosseq: E42 word 301 needs a label or <deadlock> after it\n",
-    },
-    Row {
-        count: 149,
-        last: &["<until>", "<deadlock>", "A"],
-        message: b"lotosseq: E43 word 301 follows an end element\n",
-    },
-    Row {
-        count: 150,
-        last: &["i"],
-        message: b"lotosseq: E45 word 301 is i, which cannot be observed\n",
-    },
-    Row {
-        count: 150,
-        last: &["<while>"],
-        message: b"lotosseq: E48 word 301 needs a label or <any> after it\n",
-    },
-    Row {
-        count: 150,
-        last: &["B"],
-        message: b"lotosseq: E49 word 301 is no gate of the specification\n",
-    },
-    Row {
-        count: 150,
-        last: &["<not>"],
-        message: b"lotosseq: E50 word 301 needs a label after it\n",
-    },
-    Row {
-        count: 150,
-        last: &["<never>"],
-        message: b"lotosseq: E51 word 301 is answered by ever alone\n",
-    },
+/// How often the pattern begins with `<while> A`, its last words, and the message about the word with the number 301.
+#[rattlefmt::skip]
+const ROWS: &[(usize, &str, &[u8])] = &[
+    (150, "A-B", b"lotosseq: E41 word 301 is neither a label nor an element\n"),
+    (150, "<until>", b"lotosseq: E42 word 301 needs a label or <deadlock> after it\n"),
+    (149, "<until> <deadlock> A", b"lotosseq: E43 word 301 follows an end element\n"),
+    (150, "i", b"lotosseq: E45 word 301 is i, which cannot be observed\n"),
+    (150, "<while>", b"lotosseq: E48 word 301 needs a label or <any> after it\n"),
+    (150, "B", b"lotosseq: E49 word 301 is no gate of the specification\n"),
+    (150, "<not>", b"lotosseq: E50 word 301 needs a label after it\n"),
+    (150, "<never>", b"lotosseq: E51 word 301 is answered by ever alone\n"),
 ];
 
 #[test]
 fn the_word_with_the_number_301(rt: HostRuntime) -> Result<(), AllocError> {
-    for row in ROWS {
-        let mut words = repeated_words(rt.alloc(), SEARCH, &["<while>", "A"], row.count)?;
-        words.extend_from_slice(row.last)?;
-        expect_message(&rt, rt.alloc(), words.as_slice(), TEXT, row.message, 2);
+    for (count, last, message) in ROWS {
+        let mut words = repeated_words(rt.alloc(), SEARCH, &["<while>", "A"], *count)?;
+        push_words(&mut words, *last)?;
+        expect_message(&rt, rt.alloc(), words.as_slice(), TEXT, *message, 2);
     }
     Ok(())
 }
@@ -73,28 +37,13 @@ const LOOP: &[u8] =
 process Q : noexit := i; stop ||| i; stop ||| i; stop ||| i; stop ||| i; stop ||| i; stop ||| i; stop ||| i; stop ||| i; stop endproc endspec";
 
 /// The last label of a sequence, after 300 times `A`, the message about it, and the status.
+#[rattlefmt::skip]
 const LABELS: &[(&str, &[u8], u8)] = &[
     ("A-B", b"lotosseq: E41 word 301 is no label\n", 2),
-    (
-        "i",
-        b"lotosseq: E45 word 301 is i, which cannot be observed\n",
-        2,
-    ),
-    (
-        "C",
-        b"lotosseq: E49 word 301 is no gate of the specification\n",
-        2,
-    ),
-    (
-        "exit",
-        b"lotosseq: label 301, exit, cannot come here; what can: A B\n",
-        1,
-    ),
-    (
-        "B",
-        b"lotosseq: stopped: more than 300 terms after 301 labels\n",
-        4,
-    ),
+    ("i", b"lotosseq: E45 word 301 is i, which cannot be observed\n", 2),
+    ("C", b"lotosseq: E49 word 301 is no gate of the specification\n", 2),
+    ("exit", b"lotosseq: label 301, exit, cannot come here; what can: A B\n", 1),
+    ("B", b"lotosseq: stopped: more than 300 terms after 301 labels\n", 4),
 ];
 
 #[test]

@@ -1,160 +1,57 @@
 //! Complete runs of `ever` without a match: how much was looked at.
 
-use super::runs::{Bytes, Parts, RUN, Run, expect_parts};
+use super::rows::{NO_MATCH, Row, expect_row, parts_of, run_of, words_of};
+use super::runs::{Bytes, Parts, RUN, expect_parts};
+use super::worked_texts::{BUFFER, DELAYED_WITHOUT_B};
 use std::alloc::{AllocError, Global};
 use std::process::Abort;
 
-/// A pattern that matches nothing: the bound on the states that is enough, the one below it that is not, if there is
-/// one, and the whole message.
-struct Row {
-    text: &'static [u8],
-    words: &'static [&'static str],
-    enough: &'static str,
-    fewer: Option<&'static str>,
-    message: &'static [u8],
-}
-
-/// A buffer for one item: filled by `a` and emptied by `b`, forever.
-const BUFFER: &[u8] =
-    b"specification S [a,b] : noexit behaviour P[a,b] where process P [x,y] : noexit := x; y; P[x,y] endproc endspec";
-
-/// An internal step, and then an action.
-const DELAYED: &[u8] = b"specification S [a,b] : noexit behaviour i; a; stop endspec";
-
-const ROWS: &[Row] = &[
+/// Patterns that match nothing, each after the number of states that are looked at, with the whole message.
+#[rattlefmt::skip]
+const ROWS: &[(usize, Row)] = &[
     // The buffer is empty, full, or has been emptied last.
-    Row {
-        text: BUFFER,
-        words: &["<while> <any> B B"],
-        enough: "--states=3",
-        fewer: Some("--states=2"),
+    (3, Row { text: BUFFER, words: "ever '<while> <any> B B'",
         message: b"lotosseq: it happens at no depth; 3 states; words 1 to 3 can be matched, and then nothing that word 4 wants\n",
-    },
-    Row {
-        text: b"specification S [a,b] : noexit behaviour a; stop ||| b; stop endspec",
-        words: &["A", "A"],
-        enough: "--states=2",
-        fewer: Some("--states=1"),
+        ..NO_MATCH }),
+    (2, Row { text: b"specification S [a,b] : noexit behaviour a; stop ||| b; stop endspec", words: "ever A A",
         message: b"lotosseq: it happens at no depth; 2 states; word 1 can be matched, and then nothing that word 2 wants\n",
-    },
-    Row {
-        text: b"specification S [a] : noexit behaviour stop endspec",
-        words: &["A"],
-        enough: "--states=1",
-        fewer: None,
+        ..NO_MATCH }),
+    (1, Row { text: b"specification S [a] : noexit behaviour stop endspec", words: "ever A",
         message: b"lotosseq: it happens at no depth; 1 state; nothing can be matched, since the specification is in a deadlock from the start\n",
-    },
-    Row {
-        text: BUFFER,
-        words: &["B"],
-        enough: "--states=1",
-        fewer: None,
-        message: b"lotosseq: it happens at no depth; 1 state; word 1 cannot be matched\n",
-    },
-    Row {
-        text: BUFFER,
-        words: &["<not> A"],
-        enough: "--states=1",
-        fewer: None,
-        message: b"lotosseq: it happens at no depth; 1 state; word 1 cannot be matched\n",
-    },
-    Row {
-        text: BUFFER,
-        words: &["A <deadlock>"],
-        enough: "--states=2",
-        fewer: Some("--states=1"),
+        ..NO_MATCH }),
+    (1, Row { text: BUFFER, words: "ever B",
+        message: b"lotosseq: it happens at no depth; 1 state; word 1 cannot be matched\n", ..NO_MATCH }),
+    (1, Row { text: BUFFER, words: "ever '<not> A'",
+        message: b"lotosseq: it happens at no depth; 1 state; word 1 cannot be matched\n", ..NO_MATCH }),
+    (2, Row { text: BUFFER, words: "ever 'A <deadlock>'",
         message: b"lotosseq: it happens at no depth; 2 states; word 1 can be matched, and then nothing that word 2 wants\n",
-    },
-    Row {
-        text: BUFFER,
-        words: &["<until> <deadlock>"],
-        enough: "--states=2",
-        fewer: Some("--states=1"),
-        message: b"lotosseq: it happens at no depth; 2 states; no state is as words 1 to 2 demand\n",
-    },
-    Row {
-        text: BUFFER,
-        words: &["<deadlock>"],
-        enough: "--states=1",
-        fewer: None,
+        ..NO_MATCH }),
+    (2, Row { text: BUFFER, words: "ever '<until> <deadlock>'",
+        message: b"lotosseq: it happens at no depth; 2 states; no state is as words 1 to 2 demand\n", ..NO_MATCH }),
+    (1, Row { text: BUFFER, words: "ever <deadlock>",
         message: b"lotosseq: it happens at no depth; 1 state; at the start no state is as word 1 demands\n",
-    },
-    Row {
-        text: BUFFER,
-        words: &["<refuses> A,B"],
-        enough: "--states=1",
-        fewer: None,
+        ..NO_MATCH }),
+    (1, Row { text: BUFFER, words: "ever '<refuses> A,B'",
         message: b"lotosseq: it happens at no depth; 1 state; at the start no state is as words 1 to 2 demand\n",
-    },
+        ..NO_MATCH }),
     // The word of a set belongs to its element, and `<until>` to the end.
-    Row {
-        text: BUFFER,
-        words: &["<while> <not> B A <until> <never> B"],
-        enough: "--states=4",
-        fewer: Some("--states=3"),
+    (4, Row { text: BUFFER, words: "ever '<while> <not> B A <until> <never> B'",
         message: b"lotosseq: it happens at no depth; 4 states; words 1 to 4 can be matched, and then nothing that word 5 wants\n",
-    },
+        ..NO_MATCH }),
     // A `<while>` matches without a label too, at the start and further on.
-    Row {
-        text: BUFFER,
-        words: &["<while> <not> A B"],
-        enough: "--states=1",
-        fewer: None,
+    (1, Row { text: BUFFER, words: "ever '<while> <not> A B'",
         message: b"lotosseq: it happens at no depth; 1 state; words 1 to 3 can be matched, and then nothing that word 4 wants\n",
-    },
-    Row {
-        text: BUFFER,
-        words: &["A <while> A <while> <not> B <deadlock>"],
-        enough: "--states=2",
-        fewer: Some("--states=1"),
+        ..NO_MATCH }),
+    (2, Row { text: BUFFER, words: "ever 'A <while> A <while> <not> B <deadlock>'",
         message: b"lotosseq: it happens at no depth; 2 states; words 1 to 6 can be matched, and then nothing that word 7 wants\n",
-    },
-    Row {
-        text: DELAYED,
-        words: &["A", "B"],
-        enough: "--states=3",
-        fewer: Some("--states=2"),
+        ..NO_MATCH }),
+    (3, Row { text: DELAYED_WITHOUT_B, words: "ever A B",
         message: b"lotosseq: it happens at no depth; 3 states; word 1 can be matched, and then nothing that word 2 wants\n",
-    },
-    Row {
-        text: DELAYED,
-        words: &["--strong", "i", "i"],
-        enough: "--states=2",
-        fewer: Some("--states=1"),
+        ..NO_MATCH }),
+    (2, Row { text: DELAYED_WITHOUT_B, words: "ever --strong i i",
         message: b"lotosseq: it happens at no depth; 2 states; word 1 can be matched, and then nothing that word 2 wants\n",
-    },
+        ..NO_MATCH }),
 ];
-
-/// The words of a row's command.
-fn words_of(alloc: Global, row: &Row) -> Result<Vec<&'static str>, AllocError> {
-    let mut words = Vec::new(alloc);
-    words.push("lotosseq")?;
-    words.push("ever")?;
-    words.extend_from_slice(row.words)?;
-    Ok(words)
-}
-
-/// Expects that a search ends so, with this bound on the states or with none.
-fn expect_ended(
-    rt: &impl Abort,
-    alloc: Global,
-    row: &Row,
-    bound: Option<&'static str>,
-    parts: &Parts<'_>,
-) -> Result<(), AllocError> {
-    let mut words = words_of(alloc, row)?;
-    if let Some(bound) = bound {
-        words.push(bound)?;
-    }
-    let run = Run {
-        name: bound.unwrap_or("no bound"),
-        words: words.as_slice(),
-        text: row.text,
-        ..RUN
-    };
-    expect_parts(rt, alloc, &run, parts);
-    Ok(())
-}
 
 /// A search that stops because there are too many states.
 const STOPPED: Parts<'static> = Parts {
@@ -165,31 +62,45 @@ const STOPPED: Parts<'static> = Parts {
     flushes: Some(0),
 };
 
-/// What is expected of a search that looks at all states of a row.
-fn never(row: &Row) -> Parts<'static> {
-    Parts {
-        message: Bytes::Are(row.message),
-        status: 1,
-        flushes: Some(1),
-        ..STOPPED
-    }
+/// Expects that the search of a row ends so with this bound on the states.
+fn expect_bounded(
+    rt: &impl Abort,
+    alloc: Global,
+    row: &Row,
+    states: usize,
+    parts: &Parts<'_>,
+) -> Result<(), AllocError> {
+    let line = format!(in alloc; "{} --states={states}", row.words)?;
+    let words = words_of(alloc, line.as_str())?;
+    expect_parts(rt, alloc, &run_of(row, words.as_slice(), &RUN), parts);
+    Ok(())
 }
 
-#[test]
-fn what_was_looked_at(rt: HostRuntime) -> Result<(), AllocError> {
-    for row in ROWS {
-        expect_ended(&rt, rt.alloc(), row, None, &never(row))?;
+/// Expects that the search of a row needs to look at so many states.
+fn expect_states(
+    rt: &impl Abort,
+    alloc: Global,
+    row: &Row,
+    states: usize,
+) -> Result<(), AllocError> {
+    expect_bounded(rt, alloc, row, states, &parts_of(row))?;
+    if states > 1 {
+        expect_bounded(rt, alloc, row, states - 1, &STOPPED)?;
     }
     Ok(())
 }
 
 #[test]
+fn what_was_looked_at(rt: HostRuntime) {
+    for (_states, row) in ROWS {
+        expect_row(&rt, rt.alloc(), row, &RUN);
+    }
+}
+
+#[test]
 fn so_many_states_are_reached(rt: HostRuntime) -> Result<(), AllocError> {
-    for row in ROWS {
-        expect_ended(&rt, rt.alloc(), row, Some(row.enough), &never(row))?;
-        if let Some(fewer) = row.fewer {
-            expect_ended(&rt, rt.alloc(), row, Some(fewer), &STOPPED)?;
-        }
+    for (states, row) in ROWS {
+        expect_states(&rt, rt.alloc(), row, *states)?;
     }
     Ok(())
 }

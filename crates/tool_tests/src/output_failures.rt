@@ -2,11 +2,14 @@
 //! more: they say nothing of that.
 
 use super::memory_devices::WhenFull;
-use super::runs::{RUN, Run, Taken, WHOLE, expect_broken, expect_full, expect_unflushed};
+use super::rows::{ROW, Row, run_of, words_of};
+use super::runs::{
+    Bytes, Parts, RUN, Run, Taken, WHOLE, expect_broken, expect_full, expect_parts,
+    expect_unflushed,
+};
+use super::worked_texts::{DELAYED_WITHOUT_B, DISABLED};
 use std::alloc::Global;
 use std::process::Abort;
-
-const TEXT: &[u8] = b"specification S [a,b] : exit behaviour a; exit [> b; stop endspec";
 
 const WORDS: &[&str] = &[
     "lotosseq",
@@ -20,22 +23,11 @@ const WORDS: &[&str] = &[
 const LISTING: &[u8] = b"B\nA B\nA exit\n";
 
 /// The least and the greatest number of bytes after which the output fails with the same message, and the message.
+#[rattlefmt::skip]
 const BROKEN: &[(usize, usize, &[u8])] = &[
-    (
-        0,
-        1,
-        b"lotosseq: stopped before the first line: output cannot be written\n",
-    ),
-    (
-        2,
-        5,
-        b"lotosseq: stopped after B: output cannot be written\n",
-    ),
-    (
-        6,
-        12,
-        b"lotosseq: stopped after A B: output cannot be written\n",
-    ),
+    (0, 1, b"lotosseq: stopped before the first line: output cannot be written\n"),
+    (2, 5, b"lotosseq: stopped after B: output cannot be written\n"),
+    (6, 12, b"lotosseq: stopped after A B: output cannot be written\n"),
 ];
 
 /// Runs the search with an output that is full after `most` bytes, and expects the message.
@@ -43,7 +35,7 @@ fn fail_output(rt: &impl Abort, alloc: Global, most: usize, piece: usize, messag
     let run = Run {
         name: "a listing",
         words: WORDS,
-        text: TEXT,
+        text: DISABLED,
         output: Taken { piece, ..WHOLE },
         ..RUN
     };
@@ -61,139 +53,48 @@ fn the_output_fails_within_each_line(rt: HostRuntime) {
     }
 }
 
-/// A command that ends with a flush; `broken` is the message if the flush fails.
-struct Row {
-    name: &'static str,
-    text: &'static [u8],
-    words: &'static [&'static str],
-    output: &'static [u8],
-    status: u8,
-    broken: &'static [u8],
-}
-
+/// Commands that end with a flush: the output, the status, and the message if the flush fails.
+#[rattlefmt::skip]
 const FLUSHED: &[Row] = &[
-    Row {
-        name: "a listing",
-        text: TEXT,
-        words: WORDS,
-        output: LISTING,
-        status: 0,
-        broken: b"lotosseq: stopped after A exit: output cannot be written\n",
-    },
-    Row {
-        name: "a listing without lines",
-        text: TEXT,
-        words: &[
-            "lotosseq", "search", "--depth", "2", "<any>", "<any>", "<any>",
-        ],
-        output: b"",
-        status: 1,
-        broken: b"lotosseq: stopped before the first line: output cannot be written\n",
-    },
-    Row {
-        name: "a listing without lines, of known words",
-        text: TEXT,
-        words: &["lotosseq", "search", "--depth", "2", "--known", "A", "A"],
-        output: b"",
-        status: 1,
-        broken: b"lotosseq: stopped before the first line: output cannot be written\n",
-    },
-    Row {
-        name: "a match of any length",
-        text: TEXT,
-        words: &["lotosseq", "ever", "B"],
-        output: b"B\n",
-        status: 0,
-        broken: b"lotosseq: output cannot be written\n",
-    },
-    Row {
-        name: "no match of any length",
-        text: TEXT,
-        words: &["lotosseq", "ever", "A", "A"],
-        output: b"",
-        status: 1,
-        broken: b"lotosseq: output cannot be written\n",
-    },
-    Row {
-        name: "what can come after a sequence",
-        text: TEXT,
-        words: &["lotosseq", "after", "A"],
-        output: b"B\nexit\n",
-        status: 0,
-        broken: b"lotosseq: output cannot be written\n",
-    },
-    Row {
-        name: "a cover",
-        text: TEXT,
-        words: &["lotosseq", "cover"],
-        output: LISTING,
-        status: 0,
-        broken: b"lotosseq: stopped after A exit: output cannot be written\n",
-    },
-    Row {
-        name: "a cover without lines",
-        text: b"specification S : noexit behaviour stop endspec",
-        words: &["lotosseq", "cover"],
-        output: b"",
-        status: 1,
-        broken: b"lotosseq: stopped before the first line: output cannot be written\n",
-    },
-    Row {
-        name: "a set too many",
-        text: TEXT,
-        words: &["lotosseq", "cover", "--states", "1"],
-        output: b"",
-        status: 4,
-        broken: b"lotosseq: stopped before the first line: output cannot be written\n",
-    },
-    Row {
-        name: "a check of no process",
-        text: TEXT,
-        words: &["lotosseq", "check"],
-        output: b"",
-        status: 0,
-        broken: b"lotosseq: output cannot be written\n",
-    },
-    Row {
-        name: "the limit",
-        text: TEXT,
-        words: &[
-            "lotosseq",
-            "search",
-            "--depth",
-            "2",
-            "--limit",
-            "1",
-            "<until>",
-            "<deadlock>",
-        ],
-        output: b"B\n",
-        status: 3,
-        broken: b"lotosseq: stopped after B: output cannot be written\n",
-    },
-    Row {
-        name: "a prefix that is oversized",
-        text: b"specification S [a,b] : noexit behaviour i; a; stop endspec",
-        words: &["lotosseq", "search", "--depth", "2", "--terms", "1", "A"],
-        output: b"",
-        status: 4,
-        broken: b"lotosseq: stopped before the first line: output cannot be written\n",
-    },
+    Row { name: "a listing", text: DISABLED, words: "search --depth 2 <until> <deadlock>",
+        output: LISTING, message: b"lotosseq: stopped after A exit: output cannot be written\n", ..ROW },
+    Row { name: "a listing without lines", text: DISABLED, words: "search --depth 2 <any> <any> <any>",
+        message: b"lotosseq: stopped before the first line: output cannot be written\n", status: 1, ..ROW },
+    Row { name: "a listing without lines, of known words", text: DISABLED, words: "search --depth 2 --known A A",
+        message: b"lotosseq: stopped before the first line: output cannot be written\n", status: 1, ..ROW },
+    Row { name: "a match of any length", text: DISABLED,
+        words: "ever B", output: b"B\n", message: b"lotosseq: output cannot be written\n", ..ROW },
+    Row { name: "no match of any length", text: DISABLED,
+        words: "ever A A", message: b"lotosseq: output cannot be written\n", status: 1, ..ROW },
+    Row { name: "what can come after a sequence", text: DISABLED,
+        words: "after A", output: b"B\nexit\n", message: b"lotosseq: output cannot be written\n", ..ROW },
+    Row { name: "a cover", text: DISABLED, words: "cover", output: LISTING,
+        message: b"lotosseq: stopped after A exit: output cannot be written\n", ..ROW },
+    Row { name: "a cover without lines", text: b"specification S : noexit behaviour stop endspec", words: "cover",
+        message: b"lotosseq: stopped before the first line: output cannot be written\n", status: 1, ..ROW },
+    Row { name: "a set too many", text: DISABLED, words: "cover --states 1",
+        message: b"lotosseq: stopped before the first line: output cannot be written\n", status: 4, ..ROW },
+    Row { name: "a check of no process", text: DISABLED,
+        words: "check", message: b"lotosseq: output cannot be written\n", ..ROW },
+    Row { name: "the limit", text: DISABLED, words: "search --depth 2 --limit 1 <until> <deadlock>",
+        output: b"B\n", message: b"lotosseq: stopped after B: output cannot be written\n", status: 3, ..ROW },
+    Row { name: "a prefix that is oversized", text: DELAYED_WITHOUT_B, words: "search --depth 2 --terms 1 A",
+        message: b"lotosseq: stopped before the first line: output cannot be written\n", status: 4, ..ROW },
 ];
 
 /// Runs the row with an output that can be flushed, and then with one that cannot, and expects one flush of each.
 fn expect_flush(rt: &impl Abort, alloc: Global, row: &Row) {
-    let run = Run {
-        name: row.name,
-        words: row.words,
-        text: row.text,
-        ..RUN
+    let words = words_of(alloc, row.words).expect(rt, "memory for the words");
+    let run = run_of(row, words.as_slice(), &RUN);
+    let parts = Parts {
+        output: Bytes::Are(row.output),
+        message: Bytes::BeginWith(b""),
+        status: row.status,
+        reads: None,
+        flushes: Some(1),
     };
-    expect_unflushed(rt, alloc, &run, row.output, row.broken);
-    let ran = run.finish(alloc);
-    assert_eq!(rt; ran.output.got(), row.output, "{}", row.name);
-    assert_eq!(rt; ran.output.flushes, 1, "{}", row.name);
-    assert_eq!(rt; ran.status, row.status, "{}", row.name);
+    expect_parts(rt, alloc, &run, &parts);
+    expect_unflushed(rt, alloc, &run, row.output, row.message);
 }
 
 /// A specification with a process, and a gate that is not used.
@@ -201,59 +102,34 @@ const PROCESS: &[u8] =
     b"specification S [a] : noexit behaviour stop where process P : noexit := stop endproc endspec";
 
 /// Checks of a process, and texts that are asked for.
+#[rattlefmt::skip]
 const OTHERS: &[Row] = &[
-    Row {
-        name: "a check of a process",
-        text: PROCESS,
-        words: &["lotosseq", "check"],
-        output: b"P 0 noexit\n",
-        status: 0,
-        broken: UNWRITTEN,
-    },
-    Row {
-        name: "a check that explains",
-        text: PROCESS,
-        words: &["lotosseq", "check", "--explain"],
-        output: b"P 0 noexit\n",
-        status: 0,
-        broken: UNWRITTEN,
-    },
-    Row {
-        name: "a check that warns",
-        text: PROCESS,
-        words: &["lotosseq", "check", "--warn"],
-        output: b"P 0 noexit\n",
-        status: 0,
-        broken: UNWRITTEN,
-    },
-    Row {
-        name: "the version",
-        text: b"",
-        words: &["lotosseq", "--version"],
-        output: b"lotosseq 0.1.0 (proved, logic dac8208d650f15bf)\n",
-        status: 0,
-        broken: UNWRITTEN,
-    },
+    Row { name: "a check of a process", text: PROCESS,
+        words: "check", output: b"P 0 noexit\n", message: UNWRITTEN, ..ROW },
+    Row { name: "a check that explains", text: PROCESS,
+        words: "check --explain", output: b"P 0 noexit\n", message: UNWRITTEN, ..ROW },
+    Row { name: "a check that warns", text: PROCESS,
+        words: "check --warn", output: b"P 0 noexit\n", message: UNWRITTEN, ..ROW },
+    Row { name: "the version",
+        words: "--version", output: b"lotosseq 0.1.0 (proved, logic dac8208d650f15bf)\n", message: UNWRITTEN, ..ROW },
 ];
 
 const UNWRITTEN: &[u8] = b"lotosseq: output cannot be written\n";
 
-/// An output that nobody reads any more when it fails.
-const CLOSED: Taken = Taken {
-    closed: true,
-    ..WHOLE
+/// A run whose output nobody reads any more when it fails.
+const CLOSED: Run<'static, 'static> = Run {
+    output: Taken {
+        closed: true,
+        ..WHOLE
+    },
+    ..RUN
 };
 
 /// Runs the row with an output whose flush finds that nobody reads any more, and with one whose first write does, and
 /// expects no message.
 fn expect_silence(rt: &impl Abort, alloc: Global, row: &Row) {
-    let run = Run {
-        name: row.name,
-        words: row.words,
-        text: row.text,
-        output: CLOSED,
-        ..RUN
-    };
+    let words = words_of(alloc, row.words).expect(rt, "memory for the words");
+    let run = run_of(row, words.as_slice(), &CLOSED);
     expect_unflushed(rt, alloc, &run, row.output, b"");
     if !row.output.is_empty() {
         expect_full(rt, alloc, &run, 0, WhenFull::Fails, row.output, b"");
@@ -280,9 +156,8 @@ fn one_flush_ends_a_check_or_a_text_or_fails(rt: HostRuntime) {
 const UNREAD: Run<'static, 'static> = Run {
     name: "a listing",
     words: WORDS,
-    text: TEXT,
-    output: CLOSED,
-    ..RUN
+    text: DISABLED,
+    ..CLOSED
 };
 
 #[test]

@@ -212,18 +212,6 @@ pub struct Parts<'a> {
     pub flushes: Option<usize>,
 }
 
-/// How the message begins where nothing matches.
-pub const NEVER: &[u8] = b"lotosseq: it happens at no depth; ";
-
-/// What is expected of a message that is this one, or if it is [`NEVER`] begins so.
-pub fn expected_message(message: &[u8]) -> Bytes<'_> {
-    if message == NEVER {
-        Bytes::BeginWith(message)
-    } else {
-        Bytes::Are(message)
-    }
-}
-
 /// No output, any message, status 2, nothing read and no flush.
 pub const UNREAD: Parts<'static> = Parts {
     output: Bytes::Are(b""),
