@@ -1,7 +1,7 @@
-//! The functions of the commands, each called by itself: what they return and write, which does not depend on whether
+//! The commands and the check, each called by itself: what they return and write, which does not depend on whether
 //! progress is asked for or observed, and what an observer is told.
 ghost use Rattle.std.specs.Prelude.{IfOk};
-ghost use Rattle.lotos_command.specs.Request.{HasBounds, HasCoverBounds, HasSearchBounds};
+ghost use Rattle.lotos_command.specs.Request.{HasBounds};
 
 use super::memory_devices::{ArrayWriter, SliceReader};
 use super::rows::words_of;
@@ -9,8 +9,8 @@ use super::worked_texts::{ONE_GATE, VANISHING};
 use lotos_check::AcceptedText;
 use lotos_device::{FromRead, FromWrite};
 use lotos_tool::{
-    AfterRequest, CommandFault, CoverRequest, EverRequest, NoProgress, OutputProgress, Progress,
-    Request, SearchRequest, Searched, after, check_text, cover, ever, list, request,
+    Command, CommandFault, NoProgress, OutputProgress, Progress, Request, Searched, answer,
+    check_text, request,
 };
 use std::alloc::{AllocError, Global};
 use std::fmt::Debug;
@@ -91,11 +91,11 @@ struct Call {
 #[rattlefmt::skip]
 const SEARCHES: &[Call] = &[
     Call { words: "search --depth=2 '<while> A'", reporting: "search --depth=2 --progress '<while> A'", text: ONE_GATE,
-        called: Called { result: "Complete { lines: 3 }", output: b"<empty>\nA\nA A\n", flushes: 1 },
+        called: Called { result: "Done(Listed { lines: 3 })", output: b"<empty>\nA\nA A\n", flushes: 1 },
         told: Told { visits: 3, lines: 3, ..ACCEPTED } },
     Call { words: "search --depth=2 --limit=2 '<while> A'",
         reporting: "search --depth=2 --limit=2 --progress '<while> A'", text: ONE_GATE,
-        called: Called { result: "Stopped { last: Some(\"A\"), why: Limit }", output: b"<empty>\nA\n", flushes: 1 },
+        called: Called { result: "Stopped { cause: Limit, place: ListingPlace { last: Some(\"A\"), prefix: None } }", output: b"<empty>\nA\n", flushes: 1 },
         told: Told { visits: 1, lines: 2, ..ACCEPTED } },
 ];
 
@@ -103,10 +103,10 @@ const SEARCHES: &[Call] = &[
 #[rattlefmt::skip]
 const MATCHES: &[Call] = &[
     Call { words: "ever 'A A'", reporting: "ever --progress 'A A'", text: ONE_GATE,
-        called: Called { result: "Matched", output: b"A A\n", flushes: 1 },
+        called: Called { result: "Done(Ever)", output: b"A A\n", flushes: 1 },
         told: Told { visits: 3, lines: 1, ..ACCEPTED } },
     Call { words: "ever 'A exit'", reporting: "ever --progress 'A exit'", text: ONE_GATE,
-        called: Called { result: "NoMatch", output: b"", flushes: 1 },
+        called: Called { result: "Done(Never)", output: b"", flushes: 1 },
         told: Told { visits: 2, searched: Some(Searched { states: 2, elements: 1, is_stuck: false }), ..ACCEPTED } },
 ];
 
@@ -115,13 +115,13 @@ const MATCHES: &[Call] = &[
 #[rattlefmt::skip]
 const NEXT: &[Call] = &[
     Call { words: "after 'A A'", reporting: "after --progress 'A A'", text: VANISHING,
-        called: Called { result: "Followed", output: b"A\nB\n", flushes: 1 },
+        called: Called { result: "Done(Followed)", output: b"A\nB\n", flushes: 1 },
         told: Told { visits: 2, lines: 1, ..ACCEPTED } },
     Call { words: "after 'A exit'", reporting: "after --progress 'A exit'", text: VANISHING,
-        called: Called { result: "CannotCome { number: 2, instead: Some(\"A B\") }", output: b"", flushes: 0 },
+        called: Called { result: "Done(CannotCome { number: 2, instead: Some(\"A B\") })", output: b"", flushes: 0 },
         told: Told { visits: 1, ..ACCEPTED } },
     Call { words: "cover", reporting: "cover --progress", text: VANISHING,
-        called: Called { result: "Complete { lines: 2 }", output: b"A A\nA B\n", flushes: 1 },
+        called: Called { result: "Done(Listed { lines: 2 })", output: b"A A\nA B\n", flushes: 1 },
         told: Told { visits: 2, lines: 2, ..ACCEPTED } },
 ];
 
@@ -144,63 +144,26 @@ fn expect_called<T: Debug>(
     Ok(())
 }
 
-fn expect_list<P: OutputProgress>(
+/// Answers the question of a command, and expects what comes of it.
+fn expect_answer<C: Command, P: OutputProgress>(
     rt: &impl Abort,
     alloc: Global,
     call: &Call,
-    asked: &SearchRequest,
+    command: &C,
     progress: &mut P,
 ) -> Result<(), AllocError>
-    requires { HasSearchBounds asked.now }
+where
+    C::Found: Debug,
+    C::Place: Debug,
+    requires { C.is_bounded command.now }
 {
     let mut reader = FromRead::new(SliceReader::new(call.text, 4096));
     let mut out = FromWrite::new(ArrayWriter::new(4096));
-    let ended = list(alloc, asked, &mut reader, &mut out, progress);
+    let ended = answer(alloc, command, &mut reader, &mut out, progress);
     expect_called(rt, alloc, &ended, out, call.called)
 }
 
-fn expect_ever<P: OutputProgress>(
-    rt: &impl Abort,
-    alloc: Global,
-    call: &Call,
-    asked: &EverRequest,
-    progress: &mut P,
-) -> Result<(), AllocError> {
-    let mut reader = FromRead::new(SliceReader::new(call.text, 4096));
-    let mut out = FromWrite::new(ArrayWriter::new(4096));
-    let ended = ever(alloc, asked, &mut reader, &mut out, progress);
-    expect_called(rt, alloc, &ended, out, call.called)
-}
-
-fn expect_after<P: OutputProgress>(
-    rt: &impl Abort,
-    alloc: Global,
-    call: &Call,
-    asked: &AfterRequest,
-    progress: &mut P,
-) -> Result<(), AllocError> {
-    let mut reader = FromRead::new(SliceReader::new(call.text, 4096));
-    let mut out = FromWrite::new(ArrayWriter::new(4096));
-    let ended = after(alloc, asked, &mut reader, &mut out, progress);
-    expect_called(rt, alloc, &ended, out, call.called)
-}
-
-fn expect_cover<P: OutputProgress>(
-    rt: &impl Abort,
-    alloc: Global,
-    call: &Call,
-    asked: &CoverRequest,
-    progress: &mut P,
-) -> Result<(), AllocError>
-    requires { HasCoverBounds asked.now }
-{
-    let mut reader = FromRead::new(SliceReader::new(call.text, 4096));
-    let mut out = FromWrite::new(ArrayWriter::new(4096));
-    let ended = cover(alloc, asked, &mut reader, &mut out, progress);
-    expect_called(rt, alloc, &ended, out, call.called)
-}
-
-/// Calls the function of the command that is asked for, which has an observer, and expects what comes of it.
+/// Answers the question of the command that is asked for, and expects what comes of it.
 fn expect_call<P: OutputProgress>(
     rt: &impl Abort,
     alloc: Global,
@@ -211,10 +174,10 @@ fn expect_call<P: OutputProgress>(
     requires { IfOk asked.now HasBounds }
 {
     match asked {
-        Ok(Request::Search(asked)) => expect_list(rt, alloc, call, asked, progress),
-        Ok(Request::Ever(asked)) => expect_ever(rt, alloc, call, asked, progress),
-        Ok(Request::After(asked)) => expect_after(rt, alloc, call, asked, progress),
-        Ok(Request::Cover(asked)) => expect_cover(rt, alloc, call, asked, progress),
+        Ok(Request::Search(asked)) => expect_answer(rt, alloc, call, asked, progress),
+        Ok(Request::Ever(asked)) => expect_answer(rt, alloc, call, asked, progress),
+        Ok(Request::After(asked)) => expect_answer(rt, alloc, call, asked, progress),
+        Ok(Request::Cover(asked)) => expect_answer(rt, alloc, call, asked, progress),
         _ => {
             assert!(rt; false, "no command with an observer: {}", call.words);
             Ok(())
@@ -280,7 +243,7 @@ fn a_check(rt: HostRuntime) -> Result<(), AllocError> {
     let mut out = FromWrite::new(ArrayWriter::new(4096));
     let ended = check_text(rt.alloc(), &mut reader, &mut out);
     let called = Called {
-        result: "Complete { lines: 2 }",
+        result: "Done(Processes { count: 2 })",
         output: b"P 3 noexit\nQ 1 noexit\n",
         flushes: 1,
     };

@@ -7,8 +7,8 @@ use super::worked_texts::VANISHING;
 use lotos_check::AcceptedText;
 use lotos_device::{FromRead, FromWrite};
 use lotos_tool::{
-    AfterRequest, EverRequest, Messages, OutputProgress, Progress, Request, after, cover, ever,
-    list, request, run_args,
+    AfterRequest, EverRequest, Messages, OutputProgress, Progress, Request, answer, request,
+    run_args,
 };
 use std::alloc::{AllocError, Global};
 use std::io::{Error, ErrorKind};
@@ -384,14 +384,14 @@ fn ever_observed(
 fn ever_observed_in(alloc: Global, question: &EverRequest, text: &[u8], counter: &mut Counter) {
     let mut reader = FromRead::new(SliceReader::new(text, 4096));
     let mut out = FromWrite::new(ArrayWriter::new(4096));
-    let _ = ever(alloc, question, &mut reader, &mut out, counter);
+    let _ = answer(alloc, question, &mut reader, &mut out, counter);
 }
 
 /// Follows a sequence of one gate.
 fn after_observed(alloc: Global, question: &AfterRequest, counter: &mut Counter) {
     let mut reader = FromRead::new(SliceReader::new(ONE_GATE, 4096));
     let mut out = FromWrite::new(ArrayWriter::new(4096));
-    let _ = after(alloc, question, &mut reader, &mut out, counter);
+    let _ = answer(alloc, question, &mut reader, &mut out, counter);
 }
 
 /// What an observer of the command is told.
@@ -405,14 +405,14 @@ fn observe(alloc: Global, words: &[&str]) -> Result<Counter, AllocError> {
         Ok(Request::Search(search)) => {
             let mut reader = FromRead::new(SliceReader::new(ONE_GATE, 4096));
             let mut out = FromWrite::new(ArrayWriter::new(4096));
-            let _ = list(alloc, &search, &mut reader, &mut out, &mut counter);
+            let _ = answer(alloc, &search, &mut reader, &mut out, &mut counter);
         }
         Ok(Request::Ever(question)) => ever_observed(alloc, &question, &mut counter)?,
         Ok(Request::After(question)) => after_observed(alloc, &question, &mut counter),
         Ok(Request::Cover(question)) => {
             let mut reader = FromRead::new(SliceReader::new(VANISHING, 4096));
             let mut out = FromWrite::new(ArrayWriter::new(4096));
-            let _ = cover(alloc, &question, &mut reader, &mut out, &mut counter);
+            let _ = answer(alloc, &question, &mut reader, &mut out, &mut counter);
         }
         Ok(Request::Check) => {}
         Ok(Request::Diagnose(_asked)) => {}
