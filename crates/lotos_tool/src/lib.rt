@@ -4,8 +4,8 @@
 //! [`request`] reads the words, [`check_text`] reads a text and writes its processes, [`answer`] reads a text and writes
 //! the answer to the question of a [`Command`], which is a request for a listing, a match, what can come after a sequence,
 //! or a cover, and [`run`] does what the words ask for and returns the exit status. [`run_args`] runs the program on the
-//! arguments of a process. Readers and writers are a [`Source`] and a [`Sink`]; [`FromRead`] and [`FromWrite`] make them
-//! from std's.
+//! arguments of a process, and [`run_process`] on its standard streams too. Readers and writers are a [`Source`] and a
+//! [`Sink`]; [`FromRead`] and [`FromWrite`] make them from std's.
 #![tactic(auto)]
 
 mod after_command;
@@ -20,6 +20,7 @@ mod interface;
 mod listing_halt;
 mod listing_output;
 mod listing_search;
+mod process;
 mod program;
 mod question_parts;
 mod rejection;
@@ -42,6 +43,7 @@ pub use lotos_listing::{NoProgress, Progress, Searched};
 pub use lotos_outcome::{Ended, Finding, Refusal, Stop};
 pub use lotos_output::OutputProgress;
 pub use lotos_report::Messages;
+pub use process::{Streams, run_process};
 pub use program::{report_command_fault, run};
 pub use rejection::Rejection;
 pub use search_command::SearchParts;
