@@ -1,2 +1,7 @@
 pub mod Outcomes
 pub mod Calls
+pub mod UnknownGates
+pub mod Interfaces
+pub mod QuestionParts
+pub mod RefusalCauses
+pub mod Rejections

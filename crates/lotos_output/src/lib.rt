@@ -11,7 +11,6 @@ mod item_runs;
 mod named_runs;
 mod output_flush;
 mod output_lines;
-mod output_progress;
 mod run_names;
 
 pub use item_runs::ItemRuns;
@@ -21,5 +20,4 @@ pub use output_lines::{
     append_round, append_run, format_labels, format_next, format_processes, format_sequence,
     format_sequence_after,
 };
-pub use output_progress::OutputProgress;
 pub use run_names::RunNames;

@@ -24,7 +24,7 @@ pub use messages::{
     report_text, report_too_many_states, report_too_many_terms, report_unread_arguments,
 };
 pub use muted_stream::MutedStream;
-pub use name_hints::{NameHint, NamePlaces, UnknownName, first_name_hint, warn_of_names};
+pub use name_hints::{NameHint, NamePlaces, first_name_hint, warn_of_names};
 pub use no_match::report_no_match;
 pub use progress_report::{ProgressReport, Visited};
 pub use warning_lines::write_warnings;

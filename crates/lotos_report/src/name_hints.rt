@@ -4,7 +4,7 @@
 use crate::element_hints::write_element_hint;
 use lotos_command::Interface;
 use lotos_explain::{formal_gate, hidden_gate, similar_name};
-use lotos_outcome::NumberText;
+use lotos_outcome::{NumberText, UnknownName};
 use lotos_text::{Name, Specification, line_column};
 use std::alloc::{AllocError, Global};
 use std::fmt;
@@ -12,17 +12,6 @@ use std::io::Write;
 
 /// The most names for which hints are looked for: each walk goes through the whole specification.
 const MOST_HINTS: usize = 8;
-
-/// A name in a word that is no gate of the specification.
-#[derive(Debug, Drop)]
-pub struct UnknownName<'a> {
-    /// The number of the word, counted from 1.
-    pub word: usize,
-    /// The name as the word has it.
-    pub name: &'a str,
-    /// Whether the word has no other name.
-    pub alone: bool,
-}
 
 /// Where it is looked for what could be meant by a name: the gates that the question is about, the text of the
 /// specification, the specification, and the interface that leaves these gates of its own list.

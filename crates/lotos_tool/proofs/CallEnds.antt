@@ -14,9 +14,9 @@ use Rattle.lotos_outcome.specs.declared.outcome.Stop.TheVariants.{Limit, Memory,
 use Rattle.lotos_outcome.specs.declared.refusal.Refusal.{Refusal}
 use Rattle.lotos_output.specs.WholeOutput.{EndsWhole}
 use Rattle.lotos_output.specs.WholeOutput.EndsWhole.{broken_off, done}
-use Rattle.lotos_tool.specs.Rejections.{IsRejectionBy, end_of, is_reader_failure}
-use Rattle.lotos_tool.specs.declared.rejection.Rejection.{Rejection}
-use Rattle.lotos_tool.specs.declared.rejection.Rejection.TheVariants as rejection
+use Rattle.lotos_outcome.specs.Rejections.{IsRejectionBy, end_of, is_reader_failure}
+use Rattle.lotos_outcome.specs.declared.rejection.Rejection.{Rejection}
+use Rattle.lotos_outcome.specs.declared.rejection.Rejection.TheVariants as rejection
 
 -- what was written for a question was written for any question that is asked if that one is
 written_more : {Q : Type 0} (A B : Q → Type 0) (Said : Q → List ℕ → Type 0) (got got' : Option (List ℕ)) → ((q : Q) → A q → B q) →

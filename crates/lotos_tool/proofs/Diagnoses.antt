@@ -9,12 +9,12 @@ use Rattle.lotos_outcome.specs.Calls.{Call, EndsAs}
 use Rattle.lotos_outcome.specs.Outcomes.{is_unread, is_unwritten}
 use Rattle.lotos_outcome.specs.declared.outcome.Ended.{Ended}
 use Rattle.lotos_tool.specs.CheckOutcome.{check_answering, check_meaning}
-use Rattle.lotos_tool.specs.QuestionParts.{ReadsAccepted}
-use Rattle.lotos_tool.specs.RefusalCauses.{IsInputRefusal, IsTextRefusal}
-use Rattle.lotos_tool.specs.RefusalCauses.IsInputRefusal.{of_text}
+use Rattle.lotos_outcome.specs.QuestionParts.{ReadsAccepted}
+use Rattle.lotos_outcome.specs.RefusalCauses.{IsInputRefusal, IsTextRefusal}
+use Rattle.lotos_outcome.specs.RefusalCauses.IsInputRefusal.{of_text}
 use Rattle.lotos_tool.specs.declared.findings.Processes.{Processes}
 use Rattle.lotos_tool.proofs.CallEnds.{ends_as_more, ends_read}
-use Rattle.lotos_tool.proofs.Rejections.{text_was_read}
+use Rattle.lotos_outcome.proofs.Rejections.{text_was_read}
 
 -- the text was read, and its check ended so
 pub text_called : (from from' : SourceState) (to to' : SinkState) (text : List ℕ) (ended : Ended Processes (Unit {0})) →

@@ -15,7 +15,7 @@ use Rattle.lotos_pattern.specs.Spelling.{IsWord, NamesEach, Text, is_word_byte, 
 use Rattle.lotos_pattern.proofs.LabelNames.{each_is_word}
 use Rattle.lotos_terms.specs.TableView.{IsTableOf, TableView}
 use Rattle.lotos_after.specs.LabelWords.{HaveGates}
-use Rattle.lotos_tool.specs.UnknownGates.{HasNoUnknownGate}
+use Rattle.lotos_outcome.specs.UnknownGates.{HasNoUnknownGate}
 
 -- no letter is a comma
 letter_no_comma : (b : ℕ) → IsTrue (is_ascii_alphabetic b) → (b == 44) ≡ false

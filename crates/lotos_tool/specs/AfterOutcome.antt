@@ -12,9 +12,9 @@ use Rattle.lotos_outcome.specs.Calls.{Answering, Meaning}
 use Rattle.lotos_outcome.specs.declared.outcome.Stop.{Stop}
 use Rattle.lotos_outcome.specs.declared.outcome.Stop.TheVariants.{Terms, Write}
 use Rattle.lotos_output.specs.OutputLines.{IsTextOf, next_lines}
-use Rattle.lotos_tool.specs.QuestionParts.{ReadsAsked, words_of}
-use Rattle.lotos_tool.specs.RefusalCauses.{IsAfterRefusal}
-use Rattle.lotos_tool.specs.UnknownGates.{HasNoUnknownGate}
+use Rattle.lotos_outcome.specs.QuestionParts.{ReadsAsked, words_of}
+use Rattle.lotos_outcome.specs.RefusalCauses.{IsAfterRefusal}
+use Rattle.lotos_outcome.specs.UnknownGates.{HasNoUnknownGate}
 use Rattle.lotos_tool.specs.declared.findings.Continuation.{Continuation}
 use Rattle.lotos_tool.specs.declared.findings.Continuation.TheVariants.{CannotCome, Followed}
 use Rattle.lotos_command.specs.declared.command.AfterRequest.{AfterRequest}

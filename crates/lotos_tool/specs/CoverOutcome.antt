@@ -8,8 +8,8 @@ use Rattle.lotos_cover.specs.CoverSteps.{CoverState}
 use Rattle.lotos_outcome.specs.Calls.{Answering, Meaning}
 use Rattle.lotos_tool.specs.ListingOutcome.{listing_answering}
 use Rattle.lotos_tool.specs.ListingQuestions.{ListingAsked, asked_by, by_cover, cover_state}
-use Rattle.lotos_tool.specs.QuestionParts.{IsMarkOf, ReadsAsked}
-use Rattle.lotos_tool.specs.RefusalCauses.{IsCoverRefusal}
+use Rattle.lotos_outcome.specs.QuestionParts.{IsMarkOf, ReadsAsked}
+use Rattle.lotos_outcome.specs.RefusalCauses.{IsCoverRefusal}
 use Rattle.lotos_tool.specs.declared.findings.Listed.{Listed}
 use Rattle.lotos_tool.specs.declared.findings.ListingPlace.{ListingPlace}
 use Rattle.lotos_tool.specs.declared.listing_output.ListingOptions.{ListingOptions}

@@ -1,9 +1,4 @@
 pub mod Findings
-pub mod UnknownGates
-pub mod Interfaces
-pub mod QuestionParts
-pub mod RefusalCauses
-pub mod Rejections
 pub mod ListingQuestions
 pub mod ListingOutcome
 pub mod SearchOutcome

@@ -13,10 +13,7 @@ ghost use Rattle.lotos_tool.specs.AfterParts.{HasAnswer, HasNoAnswer, IsAnswer, 
 
 use crate::command::Command;
 use crate::findings::Continuation;
-use crate::question_parts::refuse_unknown_gates;
-use crate::rejection::Rejection;
 use crate::search_observer::Observed;
-use crate::specification_input::read_asked;
 use lotos_after::{FollowFault, Followed, check_label_words, follow, labels_of_words};
 use lotos_check::Checked;
 use lotos_command::AfterRequest;
@@ -24,8 +21,8 @@ use lotos_device::{Sink, Source};
 use lotos_ever::laws::table_has_match_question;
 use lotos_listing::{Progress, Searched};
 use lotos_normal::NormalTable;
-use lotos_outcome::{Ended, Stop};
-use lotos_output::{OutputProgress, format_labels, format_next, write_whole};
+use lotos_outcome::{Ended, OutputProgress, Rejection, Stop, read_asked, refuse_unknown_gates};
+use lotos_output::{format_labels, format_next, write_whole};
 use lotos_report::{
     AskedWords, Visited, WordCommand, report_end, report_label, report_too_many_terms,
 };

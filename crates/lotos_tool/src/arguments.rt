@@ -4,9 +4,8 @@ ghost use Rattle.std.specs.Vec.Iter.{into_iter_items};
 ghost use Rattle.lotos_tool.specs.ProgramRuns.{NoArgumentRead, ProgramRan};
 
 use crate::program::run;
-use crate::question_parts::borrow_texts;
 use lotos_device::{Sink, Source};
-use lotos_outcome::Stop;
+use lotos_outcome::{Stop, borrow_texts};
 use lotos_report::{Messages, report_failure, report_unread_arguments};
 use std::alloc::{AllocError, Global};
 use std::env::Args;

@@ -6,11 +6,9 @@ ghost use Rattle.lotos_outcome.specs.Outcomes.{is_unwritten};
 ghost use Rattle.lotos_tool.specs.CheckOutcome.{check_answering, check_meaning};
 
 use crate::findings::Processes;
-use crate::rejection::end_of;
-use crate::specification_input::read_specification;
 use lotos_check::Checked;
 use lotos_device::{Sink, Source};
-use lotos_outcome::{Ended, Stop};
+use lotos_outcome::{Ended, Stop, end_of, read_specification};
 use lotos_output::{format_processes, write_whole};
 use std::alloc::Global;
 

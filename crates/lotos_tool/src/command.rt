@@ -2,12 +2,10 @@
 ghost use Rattle.std.specs.Prelude.{◌≡◌, false};
 ghost use Rattle.lotos_outcome.specs.Calls.{Call, Ran};
 
-use crate::rejection::{Rejection, end_of};
 use crate::search_observer::{Noted, Observed, SearchObserver};
 use lotos_device::{Sink, Source};
 use lotos_listing::Searched;
-use lotos_outcome::{Ended, Finding};
-use lotos_output::OutputProgress;
+use lotos_outcome::{Ended, Finding, OutputProgress, Rejection, end_of};
 use lotos_report::{Messages, MutedStream, hint_after_refusal};
 use std::alloc::Global;
 use std::io::Write;
@@ -19,7 +17,7 @@ pub trait Command {
     ghost use Rattle.lotos_device.specs.TextInput.{TakesWithin};
     ghost use Rattle.lotos_outcome.specs.Calls.{Answered, Meaning};
     ghost use Rattle.lotos_outcome.specs.Outcomes.{is_unwritten};
-    ghost use Rattle.lotos_tool.specs.Rejections.{IsRejectionBy, is_input_failure};
+    ghost use Rattle.lotos_outcome.specs.Rejections.{IsRejectionBy, is_input_failure};
 
     /// What is read of its words and its text.
     type Parts: Drop;

@@ -16,10 +16,7 @@ ghost use Rattle.lotos_output.specs.WholeOutput.{EndsWhole};
 
 use crate::command::Command;
 use crate::findings::Occurrence;
-use crate::question_parts::{read_ever_pattern, refuse_unknown_gates};
-use crate::rejection::Rejection;
 use crate::search_observer::Observed;
-use crate::specification_input::read_asked;
 use lotos_check::Checked;
 use lotos_command::{EverRequest, Runs};
 use lotos_device::{Sink, Source};
@@ -28,9 +25,9 @@ use lotos_ever::{EndedMatch, Halt, find_shortest_match_with_end, name_run};
 use lotos_listing::{Progress, Searched};
 use lotos_normal::NormalTable;
 use lotos_origins::laws::origins_stay_in_table;
-use lotos_outcome::{Ended, Stop};
+use lotos_outcome::{Ended, OutputProgress, Rejection, Stop, read_asked, read_ever_pattern, refuse_unknown_gates};
 use lotos_output::{
-    OutputProgress, append_named_round, append_named_run, append_round, append_run,
+    append_named_round, append_named_run, append_round, append_run,
     format_sequence, write_whole,
 };
 use lotos_pattern::EverPattern;

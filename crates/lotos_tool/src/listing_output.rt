@@ -25,10 +25,8 @@ use lotos_command::Runs;
 use lotos_device::{DeviceFailed, Sink, write_bytes};
 use lotos_listing::Found;
 use lotos_listing::laws::strict_order;
-use lotos_outcome::{Ended, Stop};
-use lotos_output::{
-    ItemRuns, OutputProgress, flush_stopped, format_sequence, format_sequence_after,
-};
+use lotos_outcome::{Ended, OutputProgress, Stop};
+use lotos_output::{ItemRuns, flush_stopped, format_sequence, format_sequence_after};
 use lotos_report::{ListingStop, report_end, report_stop};
 use lotos_terms::Label;
 use lotos_terms::laws::label_text_is_unique;

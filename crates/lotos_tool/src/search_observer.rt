@@ -1,10 +1,9 @@
 //! The observer of a command that searches. What it writes to the error stream changes neither output nor status.
 
-use crate::unknown_names::unknown_names;
 use lotos_check::AcceptedText;
 use lotos_command::Interface;
 use lotos_listing::{Progress, Searched};
-use lotos_output::OutputProgress;
+use lotos_outcome::{OutputProgress, unknown_names};
 use lotos_report::{
     AskedWords, Messages, NameHint, NamePlaces, ProgressReport, Visited, first_name_hint,
     warn_of_names,

@@ -8,7 +8,7 @@ use Rattle.lotos_after.specs.Following.{IfTooMany, behaviour_of}
 use Rattle.lotos_after.specs.declared.follow_fault.FollowFault.TheVariants.{Memory}
 use Rattle.lotos_tool.specs.AfterOutcome.{IsAfterQuestionOf}
 use Rattle.lotos_tool.specs.AfterParts.{HasNoAnswer}
-use Rattle.lotos_tool.specs.QuestionParts.{words_of}
+use Rattle.lotos_outcome.specs.QuestionParts.{words_of}
 use Rattle.lotos_tool.proofs.AfterAnswers.{behaviour_is, err_more, no_answer}
 use Rattle.lotos_tool.proofs.KnownWords.{have_gates}
 use Rattle.lotos_tool.proofs.after_command.find_answer.Goals as goal

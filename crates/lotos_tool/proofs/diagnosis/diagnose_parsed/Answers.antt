@@ -4,7 +4,7 @@ use Rattle.lotos_check.specs.AcceptedText.{Accepted}
 use Rattle.lotos_check.specs.CheckedView.{system_of}
 use Rattle.lotos_outcome.specs.Calls.{EndsAs}
 use Rattle.lotos_tool.specs.CheckOutcome.{check_answering}
-use Rattle.lotos_tool.specs.RefusalCauses.{IsTextRefusal}
+use Rattle.lotos_outcome.specs.RefusalCauses.{IsTextRefusal}
 use Rattle.lotos_tool.proofs.CallEnds.{ends_more, rejected_ends}
 use Rattle.lotos_tool.proofs.diagnosis.diagnose_parsed.Goals as goal
 

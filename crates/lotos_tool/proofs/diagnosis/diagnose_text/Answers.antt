@@ -2,7 +2,7 @@ use Rattle.std.proofs.Common.{subst, sym}
 use Rattle.lotos_check.specs.AcceptedText.{Accepted}
 use Rattle.lotos_outcome.specs.Calls.{EndsAs}
 use Rattle.lotos_tool.specs.CheckOutcome.{check_answering}
-use Rattle.lotos_tool.specs.RefusalCauses.{IsTextRefusal}
+use Rattle.lotos_outcome.specs.RefusalCauses.{IsTextRefusal}
 use Rattle.lotos_tool.proofs.CallEnds.{rejected_ends}
 use Rattle.lotos_tool.proofs.diagnosis.diagnose_text.Goals as goal
 

@@ -2,10 +2,10 @@ use Rattle.std.proofs.Common.{refl}
 use Rattle.std.proofs.KnownBytes.{Keeps-refl}
 use Rattle.lotos_check.specs.CheckedView.{system_of}
 use Rattle.lotos_check.proofs.SameFault.{passed_on}
-use Rattle.lotos_tool.specs.RefusalCauses.{IsAfterRefusal}
-use Rattle.lotos_tool.specs.RefusalCauses.IsAfterRefusal.{of_gates, of_input, of_words}
-use Rattle.lotos_tool.specs.Rejections.{IsRejectionBy, word_rejection}
-use Rattle.lotos_tool.proofs.Rejections.{nothing_taken, rejects_more, word_rejected_for}
+use Rattle.lotos_outcome.specs.RefusalCauses.{IsAfterRefusal}
+use Rattle.lotos_outcome.specs.RefusalCauses.IsAfterRefusal.{of_gates, of_input, of_words}
+use Rattle.lotos_outcome.specs.Rejections.{IsRejectionBy, word_rejection}
+use Rattle.lotos_outcome.proofs.Rejections.{nothing_taken, rejects_more, word_rejected_for}
 use Rattle.lotos_tool.proofs.after_command.AfterRequestCommand.read_parts.Goals as goal
 
 pub returns-in_err-check_label_words-clause-rejected : goal.returns-in_err-check_label_words-clause-rejected

@@ -1,9 +1,9 @@
 use Rattle.std.proofs.KnownBytes.{Keeps-refl}
 use Rattle.lotos_check.proofs.SameFault.{passed_on}
-use Rattle.lotos_tool.specs.RefusalCauses.{IsCoverRefusal}
-use Rattle.lotos_tool.specs.RefusalCauses.IsCoverRefusal.{of_input, of_line}
-use Rattle.lotos_tool.specs.Rejections.{IsRejectionBy}
-use Rattle.lotos_tool.proofs.Rejections.{nothing_taken, rejects_more}
+use Rattle.lotos_outcome.specs.RefusalCauses.{IsCoverRefusal}
+use Rattle.lotos_outcome.specs.RefusalCauses.IsCoverRefusal.{of_input, of_line}
+use Rattle.lotos_outcome.specs.Rejections.{IsRejectionBy}
+use Rattle.lotos_outcome.proofs.Rejections.{nothing_taken, rejects_more}
 use Rattle.lotos_tool.proofs.cover_command.CoverRequestCommand.read_parts.Goals as goal
 
 pub returns-in_err-mark-clause-rejected : goal.returns-in_err-mark-clause-rejected

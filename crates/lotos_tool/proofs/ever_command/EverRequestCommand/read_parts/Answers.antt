@@ -2,10 +2,10 @@ use Rattle.std.proofs.Common.{refl}
 use Rattle.std.proofs.KnownBytes.{Keeps-refl}
 use Rattle.lotos_check.specs.CheckedView.{system_of}
 use Rattle.lotos_check.proofs.SameFault.{passed_on}
-use Rattle.lotos_tool.specs.RefusalCauses.{IsEverRefusal}
-use Rattle.lotos_tool.specs.RefusalCauses.IsEverRefusal.{of_gates, of_input, of_words}
-use Rattle.lotos_tool.specs.Rejections.{IsRejectionBy}
-use Rattle.lotos_tool.proofs.Rejections.{nothing_taken, rejects_more}
+use Rattle.lotos_outcome.specs.RefusalCauses.{IsEverRefusal}
+use Rattle.lotos_outcome.specs.RefusalCauses.IsEverRefusal.{of_gates, of_input, of_words}
+use Rattle.lotos_outcome.specs.Rejections.{IsRejectionBy}
+use Rattle.lotos_outcome.proofs.Rejections.{nothing_taken, rejects_more}
 use Rattle.lotos_tool.proofs.ever_command.EverRequestCommand.read_parts.Goals as goal
 
 pub returns-in_err-pattern-clause-rejected : goal.returns-in_err-pattern-clause-rejected

@@ -1,0 +1,3 @@
+pub mod Rejections
+pub mod Interfaces
+pub mod UnknownGates

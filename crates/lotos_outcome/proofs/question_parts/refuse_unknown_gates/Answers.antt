@@ -1,0 +1,17 @@
+use Rattle.std.proofs.Common.{◌≡◌, rules, true}
+use Rattle.lotos_check.proofs.SameFault.{passed_on}
+use Rattle.lotos_check.specs.CheckedView.{system_of}
+use Rattle.lotos_outcome.specs.QuestionParts.{words_of}
+use Rattle.lotos_outcome.specs.RefusalCauses.{IsGateRefusal}
+use Rattle.lotos_outcome.specs.RefusalCauses.IsGateRefusal.{unknown_gate}
+use Rattle.lotos_outcome.specs.Rejections.{IsRejectionBy}
+use Rattle.lotos_outcome.specs.declared.rejection.Rejection.TheVariants.{Memory}
+use Rattle.lotos_outcome.proofs.question_parts.refuse_unknown_gates.Goals as goal
+
+pub returns-in_err-number-clause-rejected : goal.returns-in_err-number-clause-rejected
+returns-in_err-number-clause-rejected c =
+    passed_on (IsRejectionBy (IsGateRefusal (system_of c.args.system.now).formals (words_of c.args.words.now))) c.from_residual.result Memory
+    c.from_residual.ensures.1 tt
+
+pub returns-in-Some-clause-rejected : goal.returns-in-Some-clause-rejected
+returns-in-Some-clause-rejected c = unknown_gate c.in-Some.number (rw c.in-Some.is at c.in_ok-number.ensures)
