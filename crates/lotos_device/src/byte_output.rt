@@ -10,8 +10,10 @@ use crate::device::{DeviceFailed, Sink};
 /// them.
 pub fn write_bytes<W: Sink>(writer: &mut W, bytes: &[u8]) -> Result<(), DeviceFailed>
     requires { (W.state writer.old).has_failed ≡ false }
-    ensures whole { OnOk result (Appends (W.state writer.old).written (W.state writer.new).written bytes.now) }
-    ensures part { OnErr result (AppendsPart (W.state writer.old).written (W.state writer.new).written bytes.now) }
+    ensures whole { OnOk result
+        (Appends (W.state writer.old).written (W.state writer.new).written bytes.now) }
+    ensures part { OnErr result
+        (AppendsPart (W.state writer.old).written (W.state writer.new).written bytes.now) }
     ensures flag { SetsFailed (W.state writer.old).has_failed (W.state writer.new).has_failed result }
 {
     let mut at = 0;

@@ -44,7 +44,8 @@ pub fn read_text<R: Source>(
     ensures whole { IfOk result (λ text.
         ReadsAll (R.state reader.old).remaining (R.state reader.new).remaining limit text.items) }
     ensures given { (R.state reader.new).given ≤ (R.state reader.old).given + (limit + 1) }
-    ensures whole_given { IfOk result (λ text. (R.state reader.new).given ≡ (R.state reader.old).given + length text.items) }
+    ensures whole_given { IfOk result (λ text.
+        (R.state reader.new).given ≡ (R.state reader.old).given + length text.items) }
     ensures one_more_given { IsErrOf result ReadFault.TooLong →
         (R.state reader.new).given ≡ (R.state reader.old).given + (limit + 1) }
     ensures failed { (R.state reader.new).has_failed ≡ is_device_fault result }

@@ -31,19 +31,19 @@ pub record Meaning (F P : Type 0) : Type 1 where
   pub Reads : (left left' : Option (List ℕ)) → answering.Question → Type 0
 
 -- one of these questions is asked, and exactly the bytes of which `Said` holds were written
-pub record IsWritten {Q : Type 0} (Asked : Q → Type 0) (Said : Q → List ℕ → Type 0) (got got' : Option (List ℕ)) : Type 0
-  where
-    pub question : Q
-    pub bytes : List ℕ
-    pub asked : Asked question
-    pub said : Said question bytes
-    pub written : Appends got got' bytes
+pub record IsWritten {Q : Type 0} (Asked : Q → Type 0) (Said : Q → List ℕ → Type 0) (got got' : Option (List ℕ))
+    : Type 0 where
+  pub question : Q
+  pub bytes : List ℕ
+  pub asked : Asked question
+  pub said : Said question bytes
+  pub written : Appends got got' bytes
 
 -- what each end of a call means, if `Refuses` is why it is refused and `Asked` holds of the question: all was found and
 -- written; or it is refused, and nothing was written; or it stopped where it may, with what was written until then. If
 -- memory runs out, that may be before it has looked for an answer, and then nothing was written
-abbrev pub EndsAs : {F P : Type 0} → (a : Answering F P) → (Refuses : Refusal → Type 0) → (Asked : a.Question → Type 0) →
-    (got got' : Option (List ℕ)) → Ended F P → Type 0
+abbrev pub EndsAs : {F P : Type 0} → (a : Answering F P) → (Refuses : Refusal → Type 0) →
+    (Asked : a.Question → Type 0) → (got got' : Option (List ℕ)) → Ended F P → Type 0
 EndsAs a Refuses Asked got got' (Done found) = IsWritten Asked (λ q. a.Answers q found) got got'
 EndsAs a Refuses Asked got got' (Refused cause) = Refuses cause × Keeps got got'
 EndsAs a Refuses Asked got got' (Stopped Memory place) =
@@ -51,8 +51,8 @@ EndsAs a Refuses Asked got got' (Stopped Memory place) =
 EndsAs a Refuses Asked got got' (Stopped cause place) = IsWritten Asked (λ q. a.Stops q cause place) got got'
 
 -- the same of a call that is not refused
-abbrev pub Answered : {F P : Type 0} → (a : Answering F P) → (Asked : a.Question → Type 0) → (got got' : Option (List ℕ)) →
-    Ended F P → Type 0
+abbrev pub Answered : {F P : Type 0} → (a : Answering F P) → (Asked : a.Question → Type 0) →
+    (got got' : Option (List ℕ)) → Ended F P → Type 0
 Answered a Asked got got' ended = EndsAs a (λ cause. ⊥) Asked got got' ended
 
 module _ {F P : Type 0} (m : Meaning F P) where

@@ -125,7 +125,7 @@ pub data IsWordRefusal (strong : Bool) (words : List (List ℕ)) : Refusal → T
 pub data IsGateRefusal (gates : List Name) (words : List (List ℕ)) : Refusal → Type 0 where
   unknown_gate : (n : ℕ) → IsFirstUnknownGate gates words n → IsGateRefusal gates words (refusal.E49 n)
 
--- ---- what each command refuses, in the order in which it looks; nothing was read where the words or the line are refused
+-- ---- what each command refuses, in the order in which it looks; nothing was read where words or a line are refused
 
 -- `search`: words that spell no pattern, a line that is none of a listing, the text and the interface, and words that
 -- name a gate that the system that is asked has not, if the request refuses that
@@ -162,5 +162,6 @@ pub data IsAfterRefusal (request : AfterRequest) (left left' : Option (List ℕ)
 
 -- `cover`: a line that is none of a listing, and the text and the interface
 pub data IsCoverRefusal (request : CoverRequest) (left left' : Option (List ℕ)) (cause : Refusal) : Type 0 where
-  of_line : Keeps left left' → IsMarkRefusal request.strong request.after cause → IsCoverRefusal request left left' cause
+  of_line : Keeps left left' → IsMarkRefusal request.strong request.after cause →
+      IsCoverRefusal request left left' cause
   of_input : IsInterfaceRefusal request.interface left left' cause → IsCoverRefusal request left left' cause

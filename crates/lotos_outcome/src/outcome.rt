@@ -45,7 +45,8 @@ pub trait Finding {
 impl<F, P> Ended<F, P> {
     /// Why the command is refused, if it is.
     pub fn refusal(&self) -> Option<&Refusal>
-        ensures { MatchOption result (refusal_of self.now ≡ None) (λ refusal. refusal_of self.now ≡ Some refusal.now) }
+        ensures { MatchOption result (refusal_of self.now ≡ None)
+            (λ refusal. refusal_of self.now ≡ Some refusal.now) }
     {
         match self {
             Ended::Refused(refusal) => Some(refusal),

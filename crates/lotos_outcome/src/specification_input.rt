@@ -48,7 +48,8 @@ pub fn read_asked<R: Source, P: OutputProgress>(
 ) -> Result<Checked, Rejection>
     requires { (R.state reader.old).has_failed ≡ false }
     ensures accepted { IfOk result (λ system.
-        ReadsAsked interface.now (R.state reader.old).remaining (R.state reader.new).remaining (system_of system)) }
+        ReadsAsked interface.now (R.state reader.old).remaining (R.state reader.new).remaining
+        (system_of system)) }
     ensures refused { IfErr result (IsRejectionBy (IsInterfaceRefusal interface.now
         (R.state reader.old).remaining (R.state reader.new).remaining)) }
     ensures takes { TakesWithin (R.state reader.old) (R.state reader.new) (max_text_length + 1) }

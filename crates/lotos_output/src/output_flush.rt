@@ -23,7 +23,8 @@ pub fn flush_stopped<W: Sink>(writer: &mut W, cause: Stop) -> Stop
 /// Writes the bytes, which are the whole output, and flushes it once if no write fails.
 pub fn write_and_flush<W: Sink>(writer: &mut W, bytes: &[u8]) -> Result<(), DeviceFailed>
     requires { (W.state writer.old).has_failed ≡ false }
-    ensures whole { OnOk result (Appends (W.state writer.old).written (W.state writer.new).written bytes.now) }
+    ensures whole { OnOk result
+        (Appends (W.state writer.old).written (W.state writer.new).written bytes.now) }
     ensures beginning { OnErr result
         (AppendsBeginning (W.state writer.old).written (W.state writer.new).written bytes.now) }
     ensures failed { (W.state writer.new).has_failed ≡ is_err result }
@@ -41,7 +42,8 @@ pub fn write_whole<F: Drop, P: Drop, W: Sink>(
     place: P,
 ) -> Ended<F, P>
     requires { (W.state writer.old).has_failed ≡ false }
-    ensures whole { EndsWhole bytes.now found place (W.state writer.old).written (W.state writer.new).written result }
+    ensures whole { EndsWhole bytes.now found place (W.state writer.old).written
+        (W.state writer.new).written result }
     ensures failed { (W.state writer.new).has_failed ≡ is_unwritten result }
 {
     match write_and_flush(writer, bytes) {

@@ -58,7 +58,7 @@ cover_meaning request = record {
 }
 
 -- a search that has returned no line yet, for the request's question about this system, after this mark
-pub record IsCoverSearchFor (request : CoverRequest) (system : System) (mark : Option (List Label)) (search : CoverState)
-    : Type 0 where
+pub record IsCoverSearchFor (request : CoverRequest) (system : System) (mark : Option (List Label))
+    (search : CoverState) : Type 0 where
   pub asks : IsCoverAskedOf request system mark (asked_by (cover_state search))
   pub stage : search.stage ≡ running

@@ -31,7 +31,8 @@ IsPrefixStop r failed _ prefix = ⊥
 
 -- the cause of a stop at a halt, and the text of its prefix: the first sequence at which the listing stops is an
 -- oversized prefix, with this text, or leads to one set too many; or memory ran out, or the writer failed
-abbrev pub IsHaltCause : ListingQuestion → Option (List Label) → (failed : Bool) → Stop → Option (String Global) → Type 0
+abbrev pub IsHaltCause : ListingQuestion → Option (List Label) → (failed : Bool) → Stop → Option (String Global) →
+    Type 0
 IsHaltCause q cursor failed Limit prefix = ⊥
 IsHaltCause q cursor failed Terms prefix =
     (r : List Label) × (option_map string_bytes prefix ≡ Some (sequence_text r)) × IsFirstStop q cursor r

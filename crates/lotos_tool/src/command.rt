@@ -47,7 +47,8 @@ pub trait Command {
         progress: &mut P,
     ) -> Result<Self::Parts, Rejection>
         requires reader { (R.state reader.old).has_failed ≡ false }
-        ensures parts { IfOk result (are_parts self.now (R.state reader.old).remaining (R.state reader.new).remaining) }
+        ensures parts { IfOk result
+            (are_parts self.now (R.state reader.old).remaining (R.state reader.new).remaining) }
         ensures rejected { IfErr result (IsRejectionBy ((meaning self.now).Refuses
             (R.state reader.old).remaining (R.state reader.new).remaining)) }
         ensures takes { TakesWithin (R.state reader.old) (R.state reader.new) (max_text_length + 1) }

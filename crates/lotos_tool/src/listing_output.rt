@@ -133,7 +133,8 @@ fn end_listing<W: Sink>(
     lines: u64,
 ) -> Ended<Listed, ListingPlace>
     requires { (W.state writer.old).has_failed ≡ false }
-    ensures finished { IsFinished (W.state writer.old).written (W.state writer.new).written last lines result }
+    ensures finished { IsFinished (W.state writer.old).written (W.state writer.new).written
+        last lines result }
     ensures failed { (W.state writer.new).has_failed ≡ is_unwritten result }
 {
     match writer.flush() {
@@ -174,14 +175,17 @@ fn write_item<S: ListingSearch, W: Sink>(
     ensures same { runs_view runs.new ≡ runs_view runs.old }
     ensures whole { OnOk result ((item : Item) ×
         IsWrittenItem (names_of (S.state search.now).question) (runs_view runs.old) found.now item ×
-        Appends (W.state writer.old).written (W.state writer.new).written (item_line (runs_view runs.old) item)) }
+        Appends (W.state writer.old).written (W.state writer.new).written
+        (item_line (runs_view runs.old) item)) }
     ensures text { IfOk result (λ text. (s : List Text) →
         ArePrinted (names_of (S.state search.now).question) found.now.sequence.items s →
         string_bytes text ≡ sequence_text s) }
-    ensures memory { IsErrOf result Stop.Memory → Keeps (W.state writer.old).written (W.state writer.new).written }
+    ensures memory { IsErrOf result Stop.Memory →
+        Keeps (W.state writer.old).written (W.state writer.new).written }
     ensures part { IsErrOf result Stop.Write → (item : Item) ×
         IsWrittenItem (names_of (S.state search.now).question) (runs_view runs.old) found.now item ×
-        AppendsPart (W.state writer.old).written (W.state writer.new).written (item_line (runs_view runs.old) item) }
+        AppendsPart (W.state writer.old).written (W.state writer.new).written
+        (item_line (runs_view runs.old) item) }
     ensures causes { IfErr result (λ cause. (cause ≡ Stop.Memory) ⊎ (cause ≡ Stop.Write)) }
     ensures failed { (W.state writer.new).has_failed ≡ is_write_fault result }
 {
@@ -233,7 +237,8 @@ fn stop_at_halt<S: ListingSearch, W: Sink>(
     requires unfailed { (W.state writer.old).has_failed ≡ false }
     ensures kept { Keeps (W.state writer.old).written (W.state writer.new).written }
     ensures stop { (cursor : Option (List Text)) → IsHalt (S.state search.now).question cursor halt.now →
-        IsHaltCause (S.state search.now).question cursor (W.state writer.new).has_failed result.cause result.prefix }
+        IsHaltCause (S.state search.now).question cursor (W.state writer.new).has_failed
+        result.cause result.prefix }
 {
     match halt {
         ListingHalt::OverTerms(prefix) => {

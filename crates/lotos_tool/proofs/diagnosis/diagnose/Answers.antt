@@ -10,7 +10,8 @@ use Rattle.lotos_tool.proofs.diagnosis.diagnose.Goals as goal
 pub returns-in-Ok : goal.returns-in-Ok
 returns-in-Ok g c =
     text_called _ _ _ _ c.as_slice.result.now c.diagnose_text.result
-    (subst (ReadsAll (g.R.Source.state c.args.reader.now).remaining (g.R.Source.state c.read_input.new.reader).remaining max_text_length) (sym c.as_slice.ensures.value) c.in-Ok.ensures.whole) c.in-Ok.ensures.takes c.in-Ok.ensures.failed
+    (subst (ReadsAll (g.R.Source.state c.args.reader.now).remaining (g.R.Source.state c.read_input.new.reader).remaining max_text_length)
+    (sym c.as_slice.ensures.value) c.in-Ok.ensures.whole) c.in-Ok.ensures.takes c.in-Ok.ensures.failed
     c.diagnose_text.ensures.ends c.diagnose_text.ensures.failed
 
 pub returns-in-Err : goal.returns-in-Err

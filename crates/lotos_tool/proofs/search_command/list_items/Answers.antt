@@ -9,8 +9,8 @@ write_listing-requires-clause-runs g c = c.requires.runs (depth_state c.in-Ok.se
 
 pub returns-in-Ok-clause-ends : goal.returns-in-Ok-clause-ends
 returns-in-Ok-clause-ends g c =
-    ends_more (search_answering c.args.request.now) _ _ _ _ _ c.write_listing.result (asked_here c.args.request.now _ _ _ (depth_state c.in-Ok.search) c.in-Ok.ensures)
-    c.write_listing.ensures.ends
+    ends_more (search_answering c.args.request.now) _ _ _ _ _ c.write_listing.result
+    (asked_here c.args.request.now _ _ _ (depth_state c.in-Ok.search) c.in-Ok.ensures) c.write_listing.ensures.ends
 
 pub write_listing-requires-in-Ok-begin_by_length-clause-runs : goal.write_listing-requires-in-Ok-begin_by_length-clause-runs
 write_listing-requires-in-Ok-begin_by_length-clause-runs g c =
@@ -19,4 +19,5 @@ write_listing-requires-in-Ok-begin_by_length-clause-runs g c =
 pub returns-in-Ok-begin_by_length-clause-ends : goal.returns-in-Ok-begin_by_length-clause-ends
 returns-in-Ok-begin_by_length-clause-ends g c =
     ends_more (search_answering c.args.request.now) _ _ _ _ _ c.write_listing-in-Ok-begin_by_length.result
-    (asked_here c.args.request.now _ _ _ (length_state c.in-Ok-begin_by_length.search) c.in-Ok-begin_by_length.ensures) c.write_listing-in-Ok-begin_by_length.ensures.ends
+    (asked_here c.args.request.now _ _ _ (length_state c.in-Ok-begin_by_length.search) c.in-Ok-begin_by_length.ensures)
+    c.write_listing-in-Ok-begin_by_length.ensures.ends

@@ -19,8 +19,9 @@ returns-in-Ok-Lines-clause-ends g c = λ left left' are.
 pub returns-in-Ok-NoLabel-clause-ends : goal.returns-in-Ok-NoLabel-clause-ends
 returns-in-Ok-NoLabel-clause-ends g c = λ left left' are.
     let got = (g.W.Sink.state c.args.writer.now).written in
-    ends_more (after_answering c.args.self.now) (λ cause. ⊥) (IsAfterQuestionOf c.args.self.now (system_of c.args.parts)) (ReadsAfter c.args.self.now left left')
-    got got (Done (CannotCome c.in-Ok-NoLabel.number c.in-Ok-NoLabel.instead)) (asks_after c.args.self.now left left' (system_of c.args.parts) are)
+    ends_more (after_answering c.args.self.now) (λ cause. ⊥) (IsAfterQuestionOf c.args.self.now (system_of c.args.parts))
+    (ReadsAfter c.args.self.now left left') got got
+    (Done (CannotCome c.in-Ok-NoLabel.number c.in-Ok-NoLabel.instead)) (asks_after c.args.self.now left left' (system_of c.args.parts) are)
     (label_refused c.args.self.now (system_of c.args.parts) c.in-Ok-NoLabel.number c.in-Ok-NoLabel.instead got
     (rw c.in-Ok-NoLabel.field-0-is at c.in-Ok-NoLabel.ensures.answer))
 
