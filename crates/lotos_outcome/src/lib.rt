@@ -16,7 +16,7 @@ mod rejection;
 mod shown;
 mod specification_input;
 mod unknown_gates;
-mod unknown_names;
+mod unknown_name;
 
 pub use outcome::{Ended, Finding, Stop};
 pub use output_progress::OutputProgress;
@@ -27,4 +27,4 @@ pub use refusal::Refusal;
 pub use rejection::{Rejection, end_of};
 pub use shown::{GivenName, NumberText, PositionText};
 pub use specification_input::{read_asked, read_input, read_specification, reject};
-pub use unknown_names::{UnknownName, unknown_names};
+pub use unknown_name::{UnknownName, unknown_names};

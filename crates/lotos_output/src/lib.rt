@@ -3,8 +3,7 @@
 //! [`format_sequence`], [`format_sequence_after`], [`append_run`], [`append_round`], [`format_next`], [`format_labels`]
 //! and [`format_processes`] compose the text of a sequence and the lines of each command; [`append_named_run`] and
 //! [`append_named_round`] write internal steps by what makes them. [`ItemRuns`] writes the runs of a listing's items.
-//! [`flush_stopped`], [`write_and_flush`] and [`write_whole`] end the output with one flush, and tell whether it failed. An
-//! [`OutputProgress`] is told of each line before it is written.
+//! [`flush_stopped`], [`write_and_flush`] and [`write_whole`] end the output with one flush, and tell whether it failed.
 #![tactic(auto)]
 
 mod item_runs;

@@ -25,10 +25,11 @@ use lotos_ever::{EndedMatch, Halt, find_shortest_match_with_end, name_run};
 use lotos_listing::{Progress, Searched};
 use lotos_normal::NormalTable;
 use lotos_origins::laws::origins_stay_in_table;
-use lotos_outcome::{Ended, OutputProgress, Rejection, Stop, read_asked, read_ever_pattern, refuse_unknown_gates};
+use lotos_outcome::{
+    Ended, OutputProgress, Rejection, Stop, read_asked, read_ever_pattern, refuse_unknown_gates,
+};
 use lotos_output::{
-    append_named_round, append_named_run, append_round, append_run,
-    format_sequence, write_whole,
+    append_named_round, append_named_run, append_round, append_run, format_sequence, write_whole,
 };
 use lotos_pattern::EverPattern;
 use lotos_report::{

@@ -23,7 +23,9 @@ use lotos_length::LengthSearch;
 use lotos_length::laws::begun_length_search_has_question;
 use lotos_listing::{Mark, Searched};
 use lotos_normal::NormalTable;
-use lotos_outcome::{Ended, OutputProgress, Rejection, read_asked, read_mark, read_pattern, refuse_unknown_gates};
+use lotos_outcome::{
+    Ended, OutputProgress, Rejection, read_asked, read_mark, read_pattern, refuse_unknown_gates,
+};
 use lotos_output::ItemRuns;
 use lotos_pattern::Pattern;
 use lotos_report::{AskedWords, Visited, WordCommand};
