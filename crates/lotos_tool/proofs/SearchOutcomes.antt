@@ -11,7 +11,7 @@ use Rattle.lotos_listing.specs.Question.{IsQuestionOf}
 use Rattle.lotos_length.specs.LengthListings.{IsLengthQuestionOf, LengthQuestion}
 use Rattle.lotos_length.specs.LengthSteps as length
 use Rattle.lotos_length.specs.LengthSteps.{LengthState}
-use Rattle.lotos_ever.specs.MatchQuestions.{IsMatchQuestionOf, MatchQuestion}
+use Rattle.lotos_runs.specs.MatchQuestions.{IsMatchQuestionOf, MatchQuestion}
 use Rattle.std.specs.Prelude.{Err, IfOk, Ok, Result}
 use Rattle.lotos_output.specs.ItemRuns.{IsAboutSystem, RunsView, labels, omitted, origins, runs_of, runs_view}
 use Rattle.lotos_output.specs.declared.item_runs.ItemRuns.{ItemRuns}

@@ -20,11 +20,11 @@ use lotos_after::{FollowFault, Followed, check_label_words, follow, labels_of_wo
 use lotos_check::Checked;
 use lotos_command::AfterRequest;
 use lotos_device::{DeviceFailed, Sink, Source};
-use lotos_ever::laws::table_has_match_question;
 use lotos_listing::Progress;
 use lotos_normal::NormalTable;
 use lotos_output::{OutputProgress, format_labels, format_next, write_and_flush};
 use lotos_report::{AfterEnded, AfterWhy};
+use lotos_runs::laws::table_has_match_question;
 use lotos_sets::FormSets;
 use lotos_text::Name;
 use std::alloc::{AllocError, Global};
