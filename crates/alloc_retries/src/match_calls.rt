@@ -1,7 +1,7 @@
 //! First matches.
 ghost use Rattle.std.specs.Prelude.{IfOk};
 ghost use Rattle.lotos_terms.specs.TableView.{AreLabels};
-ghost use Rattle.lotos_ever.specs.MatchQuestions.{HasLabels};
+ghost use Rattle.lotos_ever.specs.MatchAnswers.{HasLabels};
 
 use crate::front_end::normal_table_of;
 use crate::lines::{Line, put, put_blank, put_number};

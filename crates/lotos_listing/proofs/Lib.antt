@@ -23,3 +23,4 @@ pub mod Completions
 pub mod KnownTexts
 pub mod MemoKeys
 pub mod FlagsOfSets
+pub mod EndLaws

@@ -8,7 +8,7 @@ use Rattle.lotos_pattern.specs.Patterns.{Pattern}
 use Rattle.lotos_pattern.specs.declared.ever_pattern.EndKind.TheVariants as kinds
 use Rattle.lotos_listing.specs.Order.{Label}
 use Rattle.lotos_listing.specs.Question.{ArePrinted}
-use Rattle.lotos_ever.specs.MatchQuestions.{IsMatchQuestionOf, MatchQuestion, MayEndFor, match_question_of}
+use Rattle.lotos_runs.specs.MatchQuestions.{IsMatchQuestionOf, MatchQuestion, MayEndFor, match_question_of}
 use Rattle.lotos_ever.specs.NamedRuns.{EndsAsDemanded}
 use Rattle.lotos_output.specs.NamedRuns.{DerivesNamed}
 use Rattle.lotos_output.specs.declared.item_runs.ItemRuns.{ItemRuns}

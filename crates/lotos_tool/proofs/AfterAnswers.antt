@@ -12,7 +12,7 @@ use Rattle.lotos_pattern.specs.Patterns.{Pattern}
 use Rattle.lotos_listing.specs.Lookups.{term_at}
 use Rattle.lotos_listing.specs.Order.{Label}
 use Rattle.lotos_terms.specs.TableView.{TableView}
-use Rattle.lotos_ever.specs.MatchQuestions.{IsMatchQuestionOf, match_question_of}
+use Rattle.lotos_runs.specs.MatchQuestions.{IsMatchQuestionOf, match_question_of}
 use Rattle.lotos_sets.specs.FormSets.{FormSetsView}
 use Rattle.lotos_after.specs.Behaviours.{Behaviour, CanBeObserved, CanComeAfter, CanEndInDeadlock, IsBehaviourOf, IsFirstOversized}
 use Rattle.lotos_after.specs.Following.{IfTooMany, IsFollowed, behaviour_of}

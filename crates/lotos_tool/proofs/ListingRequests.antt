@@ -12,7 +12,7 @@ use Rattle.lotos_length.specs.LengthSteps.{LengthState}
 use Rattle.lotos_cover.specs.CoverListings.{CoverQuestion, IsCoverQuestionOf}
 use Rattle.lotos_cover.specs.CoverSteps as cover
 use Rattle.lotos_cover.specs.CoverSteps.{CoverState}
-use Rattle.lotos_ever.specs.MatchQuestions.{IsMatchQuestionOf, MatchQuestion}
+use Rattle.lotos_runs.specs.MatchQuestions.{IsMatchQuestionOf, MatchQuestion}
 use Rattle.std.specs.Prelude.{Err, IfOk, Ok, Result}
 use Rattle.lotos_output.specs.ItemRuns.{IsAboutSystem, RunsView, labels, omitted, origins, runs_of, runs_view}
 use Rattle.lotos_output.specs.NamedRuns.{writes_runs}

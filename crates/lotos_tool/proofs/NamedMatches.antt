@@ -14,10 +14,10 @@ use Rattle.lotos_origins.specs.Origins.{DerivesBy, InternalStep, IsOriginOver, e
 use Rattle.lotos_origins.specs.declared.origin.Origin.{Origin}
 use Rattle.lotos_origins.specs.declared.rounds.Round.{Round}
 use Rattle.lotos_origins.proofs.InternalSteps.{is_step}
-use Rattle.lotos_ever.specs.MatchQuestions.{match_question_of}
+use Rattle.lotos_runs.specs.MatchQuestions.{match_question_of}
 use Rattle.lotos_ever.specs.NamedRuns.{IsNamedRoundAt, IsNamedRoundOf, IsNamedRun}
 use Rattle.lotos_ever.specs.declared.named_run.NamedRun.{NamedRun}
-use Rattle.lotos_ever.proofs.SearchAnswers.{start_is}
+use Rattle.lotos_runs.proofs.TableQuestions.{start_is}
 use Rattle.lotos_output.specs.NamedRuns.{AreNamed, AreRoundNamed}
 use Rattle.lotos_output.specs.OutputLines.{round_text, round_text_if, run_text}
 use Rattle.lotos_output.proofs.NamedTexts.{IsOver, named_after, shown_along}

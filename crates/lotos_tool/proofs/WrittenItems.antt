@@ -13,7 +13,7 @@ use Rattle.lotos_listing.specs.Derivations.{Derives, MayEnd}
 use Rattle.lotos_listing.specs.Order.{Label}
 use Rattle.lotos_listing.specs.Question.{ArePrinted, PrintedStep, more_printed, none_printed}
 use Rattle.lotos_origins.specs.Origins.{DerivesByNumber}
-use Rattle.lotos_ever.specs.MatchQuestions.{MatchQuestion, MayEndFor}
+use Rattle.lotos_runs.specs.MatchQuestions.{MatchQuestion, MayEndFor}
 use Rattle.lotos_ever.specs.NamedRuns.{EndsAsDemanded}
 use Rattle.lotos_output.proofs.FormattedLines.{cut_first}
 use Rattle.lotos_output.specs.ItemRuns.{AreRunTexts, CanWriteRun, RunsView, labels, omitted, origins}

@@ -12,7 +12,7 @@ use Rattle.lotos_listing.specs.Order.{Label}
 use Rattle.lotos_listing.specs.Question.{ArePrinted}
 use Rattle.lotos_ends.specs.declared.lasso.Lasso.{Lasso}
 use Rattle.lotos_ever.specs.EndTests.{ReachesTooMany}
-use Rattle.lotos_ever.specs.MatchQuestions.{IsMatchQuestionOf, MayEndFor, match_question_of}
+use Rattle.lotos_runs.specs.MatchQuestions.{IsMatchQuestionOf, MayEndFor, match_question_of}
 use Rattle.lotos_ever.specs.declared.found.Halt.{Halt}
 use Rattle.lotos_ever.specs.declared.found.Halt.TheVariants as halt
 use Rattle.lotos_output.specs.NamedRuns.{DerivesNamed, writes_runs}

@@ -14,7 +14,7 @@ use Rattle.lotos_listing.specs.declared.found.Found.{Found}
 use Rattle.lotos_listing.specs.declared.found.Halt.{Halt}
 use Rattle.lotos_listing.specs.declared.found.Halt.TheVariants as halt
 use Rattle.lotos_search.specs.SearchSteps.{SearchState}
-use Rattle.lotos_ever.specs.MatchQuestions.{MatchQuestion, MayEndFor}
+use Rattle.lotos_runs.specs.MatchQuestions.{MatchQuestion, MayEndFor}
 use Rattle.lotos_length.specs.LengthListings as lengths
 use Rattle.lotos_length.specs.LengthSteps.{LengthState}
 use Rattle.lotos_cover.specs.CoverListings as covers

@@ -18,7 +18,6 @@ use lotos_after::{FollowFault, Followed, check_label_words, follow, labels_of_wo
 use lotos_check::Checked;
 use lotos_command::AfterRequest;
 use lotos_device::{Sink, Source};
-use lotos_ever::laws::table_has_match_question;
 use lotos_listing::{Progress, Searched};
 use lotos_normal::NormalTable;
 use lotos_outcome::{Ended, OutputProgress, Rejection, Stop, read_asked, refuse_unknown_gates};
@@ -26,6 +25,7 @@ use lotos_output::{format_labels, format_next, write_whole};
 use lotos_report::{
     AskedWords, Visited, WordCommand, report_end, report_label, report_too_many_terms,
 };
+use lotos_runs::laws::table_has_match_question;
 use lotos_sets::FormSets;
 use lotos_text::Name;
 use std::alloc::{AllocError, Global};

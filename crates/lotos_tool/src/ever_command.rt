@@ -3,7 +3,8 @@ ghost use Rattle.std.specs.Prelude.{◌≡◌, ◌+◌, ◌++◌, IfErr, IfOk, L
 ghost use Rattle.lotos_check.specs.CheckedView.{system_of};
 ghost use Rattle.lotos_check.specs.Flat.{System};
 ghost use Rattle.lotos_terms.specs.TableView.{IsTableOf};
-ghost use Rattle.lotos_ever.specs.MatchQuestions.{IsEndedMatch, match_question_of};
+ghost use Rattle.lotos_runs.specs.MatchQuestions.{match_question_of};
+ghost use Rattle.lotos_ever.specs.MatchAnswers.{IsEndedMatch};
 ghost use Rattle.lotos_ever.specs.NamedRuns.{EndsAsDemanded};
 ghost use Rattle.lotos_outcome.specs.Calls.{Answered};
 ghost use Rattle.lotos_outcome.specs.Outcomes.{is_unwritten};
@@ -20,7 +21,7 @@ use crate::search_observer::Observed;
 use lotos_check::Checked;
 use lotos_command::{EverRequest, Runs};
 use lotos_device::{Sink, Source};
-use lotos_ever::laws::{matches_end_as_demanded, table_has_match_question};
+use lotos_ever::laws::matches_end_as_demanded;
 use lotos_ever::{EndedMatch, Halt, find_shortest_match_with_end, name_run};
 use lotos_listing::{Progress, Searched};
 use lotos_normal::NormalTable;
@@ -35,6 +36,7 @@ use lotos_pattern::EverPattern;
 use lotos_report::{
     AskedWords, Visited, WordCommand, report_end, report_no_match, report_too_many_states,
 };
+use lotos_runs::laws::table_has_match_question;
 use lotos_terms::Label;
 use lotos_terms::laws::steps_stay_in_table;
 use lotos_text::Name;

@@ -18,7 +18,6 @@ use crate::search_observer::Observed;
 use lotos_check::Checked;
 use lotos_command::{Extent, Runs, SearchRequest};
 use lotos_device::{Sink, Source};
-use lotos_ever::laws::match_question_is_unique;
 use lotos_length::LengthSearch;
 use lotos_length::laws::begun_length_search_has_question;
 use lotos_listing::{Mark, Searched};
@@ -29,6 +28,7 @@ use lotos_outcome::{
 use lotos_output::ItemRuns;
 use lotos_pattern::Pattern;
 use lotos_report::{AskedWords, Visited, WordCommand};
+use lotos_runs::laws::match_question_is_unique;
 use lotos_search::Search;
 use lotos_search::laws::begun_search_has_question;
 use lotos_terms::Table;

@@ -1,7 +1,7 @@
 use Rattle.std.proofs.Common.{refl, string_bytes, subst, sym}
 use Rattle.std.proofs.lemmas.Result.{on_ok_weaker}
 use Rattle.lotos_terms.proofs.GrowingTables.{grows_same}
-use Rattle.lotos_ever.specs.MatchQuestions.{match_question_of}
+use Rattle.lotos_runs.specs.MatchQuestions.{match_question_of}
 use Rattle.lotos_ever.specs.NamedRuns.{EndsAsDemanded}
 use Rattle.lotos_tool.specs.EverParts.{HasTexts, IsRoundOf, question_about}
 use Rattle.lotos_tool.proofs.MatchOutcomes.{label_texts, omitted_texts, origin_texts, round_of}

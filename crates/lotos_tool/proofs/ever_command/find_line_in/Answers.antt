@@ -1,8 +1,9 @@
 use Rattle.std.proofs.Common.{ap, refl, subst, sym, ◌∙◌}
 use Rattle.std.specs.Prelude.{Err}
 use Rattle.std.proofs.lemmas.Result.{err_from_is_err_and}
-use Rattle.lotos_ever.specs.MatchQuestions.{IsEndedAnswer, IsEndedMatch, match_question_of}
-use Rattle.lotos_ever.proofs.SearchAnswers.{question_same}
+use Rattle.lotos_runs.specs.MatchQuestions.{match_question_of}
+use Rattle.lotos_ever.specs.MatchAnswers.{IsEndedAnswer, IsEndedMatch}
+use Rattle.lotos_runs.proofs.TableQuestions.{question_same}
 use Rattle.lotos_tool.specs.EverParts.{IsEverQuestionFor}
 use Rattle.lotos_tool.specs.EverOutcome.{EverQuestion, IsMatchLine}
 use Rattle.lotos_tool.proofs.MatchOutcomes.{handed_on, out_of_memory}

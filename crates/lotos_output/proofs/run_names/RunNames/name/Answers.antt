@@ -4,9 +4,9 @@ use Rattle.lotos_listing.specs.Order.{Label}
 use Rattle.lotos_terms.proofs.GrowingTables.{grows_same, grows_then}
 use Rattle.lotos_origins.specs.FollowedRuns.{IsFollowed}
 use Rattle.lotos_pattern.specs.declared.ever_pattern.EndKind.TheVariants as kinds
-use Rattle.lotos_ever.specs.MatchQuestions.{match_question_of}
+use Rattle.lotos_runs.specs.MatchQuestions.{match_question_of}
 use Rattle.lotos_ever.specs.NamedRuns.{IsNamedRun}
-use Rattle.lotos_ever.proofs.SearchAnswers.{question_same, start_is}
+use Rattle.lotos_runs.proofs.TableQuestions.{question_same, start_is}
 use Rattle.lotos_output.specs.ItemRuns.{question_of}
 use Rattle.lotos_output.specs.NamedRuns.{AreNamed}
 use Rattle.lotos_output.specs.RunNames.{RunNamesView}
