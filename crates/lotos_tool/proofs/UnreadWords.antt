@@ -24,8 +24,8 @@ pub unread : (words : List (List ℕ)) (from : SourceState) (to : SinkState) →
 unread words from to = record { unread = refl; reported = out_of_memory refl (Keeps-refl to.written); taken = λ t. refl }
 
 -- what ran from these states of its devices ran from those that are equal to them
-pub from_the_start : {A E : Type 0} (words_of : A → List (List ℕ)) (args : Result A E) (from start from' : SourceState) (to begin to' : SinkState) (status : ℕ) →
-    from ≡ start → to ≡ begin →
+pub from_the_start : {A E : Type 0} (words_of : A → List (List ℕ)) (args : Result A E) (from start from' : SourceState) (to begin to' : SinkState)
+    (status : ℕ) → from ≡ start → to ≡ begin →
     MatchResult args (λ words. ProgramRan (words_of words) from from' to to' status) (λ e. NoArgumentRead from from' to to' status) →
     MatchResult args (λ words. ProgramRan (words_of words) start from' begin to' status) (λ e. status ≡ 5)
 from_the_start words_of (Ok words) from start from' to begin to' status same alike ran =

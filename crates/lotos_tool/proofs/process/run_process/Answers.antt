@@ -7,7 +7,8 @@ use Rattle.lotos_tool.proofs.process.run_process.Goals as goal
 
 pub returns : goal.returns
 returns g c =
-    let from : source_of g.I.Read.remaining c.new-reader.result ≡ record { remaining = g.I.Read.remaining c.args.streams.input; given = 0; has_failed = false } =
+    let from :
+    source_of g.I.Read.remaining c.new-reader.result ≡ record { remaining = g.I.Read.remaining c.args.streams.input; given = 0; has_failed = false } =
     λ i. record {
       remaining = g.I.Read.remaining (c.new-reader.ensures.inner i);
       given = c.new-reader.ensures.given i;
