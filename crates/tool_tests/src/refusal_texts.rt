@@ -89,8 +89,13 @@ fn expect_refused(rt: &impl Abort, alloc: Global, refusal: Refusal) {
     let message = message_of(&refusal).as_bytes();
     let ended = Ended::Refused(refusal);
     expect_end(rt, &search_request(alloc), &ended, message, 2);
-    if let Ended::Refused(refusal) = ended {
-        expect_check(rt, &Ended::Refused(refusal), message, 2);
+    match ended {
+        Ended::Refused(refusal) => expect_check(rt, &Ended::Refused(refusal), message, 2),
+        Ended::Stopped {
+            cause: _cause,
+            place: _place,
+        } => {}
+        Ended::Done(_found) => {}
     }
 }
 
