@@ -22,7 +22,8 @@ pub trait Resumable: Drop {
     fn has_failed(&mut self) -> bool;
 }
 
-/// Writes the items after this one, and how the search ends that `begin` begins.
+/// Writes the items after this one, and how they end. `begin` begins a search after an item, and is called again with the
+/// last one if memory runs out.
 pub fn write_items<S: Resumable, F: Fn(&str) -> Result<S, Stop>>(
     heap: &Heap,
     line: &mut Line,

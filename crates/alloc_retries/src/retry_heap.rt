@@ -36,7 +36,7 @@ impl Heap {
         self.retried_on(&mut (), |_| call())
     }
 
-    /// The same for a call on what `state` has.
+    /// The same for a call that changes `state`. It may be made on what is there, and then on what a call left there.
     pub fn retried_on<S, T: Drop, E: Retryable, F: Fn(&mut S) -> Result<T, E>>(
         &self,
         state: &mut S,
@@ -85,7 +85,7 @@ impl Retryable for Stop {
 
 /// A fault of the libraries.
 pub trait Fault: Drop {
-    /// Whether it is that memory ran out.
+    /// Whether it is that memory ran out. Some have no other cause.
     fn is_memory(&self) -> bool {
         true
     }
