@@ -5,144 +5,68 @@ ghost use Rattle.lotos_listing.specs.Order.{Label as Text};
 ghost use Rattle.lotos_listing.specs.Question.{ArePrinted};
 ghost use Rattle.lotos_after.specs.LabelWords.{HasGate, HaveGates};
 
-use crate::lines::{Line, put, put_number};
-use crate::retried_sets::RetriedSets;
+use crate::lines::{Line, print_rows, put, put_labels};
+use crate::match_calls::Row;
 use crate::retry_heap::{Heap, Stop};
-use crate::set_calls::{HIDDEN_LOOP, HIDDEN_STOP, SAME_PREFIX};
-use lotos_after::{FollowFault, Followed, check_label_words, labels_of_words};
+use crate::set_calls::{HIDDEN_LOOP, HIDDEN_STOP, SAME_PREFIX, sets_of};
+use lotos_after::{FollowFault, Followed, check_label_words, follow, labels_of_words};
+use lotos_listing::NoProgress;
+use lotos_sets::FormSets;
 use lotos_terms::Label;
 use lotos_text::Name;
 use std::alloc::{AllocError, Global};
+use std::fmt::Write;
 
-/// What is followed.
-struct Question {
-    /// A specification.
-    text: &'static str,
-    /// The words of a sequence.
-    words: &'static [&'static str],
-    strong: bool,
-    /// The most terms of a set.
-    terms: usize,
-}
-
-const ROWS: &[Question] = &[
-    Question {
-        text: HIDDEN_LOOP,
-        words: &[],
-        strong: false,
-        terms: 9,
-    },
-    Question {
-        text: HIDDEN_LOOP,
-        words: &["a", "A"],
-        strong: false,
-        terms: 9,
-    },
-    Question {
-        text: HIDDEN_LOOP,
-        words: &["A", "B", "A"],
-        strong: false,
-        terms: 9,
-    },
-    Question {
-        text: HIDDEN_STOP,
-        words: &["A", "A"],
-        strong: false,
-        terms: 9,
-    },
-    Question {
-        text: HIDDEN_STOP,
-        words: &["A"],
-        strong: true,
-        terms: 9,
-    },
-    Question {
-        text: HIDDEN_STOP,
-        words: &["A", "I"],
-        strong: true,
-        terms: 9,
-    },
+/// Rows whose words are a sequence, and whose bound is the most terms of a set.
+const ROWS: &[Row] = &[
+    (HIDDEN_LOOP, &[], false, 9),
+    (HIDDEN_LOOP, &["a", "A"], false, 9),
+    (HIDDEN_LOOP, &["A", "B", "A"], false, 9),
+    (HIDDEN_STOP, &["A", "A"], false, 9),
+    (HIDDEN_STOP, &["A"], true, 9),
+    (HIDDEN_STOP, &["A", "I"], true, 9),
     // A bound that the sets reach, and the next ones.
-    Question {
-        text: SAME_PREFIX,
-        words: &["a", "exit"],
-        strong: false,
-        terms: 2,
-    },
-    Question {
-        text: SAME_PREFIX,
-        words: &["a", "exit"],
-        strong: false,
-        terms: 1,
-    },
-    Question {
-        text: SAME_PREFIX,
-        words: &["B"],
-        strong: false,
-        terms: 1,
-    },
-    Question {
-        text: SAME_PREFIX,
-        words: &["A"],
-        strong: false,
-        terms: 0,
-    },
+    (SAME_PREFIX, &["a", "exit"], false, 2),
+    (SAME_PREFIX, &["a", "exit"], false, 1),
+    (SAME_PREFIX, &["B"], false, 1),
+    (SAME_PREFIX, &["A"], false, 0),
 ];
 
-pub fn rows(rt: &impl Print, heap: &mut Heap) -> Result<(), Stop> {
-    for question in ROWS {
-        let mut line = Line::new();
-        write_answer(heap, question, &mut line)?;
-        println!(rt; "after: {line}")?;
-    }
-    Ok(())
+pub fn rows(rt: &impl Print, heap: &Heap) -> Result<(), Stop> {
+    print_rows(rt, heap, "after: ", ROWS, write_row)
 }
 
 /// Writes how far a sequence can be observed, and what can come then.
-fn write_answer(heap: &mut Heap, question: &Question, line: &mut Line) -> Result<(), Stop> {
-    let words = strings_of(heap, question.words)?;
-    write_followed(heap, question, words.as_slice(), line)
+fn write_row(heap: &Heap, line: &mut Line, row: &Row) -> Result<(), Stop> {
+    let (text, words, strong, terms) = *row;
+    let words = heap.retried(|| strings(heap.alloc, words))?;
+    let words = words.as_slice();
+    let mut sets = sets_of(heap, text, strong, terms)?;
+    let gates = sets.table().gates();
+    let labels = heap.retried(|| labels(heap.alloc, gates, words, strong))?;
+    write_followed(heap, line, &mut sets, labels.as_slice(), terms)
 }
 
-/// The same for the sequence of these words.
+/// The same for the sequence of these labels.
 fn write_followed(
-    heap: &mut Heap,
-    question: &Question,
-    words: &[String],
+    heap: &Heap,
     line: &mut Line,
-) -> Result<(), Stop> {
-    let mut sets = RetriedSets::new(heap, question.text, question.strong, question.terms)?;
-    follow_words(heap, question, &mut sets, words, line)
-}
-
-/// The same in these sets.
-fn follow_words(
-    heap: &mut Heap,
-    question: &Question,
-    sets: &mut RetriedSets,
-    words: &[String],
-    line: &mut Line,
-) -> Result<(), Stop> {
-    let labels = labels_of(heap, sets.table().gates(), words, question.strong)?;
-    match sets.follow(heap, labels.as_slice()) {
-        Ok(followed) => write_next(line, sets, &followed, words.len()),
-        Err(FollowFault::TooManyTerms(length)) => write_over(line, question.terms, length),
+    sets: &mut FormSets,
+    labels: &[Label],
+    terms: usize,
+) -> Result<(), Stop>
+    requires { (s : List Text) × ArePrinted sets.old.table.names labels.now s }
+{
+    match heap.retried_on(sets, |sets| follow(sets, labels, &mut NoProgress)) {
+        Ok(followed) => write_next(line, sets.table().gates(), &followed, labels.len()),
+        Err(FollowFault::TooManyTerms(length)) => {
+            Ok(write!(line, "more than {terms} terms at {length}")?)
+        }
         Err(FollowFault::Memory) => Err(Stop::Memory),
     }
 }
 
-/// The words as strings, retried after an allocation failure.
-fn strings_of(heap: &mut Heap, words: &[&str]) -> Result<Vec<String>, AllocError> {
-    match strings_once(heap.alloc, words) {
-        Ok(strings) => Ok(strings),
-        Err(_) => {
-            heap.count_failure();
-            strings_once(heap.alloc, words)
-        }
-    }
-}
-
-fn strings_once(alloc: Global, words: &[&str]) -> Result<Vec<String>, AllocError> {
+fn strings(alloc: Global, words: &[&str]) -> Result<Vec<String>, AllocError> {
     let mut strings = Vec::new(alloc);
     for word in words {
         strings.push(String::from_str(alloc, word)?)?;
@@ -150,34 +74,14 @@ fn strings_once(alloc: Global, words: &[&str]) -> Result<Vec<String>, AllocError
     Ok(strings)
 }
 
-/// The labels that the words name, by the gates with these names, retried after an allocation failure.
-fn labels_of(
-    heap: &mut Heap,
-    gates: &[Name],
-    words: &[String],
-    strong: bool,
-) -> Result<Vec<Label>, Stop>
+/// The labels that the words name, by the gates with these names, if each word names a label that can be observed, and
+/// no gate but these.
+fn labels(alloc: Global, gates: &[Name], words: &[String], strong: bool) -> Result<Vec<Label>, Stop>
     ensures { IfOk result (λ labels. (s : List Text) × ArePrinted gates.now labels.items s) }
 {
-    match labels_once(heap.alloc, gates, words, strong) {
-        Err(Stop::Memory) => {
-            heap.count_failure();
-            labels_once(heap.alloc, gates, words, strong)
-        }
-        answer => answer,
-    }
-}
-
-/// The same, if each word names a label that can be observed, and no gate but these.
-fn labels_once(
-    alloc: Global,
-    gates: &[Name],
-    words: &[String],
-    strong: bool,
-) -> Result<Vec<Label>, Stop>
-    ensures { IfOk result (λ labels. (s : List Text) × ArePrinted gates.now labels.items s) }
-{
-    check_label_words(words, strong)?;
+    let Ok(()) = check_label_words(words, strong) else {
+        return Err(Stop::Row);
+    };
     if !have_gates(alloc, gates, words)? {
         return Err(Stop::Row);
     }
@@ -224,30 +128,12 @@ fn is_among(gates: &[Name], name: &str) -> bool
 
 /// Writes how many labels of a sequence of `count` can be observed, the labels that can come then, and whether there can
 /// be a deadlock.
-fn write_next(
-    line: &mut Line,
-    sets: &RetriedSets,
-    followed: &Followed,
-    count: usize,
-) -> Result<(), Stop> {
-    put_number(line, followed.length)?;
-    put(line, " of ")?;
-    put_number(line, count)?;
-    put(line, "(")?;
-    for label in &followed.next {
-        put(line, " ")?;
-        put(line, sets.label_text(*label)?)?;
-    }
-    if followed.deadlock {
+fn write_next(line: &mut Line, gates: &[Name], found: &Followed, count: usize) -> Result<(), Stop> {
+    let length = found.length;
+    write!(line, "{length} of {count}(")?;
+    put_labels(line, gates, found.next.as_slice())?;
+    if found.deadlock {
         put(line, " <deadlock>")?;
     }
     put(line, " )")
-}
-
-/// Writes that the first so many labels reach more terms than the bound.
-fn write_over(line: &mut Line, terms: usize, length: usize) -> Result<(), Stop> {
-    put(line, "more than ")?;
-    put_number(line, terms)?;
-    put(line, " terms at ")?;
-    put_number(line, length)
 }

@@ -1,16 +1,14 @@
 //! ASTs as text, with every parenthesis and with the offsets of names.
 
-use crate::lines::{Line, put, put_number};
+use crate::lines::{Line, put};
 use crate::retry_heap::Stop;
 use lotos_text::{Action, Behaviour, Definition, Functionality, Placed, SyncSet};
+use std::fmt::Write;
 
 /// Writes a definition with its gates, functionality and body, and its inner definitions in braces.
 pub fn write_definition(line: &mut Line, of: &Definition) -> Result<(), Stop> {
     write_call(line, &of.name, of.formals.as_slice())?;
-    let functionality = functionality_word(of.functionality);
-    put(line, " ")?;
-    put(line, functionality)?;
-    put(line, " := ")?;
+    write!(line, " {} := ", functionality_word(of.functionality))?;
     write_behaviour(line, &of.body)?;
     for inner in &of.inner {
         put(line, " {")?;
@@ -53,22 +51,17 @@ fn write_front(line: &mut Line, tree: &Behaviour) -> Result<(), Stop> {
         Behaviour::Stop => put(line, "stop"),
         Behaviour::Exit => put(line, "exit"),
         Behaviour::Prefix { action, .. } => write_prefix(line, action),
-        Behaviour::Hide { gates, .. } => write_hidden(line, gates.as_slice()),
+        Behaviour::Hide { gates, .. } => write_names(line, "(hide", gates.as_slice(), " in "),
         Behaviour::Call { name, gates } => write_call(line, name, gates.as_slice()),
         _ => put(line, "("),
     }
 }
 
 fn write_prefix(line: &mut Line, action: &Action) -> Result<(), Stop> {
-    put(line, "(")?;
-    write_action(line, action)?;
-    put(line, "; ")
-}
-
-fn write_hidden(line: &mut Line, gates: &[Placed]) -> Result<(), Stop> {
-    put(line, "(hide")?;
-    write_names(line, gates)?;
-    put(line, " in ")
+    match action {
+        Action::Internal => put(line, "(i; "),
+        Action::Gate(gate) => Ok(write!(line, "({}@{}; ", gate.name.text(), gate.at)?),
+    }
 }
 
 /// Writes what stands between the operands of a behaviour.
@@ -76,58 +69,33 @@ fn write_sign(line: &mut Line, tree: &Behaviour) -> Result<(), Stop> {
     match tree {
         Behaviour::Choice { .. } => put(line, " [] "),
         Behaviour::Par { sync, .. } => write_sync(line, sync),
-        Behaviour::Enable { at, .. } => write_enabling(line, *at),
+        Behaviour::Enable { at, .. } => Ok(write!(line, " >>@{at} ")?),
         Behaviour::Disable { .. } => put(line, " [> "),
         _ => Ok(()),
-    }
-}
-
-fn write_enabling(line: &mut Line, at: usize) -> Result<(), Stop> {
-    put(line, " >>@")?;
-    put_number(line, at)?;
-    put(line, " ")
-}
-
-fn write_action(line: &mut Line, action: &Action) -> Result<(), Stop> {
-    match action {
-        Action::Internal => put(line, "i"),
-        Action::Gate(gate) => write_name(line, gate),
     }
 }
 
 fn write_sync(line: &mut Line, sync: &SyncSet) -> Result<(), Stop> {
     match sync {
         SyncSet::All => put(line, " || "),
-        SyncSet::Gates(gates) => {
-            put(line, " |[")?;
-            write_names(line, gates.as_slice())?;
-            put(line, " ]| ")
-        }
+        SyncSet::Gates(gates) => write_names(line, " |[", gates.as_slice(), " ]| "),
     }
 }
 
 /// Writes a name, and gates in brackets if there are some.
 fn write_call(line: &mut Line, name: &Placed, gates: &[Placed]) -> Result<(), Stop> {
-    write_name(line, name)?;
+    write!(line, "{}@{}", name.name.text(), name.at)?;
     if gates.is_empty() {
         return Ok(());
     }
-    put(line, "[")?;
-    write_names(line, gates)?;
-    put(line, " ]")
+    write_names(line, "[", gates, " ]")
 }
 
-/// Writes names, each after a blank.
-fn write_names(line: &mut Line, names: &[Placed]) -> Result<(), Stop> {
-    for name in names {
-        put(line, " ")?;
-        write_name(line, name)?;
+/// Writes names, each after a blank, between two texts.
+fn write_names(line: &mut Line, before: &str, names: &[Placed], after: &str) -> Result<(), Stop> {
+    put(line, before)?;
+    for placed in names {
+        write!(line, " {}@{}", placed.name.text(), placed.at)?;
     }
-    Ok(())
-}
-
-fn write_name(line: &mut Line, placed: &Placed) -> Result<(), Stop> {
-    put(line, placed.name.text())?;
-    put(line, "@")?;
-    put_number(line, placed.at)
+    put(line, after)
 }

@@ -5,10 +5,9 @@ use crate::front_end::{accepted, hidden, normal_table_of, parsed};
 use crate::lines::Line;
 use crate::retry_heap::{Heap, Stop};
 use crate::system_lines::{write_fault, write_system};
-use crate::table_calls::{Explored, StepList};
+use crate::table_calls::{Asked, Explored};
 use lotos_check::{AcceptFault, CheckFault, Checked};
-use lotos_text::{Definition, Name};
-use std::alloc::AllocError;
+use lotos_text::Definition;
 
 const ROWS: &[&str] = &[
     "specification S [a,b] : exit behaviour a; (i; exit [] b; exit) endspec",
@@ -35,65 +34,56 @@ const HIDDEN: &[&str] = &[
     "specification S [a,b] : noexit behaviour P[a,b] where process P [x,y] : noexit := x; P[y,x] endproc endspec",
 ];
 
-pub fn rows(rt: &impl Print, heap: &mut Heap) -> Result<(), Stop> {
+/// What is asked of the first terms of a system, and what its line begins with. The steps to normal forms are first as the
+/// table keeps them, and then taken out of it.
+const ASKED: &[(&str, Asked)] = &[
+    ("steps", Asked::Steps),
+    ("again", Asked::Steps),
+    ("forms", Asked::NormalForm),
+    ("regrouped", Asked::Regrouping),
+    ("kept", Asked::NormalSteps),
+    ("taken", Asked::TakenSteps),
+];
+
+pub fn rows(rt: &impl Print, heap: &Heap) -> Result<(), Stop> {
     for text in ROWS {
         write_tree(rt, heap, text)?;
-        if write_answer(rt, heap, text)? {
-            follow(rt, heap, text)?;
-        }
+        write_answer(rt, heap, text)?;
     }
     for text in HIDDEN {
-        write_hidden(rt, heap, text)?;
+        let system = hidden(heap, text)?;
+        write_checked(rt, "hidden", &system)?;
     }
     Ok(())
 }
 
-/// Writes a system with its first gate hidden.
-fn write_hidden(rt: &impl Print, heap: &mut Heap, text: &str) -> Result<(), Stop> {
-    let system = hidden(heap, text)?;
-    let mut line = Line::new();
-    write_system(&mut line, &system)?;
-    Ok(println!(rt; "hidden:{line}")?)
-}
-
 /// Writes the AST of a text, or why there is none.
-fn write_tree(rt: &impl Print, heap: &mut Heap, text: &str) -> Result<(), Stop> {
+fn write_tree(rt: &impl Print, heap: &Heap, text: &str) -> Result<(), Stop> {
     match parsed(heap, text) {
         Ok(tree) => write_ast(rt, heap, &tree.whole),
         Err(fault) => Ok(println!(rt; "tree: {fault:?}")?),
     }
 }
 
-fn write_ast(rt: &impl Print, heap: &mut Heap, whole: &Definition) -> Result<(), Stop> {
+fn write_ast(rt: &impl Print, heap: &Heap, whole: &Definition) -> Result<(), Stop> {
     let mut line = Line::new();
     write_definition(&mut line, whole)?;
     println!(rt; "tree: {line}")?;
-    let name = copied(heap, &whole.name.name)?;
+    let name = heap.retried(|| whole.name.name.copy(heap.alloc))?;
     let name = name.text();
     Ok(println!(rt; "copy: {name}")?)
 }
 
-/// Writes the system of a text that spells a specification, or the static rule that it breaks. Returns whether it is
-/// accepted.
-fn write_answer(rt: &impl Print, heap: &mut Heap, text: &str) -> Result<bool, Stop> {
+/// Writes the system of a text that spells a specification, and what follows of it, or the static rule that it breaks.
+fn write_answer(rt: &impl Print, heap: &Heap, text: &str) -> Result<(), Stop> {
     match accepted(heap, text) {
         Ok(system) => {
-            write_accepted(rt, &system)?;
-            Ok(true)
+            write_checked(rt, "system", &system)?;
+            follow(rt, heap, text)
         }
-        Err(fault) => {
-            write_refused(rt, &fault)?;
-            Ok(false)
-        }
-    }
-}
-
-/// Writes the static rule that a text breaks, if it spells a specification.
-fn write_refused(rt: &impl Print, fault: &AcceptFault) -> Result<(), Stop> {
-    match fault {
-        AcceptFault::Text(_) => Ok(()),
-        AcceptFault::Check(fault) => write_broken(rt, fault),
-        AcceptFault::Memory => Err(Stop::Memory),
+        Err(AcceptFault::Text(_)) => Ok(()),
+        Err(AcceptFault::Check(fault)) => write_broken(rt, &fault),
+        Err(AcceptFault::Memory) => Err(Stop::Memory),
     }
 }
 
@@ -103,58 +93,20 @@ fn write_broken(rt: &impl Print, fault: &CheckFault) -> Result<(), Stop> {
     Ok(println!(rt; "system:{line}")?)
 }
 
-fn write_accepted(rt: &impl Print, system: &Checked) -> Result<(), Stop> {
+fn write_checked(rt: &impl Print, what: &str, system: &Checked) -> Result<(), Stop> {
     let mut line = Line::new();
     write_system(&mut line, system)?;
-    Ok(println!(rt; "system:{line}")?)
-}
-
-fn copied(heap: &mut Heap, name: &Name) -> Result<Name, AllocError> {
-    match name.copy(heap.alloc) {
-        Ok(copy) => Ok(copy),
-        Err(_) => {
-            heap.count_failure();
-            name.copy(heap.alloc)
-        }
-    }
-}
-
-/// Writes the steps of the first terms of a system, then the same once more, then the normal forms, what the terms are
-/// regrouped to, and the steps to normal forms, first as the table keeps them and then taken out of it.
-fn follow(rt: &impl Print, heap: &mut Heap, text: &str) -> Result<(), Stop> {
-    let table = normal_table_of(heap, text)?;
-    let mut explored = Explored::new(heap, table)?;
-    follow_steps(rt, heap, &mut explored, "steps", StepList::Steps)?;
-    follow_steps(rt, heap, &mut explored, "again", StepList::Steps)?;
-    follow_forms(rt, heap, &mut explored)?;
-    follow_regrouped(rt, heap, &mut explored)?;
-    follow_steps(rt, heap, &mut explored, "kept", StepList::NormalSteps)?;
-    follow_steps(rt, heap, &mut explored, "taken", StepList::TakenSteps)
-}
-
-/// Writes such steps of the first terms.
-fn follow_steps(
-    rt: &impl Print,
-    heap: &mut Heap,
-    explored: &mut Explored,
-    what: &str,
-    which: StepList,
-) -> Result<(), Stop> {
-    let mut line = Line::new();
-    explored.write_first(heap, &mut line, which)?;
     Ok(println!(rt; "{what}:{line}")?)
 }
 
-/// Writes the normal forms of the first terms.
-fn follow_forms(rt: &impl Print, heap: &mut Heap, explored: &mut Explored) -> Result<(), Stop> {
-    let mut line = Line::new();
-    explored.write_forms(heap, &mut line)?;
-    Ok(println!(rt; "forms:{line}")?)
-}
-
-/// Writes what the first terms are regrouped to.
-fn follow_regrouped(rt: &impl Print, heap: &mut Heap, explored: &mut Explored) -> Result<(), Stop> {
-    let mut line = Line::new();
-    explored.write_regrouped(heap, &mut line)?;
-    Ok(println!(rt; "regrouped:{line}")?)
+/// Writes what is asked of the first terms of a system.
+fn follow(rt: &impl Print, heap: &Heap, text: &str) -> Result<(), Stop> {
+    let table = normal_table_of(heap, text)?;
+    let mut explored = Explored::new(heap, table)?;
+    for (what, asked) in ASKED {
+        let mut line = Line::new();
+        explored.write_first(heap, &mut line, *asked)?;
+        println!(rt; "{what}:{line}")?;
+    }
+    Ok(())
 }

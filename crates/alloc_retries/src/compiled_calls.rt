@@ -1,7 +1,7 @@
 //! Patterns that are copied and compiled, and sequences that are followed in them.
 ghost use Rattle.std.specs.Prelude.{◌<◌, ◌≤◌, IfOk, IfSome, length};
 
-use crate::lines::{Line, put};
+use crate::lines::{Line, print_rows, put};
 use crate::pattern_calls::pattern_of;
 use crate::retry_heap::{Heap, Stop};
 use lotos_pattern::{CompiledPattern, Pattern, PlaceNumber};
@@ -11,7 +11,9 @@ use std::fmt::Write;
 const LABELS: &[&str] = &["A", "B", "C", "exit", "i"];
 
 /// Words, whether internal steps are observed, and the numbers of the labels of a sequence.
-const ROWS: &[(&[&str], bool, &[usize])] = &[
+type Row = (&'static [&'static str], bool, &'static [usize]);
+
+const ROWS: &[Row] = &[
     (
         &["A", "<any>", "b", "<until>", "c", "exit", "<deadlock>"],
         false,
@@ -21,39 +23,18 @@ const ROWS: &[(&[&str], bool, &[usize])] = &[
     (&["<not>", "a,b", "<until>", "exit,c"], false, &[2, 0, 2]),
 ];
 
-pub fn rows(rt: &impl Print, heap: &mut Heap) -> Result<(), Stop> {
-    for (words, strong, sequence) in ROWS {
-        let mut line = Line::new();
-        match pattern_of(heap, words, *strong) {
-            Ok(pattern) => write_both(heap, &mut line, &pattern, sequence)?,
-            Err(fault) => write!(line, " {fault:?}")?,
-        }
-        println!(rt; "compiled:{line}")?;
-    }
-    Ok(())
+pub fn rows(rt: &impl Print, heap: &Heap) -> Result<(), Stop> {
+    print_rows(rt, heap, "compiled:", ROWS, write_row)
 }
 
 /// Writes the ends of the sequence twice: where its steps are new, and where they are known.
-fn write_both(
-    heap: &mut Heap,
-    line: &mut Line,
-    pattern: &Pattern,
-    sequence: &[usize],
-) -> Result<(), Stop> {
-    let mut compiled = compiled_of(heap, pattern)?;
+fn write_row(heap: &Heap, line: &mut Line, row: &Row) -> Result<(), Stop> {
+    let (words, strong, sequence) = *row;
+    let pattern = pattern_of(heap, words, strong)?;
+    let mut compiled = heap.retried(|| compile(heap.alloc, &pattern))?;
     write_ends(heap, line, &mut compiled, sequence)?;
     put(line, ",")?;
     write_ends(heap, line, &mut compiled, sequence)
-}
-
-fn compiled_of(heap: &mut Heap, pattern: &Pattern) -> Result<CompiledPattern, AllocError> {
-    match compile(heap.alloc, pattern) {
-        Err(_) => {
-            heap.count_failure();
-            compile(heap.alloc, pattern)
-        }
-        answer => answer,
-    }
 }
 
 /// A copy of the pattern, compiled against the labels.
@@ -68,7 +49,7 @@ fn compile(alloc: Global, pattern: &Pattern) -> Result<CompiledPattern, AllocErr
 
 /// Writes whether each prefix of the sequence may end there, up to the first that the pattern cannot match.
 fn write_ends(
-    heap: &mut Heap,
+    heap: &Heap,
     line: &mut Line,
     pattern: &mut CompiledPattern,
     sequence: &[usize],
@@ -76,7 +57,8 @@ fn write_ends(
     let mut place = first_place(pattern);
     write_end(line, pattern, place)?;
     for label in sequence {
-        let Some(next) = next_of(heap, pattern, place, *label)? else {
+        let Some(next) = heap.retried_on(pattern, |pattern| next_place(pattern, place, *label))?
+        else {
             return put(line, " none");
         };
         place = next;
@@ -99,24 +81,6 @@ fn first_place(pattern: &CompiledPattern) -> PlaceNumber
     pattern.begin()
 }
 
-fn next_of(
-    heap: &mut Heap,
-    pattern: &mut CompiledPattern,
-    place: PlaceNumber,
-    label: usize,
-) -> Result<Option<PlaceNumber>, AllocError>
-    requires { place < length pattern.old.places }
-    ensures { IfOk result (λ next. IfSome next (λ n. n < length pattern.new.places)) }
-{
-    match next_place(pattern, place, label) {
-        Err(_) => {
-            heap.count_failure();
-            next_place(pattern, place, label)
-        }
-        answer => answer,
-    }
-}
-
 /// The place after one more label, if there is one.
 fn next_place(
     pattern: &mut CompiledPattern,
@@ -130,6 +94,5 @@ fn next_place(
     if label >= pattern.label_count() {
         return Ok(None);
     }
-    let next = pattern.step(place, label)?;
-    Ok(next)
+    pattern.step(place, label)
 }

@@ -1,212 +1,89 @@
 //! Lines of covers. A search that runs out of memory is begun again after its last line.
 
 use crate::front_end::normal_table_of;
-use crate::lines::{Line, put, put_blank, put_number};
-use crate::mark_calls::mark_of;
+use crate::lines::{Line, print_rows, put_sequence};
+use crate::mark_calls::mark_after;
+use crate::resumed_search::{NextResult, Resumable, write_end, write_items};
 use crate::retry_heap::{Heap, Stop};
 use crate::set_calls::{HIDDEN_LOOP, SAME_PREFIX};
 use lotos_cover::{CoverHalt, CoverSearch};
-use lotos_listing::Mark;
-use lotos_normal::NormalTable;
 use lotos_terms::Label;
 use lotos_text::Name;
-use std::alloc::{AllocError, Global};
+use std::fmt::Write;
 
-/// More calls than any cover here takes.
-const MOST_CALLS: usize = 20;
+/// A specification, whether internal steps are observed, the most terms of a set, the most sets, and the line after
+/// which the lines are written, empty for none.
+type Row = (&'static str, bool, usize, usize, &'static str);
 
-/// What is covered.
-#[derive(Clone, Copy)]
-struct Question {
-    /// A specification.
-    text: &'static str,
-    strong: bool,
-    /// The most terms of a set.
-    terms: usize,
-    /// The most sets.
-    states: usize,
-    /// The line after which the lines are written; empty for none.
-    after: &'static str,
-}
+const SILENT: &str = "specification S : noexit behaviour i; stop endspec";
 
-const LOOP: Question = Question {
-    text: HIDDEN_LOOP,
-    strong: false,
-    terms: 9,
-    states: 9,
-    after: "",
-};
+/// Sequences that lead to the same, of one length and of different ones.
+const MERGING: &str =
+    "specification S [a,b,c] : noexit behaviour b; c; a; stop [] a; (c; stop [] i; b; a; stop) endspec";
 
-const ROWS: &[Question] = &[
-    LOOP,
-    Question {
-        after: "A A",
-        ..LOOP
-    },
-    Question {
-        strong: true,
-        ..LOOP
-    },
+const ROWS: &[Row] = &[
+    (HIDDEN_LOOP, false, 9, 9, ""),
+    (HIDDEN_LOOP, false, 9, 9, "A A"),
+    (HIDDEN_LOOP, true, 9, 9, ""),
     // A bound that the sets reach, and the next one.
-    Question { states: 3, ..LOOP },
-    Question { states: 2, ..LOOP },
-    Question {
-        text: SAME_PREFIX,
-        ..LOOP
-    },
-    Question {
-        text: SAME_PREFIX,
-        terms: 1,
-        ..LOOP
-    },
-    Question {
-        text: "specification S : noexit behaviour i; stop endspec",
-        ..LOOP
-    },
-    // Sequences that lead to the same, of one length and of different ones.
-    Question {
-        text: "specification S [a,b,c] : noexit behaviour b; c; a; stop [] a; (c; stop [] i; b; a; stop) endspec",
-        ..LOOP
-    },
+    (HIDDEN_LOOP, false, 9, 3, ""),
+    (HIDDEN_LOOP, false, 9, 2, ""),
+    (SAME_PREFIX, false, 9, 9, ""),
+    (SAME_PREFIX, false, 1, 9, ""),
+    (SILENT, false, 9, 9, ""),
+    (MERGING, false, 9, 9, ""),
 ];
 
-pub fn rows(rt: &impl Print, heap: &mut Heap) -> Result<(), Stop> {
-    for question in ROWS {
-        write_row(rt, heap, question)?;
-    }
-    Ok(())
-}
-
-fn write_row(rt: &impl Print, heap: &mut Heap, question: &Question) -> Result<(), Stop> {
-    let mut line = Line::new();
-    write_cover(heap, question, &mut line)?;
-    Ok(println!(rt; "cover: {line}")?)
+pub fn rows(rt: &impl Print, heap: &Heap) -> Result<(), Stop> {
+    print_rows(rt, heap, "cover: ", ROWS, write_row)
 }
 
 /// Writes the lines of a cover, and how it ends.
-fn write_cover(heap: &mut Heap, question: &Question, line: &mut Line) -> Result<(), Stop> {
-    let mut last = Line::new();
-    put(&mut last, question.after)?;
-    for _ in 0..MOST_CALLS {
-        let mut search = begin(heap, question, last.as_str())?;
-        if write_lines(&mut search, question, line, &mut last)? {
-            return Ok(());
-        }
-        heap.count_failure();
-    }
-    Err(Stop::Row)
+fn write_row(heap: &Heap, line: &mut Line, row: &Row) -> Result<(), Stop> {
+    let (_, _, _, _, after) = *row;
+    write_items(heap, line, after, |after| {
+        let search = heap.retried(|| begin(heap, row, after))?;
+        Ok(Cover { search, row: *row })
+    })
 }
 
 /// The search for the lines after this one; after none if it is empty.
-fn begin(heap: &mut Heap, question: &Question, after: &str) -> Result<Box<CoverSearch>, Stop> {
-    match begin_once(heap, question, after)? {
-        Ok(search) => Ok(search),
-        Err(_) => {
-            heap.count_failure();
-            Ok(begin_once(heap, question, after)??)
-        }
-    }
+fn begin(heap: &Heap, row: &Row, after: &str) -> Result<Box<CoverSearch>, Stop> {
+    let (text, strong, terms, states, _) = *row;
+    let mark = mark_after(heap, after, strong)?;
+    let table = Box::into_inner(normal_table_of(heap, text)?);
+    let search = CoverSearch::begin(heap.alloc, table, strong, terms, states, mark);
+    Ok(Box::new(heap.alloc, search)?)
 }
 
-fn begin_once(
-    heap: &mut Heap,
-    question: &Question,
-    after: &str,
-) -> Result<Result<Box<CoverSearch>, AllocError>, Stop> {
-    let mark = if after.is_empty() {
-        None
-    } else {
-        Some(mark_of(heap, after, question.strong)?)
-    };
-    let table = normal_table_of(heap, question.text)?;
-    Ok(begin_in(heap.alloc, table, question, mark))
+/// A search for the lines of a cover, with its row.
+#[derive(Drop)]
+struct Cover {
+    search: Box<CoverSearch>,
+    row: Row,
 }
 
-fn begin_in(
-    alloc: Global,
-    table: Box<NormalTable>,
-    question: &Question,
-    mark: Option<Mark>,
-) -> Result<Box<CoverSearch>, AllocError> {
-    let table = Box::into_inner(table);
-    let Question {
-        strong,
-        terms,
-        states,
-        ..
-    } = *question;
-    let search = CoverSearch::begin(alloc, table, strong, terms, states, mark);
-    Ok(Box::new(alloc, search)?)
-}
-
-/// What a call of the search returns.
-enum NextResult {
-    Line,
-    End,
-    Refusal,
-}
-
-/// Writes the lines of a search, and stores the last one, until the cover ends or memory runs out. Returns whether it
-/// ended.
-fn write_lines(
-    search: &mut CoverSearch,
-    question: &Question,
-    line: &mut Line,
-    last: &mut Line,
-) -> Result<bool, Stop> {
-    for _ in 0..MOST_CALLS {
-        match advance(search, question, line, last)? {
-            NextResult::Line => {}
-            NextResult::End => return Ok(true),
-            NextResult::Refusal => {
-                fail(search)?;
-                return Ok(false);
+impl Resumable for Cover {
+    fn advance(&mut self, line: &mut Line, last: &mut Line) -> Result<NextResult, Stop> {
+        let (_, _, terms, states, _) = self.row;
+        let next = self.search.next();
+        let gates = self.search.gates();
+        match next {
+            Ok(Some(found)) => write_line(gates, found.sequence.as_slice(), line, last),
+            Ok(None) => write_end(line),
+            Err(CoverHalt::OverTerms(labels)) => {
+                write_halt(gates, labels.as_slice(), terms, "terms", line)
             }
+            Err(CoverHalt::OverStates(labels)) => {
+                write_halt(gates, labels.as_slice(), states, "states", line)
+            }
+            Err(CoverHalt::Memory) => Ok(NextResult::Refusal),
+            Err(CoverHalt::Failed) => Err(Stop::Row),
         }
     }
-    Err(Stop::Row)
-}
 
-/// Fails unless a search that ran out of memory returns `CoverHalt::Failed`, again and again.
-fn fail(search: &mut CoverSearch) -> Result<(), Stop> {
-    for _ in 0..2 {
-        if !matches!(search.next(), Err(CoverHalt::Failed)) {
-            return Err(Stop::Row);
-        }
-    }
-    Ok(())
-}
-
-/// Writes what a call returns, and stores a line as the last one.
-fn advance(
-    search: &mut CoverSearch,
-    question: &Question,
-    line: &mut Line,
-    last: &mut Line,
-) -> Result<NextResult, Stop> {
-    match search.next() {
-        Ok(Some(found)) => write_line(search.gates(), found.sequence.as_slice(), line, last),
-        Ok(None) => write_end(line),
-        Err(CoverHalt::OverTerms(labels)) => {
-            write_halt(
-                search.gates(),
-                labels.as_slice(),
-                question.terms,
-                "terms",
-                line,
-            )
-        }
-        Err(CoverHalt::OverStates(labels)) => {
-            write_halt(
-                search.gates(),
-                labels.as_slice(),
-                question.states,
-                "states",
-                line,
-            )
-        }
-        Err(CoverHalt::Memory) => Ok(NextResult::Refusal),
-        Err(CoverHalt::Failed) => Err(Stop::Row),
+    fn has_failed(&mut self) -> bool {
+        matches!(self.search.next(), Err(CoverHalt::Failed))
     }
 }
 
@@ -218,16 +95,9 @@ fn write_line(
     last: &mut Line,
 ) -> Result<NextResult, Stop> {
     last.clear();
-    spell(last, gates, labels)?;
-    put(line, last.as_str())?;
-    put(line, "; ")?;
-    Ok(NextResult::Line)
-}
-
-/// Writes that there are no more lines.
-fn write_end(line: &mut Line) -> Result<NextResult, Stop> {
-    put(line, "end")?;
-    Ok(NextResult::End)
+    put_sequence(last, gates, labels)?;
+    write!(line, "{last}; ")?;
+    Ok(NextResult::Item)
 }
 
 /// Writes that there are more of these than the bound, and the sequence at which there are.
@@ -238,36 +108,7 @@ fn write_halt(
     what: &str,
     line: &mut Line,
 ) -> Result<NextResult, Stop> {
-    put(line, "more than ")?;
-    put_number(line, bound)?;
-    put(line, " ")?;
-    put(line, what)?;
-    put(line, " at ")?;
-    spell(line, gates, labels)?;
+    write!(line, "more than {bound} {what} at ")?;
+    put_sequence(line, gates, labels)?;
     Ok(NextResult::End)
-}
-
-/// Writes a sequence of labels, separated by one blank each. The gates have these names.
-fn spell(line: &mut Line, gates: &[Name], labels: &[Label]) -> Result<(), Stop> {
-    if labels.is_empty() {
-        put(line, "<empty>")?;
-    }
-    let mut is_first = true;
-    for label in labels {
-        put_blank(line, is_first)?;
-        put(line, label_text(gates, *label)?)?;
-        is_first = false;
-    }
-    Ok(())
-}
-
-fn label_text(gates: &[Name], label: Label) -> Result<&str, Stop> {
-    match label {
-        Label::Gate(gate) => match gates.get(gate.number()) {
-            Some(name) => Ok(name.text()),
-            None => Err(Stop::Row),
-        },
-        Label::Exit => Ok("exit"),
-        Label::Internal => Ok("i"),
-    }
 }

@@ -1,31 +1,20 @@
 //! First matches whose end a pattern demands something of, and what can come and what ends.
-ghost use Rattle.std.specs.Prelude.{IfOk, option_map};
-ghost use Rattle.lotos_terms.specs.TableView.{AreLabels};
-ghost use Rattle.lotos_ever.specs.MatchAnswers.{HasLabels};
 
 use crate::front_end::normal_table_of;
-use crate::lines::{Line, put, put_number};
-use crate::match_calls::{write_bound, write_match};
+use crate::lines::{Line, print_rows, put};
+use crate::match_calls::{Row, write_bound, write_match};
 use crate::pattern_calls::pattern_of;
 use crate::retry_heap::{Heap, Stop};
 use crate::set_calls::HIDDEN_LOOP;
-use lotos_ends::{EndStates, EndsFault, Lasso, find_coming, find_ending};
+use lotos_ends::{EndStates, EndsFault, find_coming, find_ending};
 use lotos_ever::{EndedMatch, Halt, find_shortest_match_with_end};
 use lotos_listing::{LabelFlags, NoProgress};
 use lotos_normal::NormalTable;
-use lotos_pattern::{EverPattern, Pattern, PatternFault};
+use lotos_pattern::{EverPattern, Pattern};
 use lotos_terms::Term;
+use lotos_text::Name;
 use std::alloc::{AllocError, Global};
-
-/// What a match is searched for.
-struct Question {
-    /// A specification.
-    text: &'static str,
-    words: &'static [&'static str],
-    strong: bool,
-    /// The most product states that may be stored, and the most normal forms.
-    states: usize,
-}
+use std::fmt::Write;
 
 /// A server that answers each request, or refuses to.
 const SERVER: &str =
@@ -39,72 +28,27 @@ const ROW_AND_LOOP: &str =
 const INTERNAL_STEPS: &str =
     "specification S [a,b] : noexit behaviour i; a; i; P[b] where process P [x] : noexit := x; P[x] endproc endspec";
 
-const ROWS: &[Question] = &[
-    Question {
-        text: HIDDEN_LOOP,
-        words: &["<until>", "<livelock>"],
-        strong: false,
-        states: 100,
-    },
-    Question {
-        text: HIDDEN_LOOP,
-        words: &["<until>", "<forever>", "A"],
-        strong: false,
-        states: 100,
-    },
+/// Rows whose bound is also one on the normal forms.
+const ROWS: &[Row] = &[
+    (HIDDEN_LOOP, &["<until>", "<livelock>"], false, 100),
+    (HIDDEN_LOOP, &["<until>", "<forever>", "A"], false, 100),
     // A bound that the normal forms reach, and one that is one too small.
-    Question {
-        text: HIDDEN_LOOP,
-        words: &["<until>", "<never>", "A"],
-        strong: false,
-        states: 3,
-    },
-    Question {
-        text: HIDDEN_LOOP,
-        words: &["<until>", "<never>", "A"],
-        strong: false,
-        states: 2,
-    },
-    Question {
-        text: SERVER,
-        words: &["<until>", "<never>", "B"],
-        strong: false,
-        states: 100,
-    },
-    Question {
-        text: SERVER,
-        words: &["<while>", "<any>", "A", "<forever>", "<not>", "B"],
-        strong: false,
-        states: 100,
-    },
-    Question {
-        text: SERVER,
-        words: &["A", "<refuses>", "B"],
-        strong: false,
-        states: 100,
-    },
-    Question {
-        text: ROW_AND_LOOP,
-        words: &["<forever>", "A,B"],
-        strong: false,
-        states: 100,
-    },
-    Question {
-        text: ROW_AND_LOOP,
-        words: &["<until>", "B"],
-        strong: false,
-        states: 100,
-    },
-    Question {
-        text: INTERNAL_STEPS,
-        words: &["<until>", "<never>", "i"],
-        strong: true,
-        states: 100,
-    },
+    (HIDDEN_LOOP, &["<until>", "<never>", "A"], false, 3),
+    (HIDDEN_LOOP, &["<until>", "<never>", "A"], false, 2),
+    (SERVER, &["<until>", "<never>", "B"], false, 100),
+    (SERVER, NEVER_ANSWERED, false, 100),
+    (SERVER, &["A", "<refuses>", "B"], false, 100),
+    (ROW_AND_LOOP, &["<forever>", "A,B"], false, 100),
+    (ROW_AND_LOOP, &["<until>", "B"], false, 100),
+    (INTERNAL_STEPS, &["<until>", "<never>", "i"], true, 100),
 ];
 
+const NEVER_ANSWERED: &[&str] = &["<while>", "<any>", "A", "<forever>", "<not>", "B"];
+
 /// A specification, a pattern that demands a set of labels of its end, and the most normal forms.
-const SET_ROWS: &[(&str, &[&str], usize)] = &[
+type SetRow = (&'static str, &'static [&'static str], usize);
+
+const SET_ROWS: &[SetRow] = &[
     (HIDDEN_LOOP, &["<refuses>", "A"], 3),
     (HIDDEN_LOOP, &["<refuses>", "B"], 100),
     (SERVER, &["<refuses>", "B"], 100),
@@ -112,134 +56,69 @@ const SET_ROWS: &[(&str, &[&str], usize)] = &[
     (SERVER, &["<refuses>", "B"], 2),
 ];
 
-pub fn rows(rt: &impl Print, heap: &mut Heap) -> Result<(), Stop> {
-    for question in ROWS {
-        let mut line = Line::new();
-        write_answer(heap, question, &mut line)?;
-        println!(rt; "end: {line}")?;
-    }
-    set_rows(rt, heap)
-}
-
-fn set_rows(rt: &impl Print, heap: &mut Heap) -> Result<(), Stop> {
-    for (text, words, bound) in SET_ROWS {
-        let mut line = Line::new();
-        write_counts(heap, text, words, *bound, &mut line)?;
-        println!(rt; "ends: {line}")?;
-    }
-    Ok(())
+pub fn rows(rt: &impl Print, heap: &Heap) -> Result<(), Stop> {
+    print_rows(rt, heap, "end: ", ROWS, write_row)?;
+    print_rows(rt, heap, "ends: ", SET_ROWS, write_counts)
 }
 
 /// Writes what the search for a match returns.
-fn write_answer(heap: &mut Heap, question: &Question, line: &mut Line) -> Result<(), Stop> {
-    let pattern = ever_pattern_of(heap, question.words, question.strong)?;
-    let mut table = normal_table_of(heap, question.text)?;
-    write_found(heap, &mut table, &pattern, question.states, line)
+fn write_row(heap: &Heap, line: &mut Line, row: &Row) -> Result<(), Stop> {
+    let (text, words, strong, states) = *row;
+    let pattern = heap.retried(|| EverPattern::read(heap.alloc, words, strong))?;
+    let mut table = normal_table_of(heap, text)?;
+    let ended = heap.retried_on(&mut *table, |table| {
+        find_shortest_match_with_end(heap.alloc, table, &pattern, states, &mut NoProgress)
+    });
+    write_ended(line, table.gates(), &ended, states)
 }
 
-fn ever_pattern_of(
-    heap: &mut Heap,
-    words: &[&str],
-    strong: bool,
-) -> Result<EverPattern, PatternFault> {
-    match EverPattern::read(heap.alloc, words, strong) {
-        Err(PatternFault::E99(_)) => {
-            heap.count_failure();
-            EverPattern::read(heap.alloc, words, strong)
-        }
-        answer => answer,
-    }
-}
-
-/// The same as [`write_answer`], in a table and by a pattern.
-fn write_found(
-    heap: &mut Heap,
-    table: &mut NormalTable,
-    pattern: &EverPattern,
-    states: usize,
+/// Writes the match, if there is one, or that more states than the bound were found.
+fn write_ended(
     line: &mut Line,
+    gates: &[Name],
+    ended: &Result<Option<EndedMatch>, Halt>,
+    states: usize,
 ) -> Result<(), Stop> {
-    match find_match(heap, table, pattern, states) {
-        Ok(Some(ended)) => write_ended_match(line, table, &ended),
+    match ended {
+        Ok(Some(ended)) => write_ended_match(line, gates, ended),
         Ok(None) => put(line, "none"),
         Err(Halt::TooManyStates) => write_bound(line, states),
         Err(Halt::Memory) => Err(Stop::Memory),
     }
 }
 
-/// The first of the shortest matches, retried after an allocation failure.
-fn find_match(
-    heap: &mut Heap,
-    table: &mut NormalTable,
-    pattern: &EverPattern,
-    states: usize,
-) -> Result<Option<EndedMatch>, Halt>
-    ensures { IfOk result (λ o. HasLabels table.new (option_map (λ m. m.found) o)) }
-{
-    match find_shortest_match_with_end(heap.alloc, table, pattern, states, &mut NoProgress) {
-        Err(Halt::Memory) => {
-            heap.count_failure();
-            find_shortest_match_with_end(heap.alloc, table, pattern, states, &mut NoProgress)
-        }
-        answer => answer,
-    }
-}
-
 /// Writes a match, and of how many labels the row and the loop are that begin at its end, if there are any.
-fn write_ended_match(line: &mut Line, table: &NormalTable, ended: &EndedMatch) -> Result<(), Stop>
-    requires sequence { AreLabels table.now ended.now.found.sequence.items }
-    requires word { AreLabels table.now ended.now.found.word.items }
-{
-    write_match(line, table, &ended.found)?;
+fn write_ended_match(line: &mut Line, gates: &[Name], ended: &EndedMatch) -> Result<(), Stop> {
+    write_match(line, gates, &ended.found)?;
     match &ended.lasso {
         None => Ok(()),
-        Some(lasso) => write_lasso(line, lasso),
+        Some(lasso) => {
+            let (row, turn) = (lasso.row.len(), lasso.turn.len());
+            Ok(write!(line, ", then {row} and {turn}")?)
+        }
     }
-}
-
-fn write_lasso(line: &mut Line, lasso: &Lasso) -> Result<(), Stop> {
-    put(line, ", then ")?;
-    put_number(line, lasso.row.len())?;
-    put(line, " and ")?;
-    put_number(line, lasso.turn.len())
 }
 
 /// Writes at how many of the normal forms a label of the set can come, and at how many the rows of steps within the set
 /// end.
-fn write_counts(
-    heap: &mut Heap,
-    text: &str,
-    words: &[&str],
-    bound: usize,
-    line: &mut Line,
-) -> Result<(), Stop> {
+fn write_counts(heap: &Heap, line: &mut Line, row: &SetRow) -> Result<(), Stop> {
+    let (text, words, bound) = *row;
     let pattern = pattern_of(heap, words, false)?;
     let mut table = normal_table_of(heap, text)?;
-    let coming = coming_states(heap, &mut table, &pattern, bound);
     put(line, "can come at ")?;
+    let coming = heap.retried_on(&mut *table, |table| {
+        coming_states(heap.alloc, table, &pattern, bound)
+    });
     write_count(line, &table, &coming, bound)?;
-    let ending = ending_states(heap, &mut table, &pattern, bound);
     put(line, ", rows end at ")?;
+    let ending = heap.retried_on(&mut *table, |table| {
+        ending_states(heap.alloc, table, &pattern, bound)
+    });
     write_count(line, &table, &ending, bound)
 }
 
-/// Of each normal form, whether a label of the set can come, retried after an allocation failure.
+/// Of each normal form, whether a label of the set can come.
 fn coming_states(
-    heap: &mut Heap,
-    table: &mut NormalTable,
-    pattern: &Pattern,
-    bound: usize,
-) -> Result<EndStates, EndsFault> {
-    match coming_states_once(heap.alloc, table, pattern, bound) {
-        Err(EndsFault::Memory) => {
-            heap.count_failure();
-            coming_states_once(heap.alloc, table, pattern, bound)
-        }
-        answer => answer,
-    }
-}
-
-fn coming_states_once(
     alloc: Global,
     table: &mut NormalTable,
     pattern: &Pattern,
@@ -250,23 +129,8 @@ fn coming_states_once(
     find_coming(alloc, table, start, &set, bound)
 }
 
-/// Of each normal form, whether the rows of steps within the set end, retried after an allocation failure.
+/// Of each normal form, whether the rows of steps within the set end.
 fn ending_states(
-    heap: &mut Heap,
-    table: &mut NormalTable,
-    pattern: &Pattern,
-    bound: usize,
-) -> Result<EndStates, EndsFault> {
-    match ending_states_once(heap.alloc, table, pattern, bound) {
-        Err(EndsFault::Memory) => {
-            heap.count_failure();
-            ending_states_once(heap.alloc, table, pattern, bound)
-        }
-        answer => answer,
-    }
-}
-
-fn ending_states_once(
     alloc: Global,
     table: &mut NormalTable,
     pattern: &Pattern,
@@ -289,7 +153,7 @@ fn demanded_set(
     }
 }
 
-/// Writes how many normal forms have the flag `true`, and how many there are.
+/// Writes how many normal forms have the flag `true`, and how many have the flag `false`.
 fn write_count(
     line: &mut Line,
     table: &NormalTable,
@@ -298,9 +162,9 @@ fn write_count(
 ) -> Result<(), Stop> {
     match found {
         Ok(ends) => {
-            put_number(line, count_flags(table, ends, true))?;
-            put(line, " and not at ")?;
-            put_number(line, count_flags(table, ends, false))
+            let set = count_flags(table, ends, true);
+            let clear = count_flags(table, ends, false);
+            Ok(write!(line, "{set} and not at {clear}")?)
         }
         Err(EndsFault::TooManyStates) => write_bound(line, bound),
         Err(EndsFault::Memory) => Err(Stop::Memory),
@@ -309,11 +173,7 @@ fn write_count(
 
 /// The number of terms of the table with this flag.
 fn count_flags(table: &NormalTable, ends: &EndStates, flag: bool) -> usize {
-    let mut count: usize = 0;
-    for number in 0..table.len() {
-        if ends.flag(Term::of_number(number)) == Some(flag) {
-            count = count.saturating_add(1);
-        }
-    }
-    count
+    (0..table.len())
+        .filter(|number| ends.flag(Term::of_number(*number)) == Some(flag))
+        .count()
 }

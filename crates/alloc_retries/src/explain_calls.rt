@@ -3,7 +3,7 @@
 use crate::front_end::{accepted, checked, parsed};
 use crate::lines::{Lines, shown};
 use crate::retry_heap::{Heap, Stop};
-use lotos_check::{CheckFault, Checked};
+use lotos_check::CheckFault;
 use lotos_explain::{explain_check_fault, explain_text_fault, similar_name};
 use lotos_text::{Name, Specification, TextFault};
 use std::alloc::{AllocError, Global};
@@ -46,55 +46,48 @@ const GATES: &str = "specification S [put, get, gets, a] : noexit behaviour stop
 /// Names that are looked for among these gates.
 const NAMES: &[&str] = &["GES", "PAGE"];
 
-pub fn rows(rt: &impl Print, heap: &mut Heap) -> Result<(), Stop> {
-    write_without_text(rt, heap, &TextFault::E03)?;
-    write_without_text(rt, heap, &TextFault::E99(AllocError))?;
+pub fn rows(rt: &impl Print, heap: &Heap) -> Result<(), Stop> {
+    write_refused(rt, heap, "", &TextFault::E03)?;
+    write_refused(rt, heap, "", &TextFault::E99(AllocError))?;
     for text in ROWS {
         write_row(rt, heap, text)?;
     }
-    name_rows(rt, heap)
-}
-
-fn name_rows(rt: &impl Print, heap: &mut Heap) -> Result<(), Stop> {
     let system = accepted(heap, GATES)?;
     for name in NAMES {
-        write_similar(rt, heap, name, &system)?;
+        write_similar(rt, heap, name, system.gates())?;
     }
     Ok(())
 }
 
-/// Writes the explanation of a fault that has no place in a text.
-fn write_without_text(rt: &impl Print, heap: &mut Heap, fault: &TextFault) -> Result<(), Stop> {
-    let lines = text_fault_lines(heap, "", fault);
-    write_lines(rt, &lines)
-}
-
 /// Writes the explanation of a text that is refused.
-fn write_row(rt: &impl Print, heap: &mut Heap, text: &str) -> Result<(), Stop> {
+fn write_row(rt: &impl Print, heap: &Heap, text: &str) -> Result<(), Stop> {
     match parsed(heap, text) {
         Ok(specification) => write_broken(rt, heap, text, &specification),
+        Err(TextFault::E99(_)) => Err(Stop::Memory),
         Err(fault) => write_refused(rt, heap, text, &fault),
     }
 }
 
-/// Writes the explanation of a text that spells no specification.
-fn write_refused(
-    rt: &impl Print,
-    heap: &mut Heap,
-    text: &str,
-    fault: &TextFault,
-) -> Result<(), Stop> {
-    if matches!(fault, TextFault::E99(_)) {
-        return Err(Stop::Memory);
-    }
-    let lines = text_fault_lines(heap, text, fault);
+/// Writes the explanation of a fault of the parser.
+fn write_refused(rt: &impl Print, heap: &Heap, text: &str, fault: &TextFault) -> Result<(), Stop> {
+    let lines = heap.retried(|| text_fault_lines(heap.alloc, text, fault))?;
     write_lines(rt, &lines)
+}
+
+/// The lines that explain a fault of the parser. They end with what says so if memory runs out.
+fn text_fault_lines(alloc: Global, text: &str, fault: &TextFault) -> Result<Lines, AllocError> {
+    let mut lines = Lines::new();
+    explain_text_fault(alloc, text.as_bytes(), fault, &mut lines);
+    if lines.as_slice().ends_with(NO_MEMORY) {
+        return Err(AllocError);
+    }
+    Ok(lines)
 }
 
 /// Writes the explanation of the static rule that a specification breaks.
 fn write_broken(
     rt: &impl Print,
-    heap: &mut Heap,
+    heap: &Heap,
     text: &str,
     specification: &Specification,
 ) -> Result<(), Stop> {
@@ -102,9 +95,28 @@ fn write_broken(
         Ok(_) => Err(Stop::Row),
         Err(CheckFault::E99(_)) => Err(Stop::Memory),
         Err(fault) => {
-            let lines = check_fault_lines(heap, text, specification, &fault);
+            let lines = heap.retried(|| rule_lines(heap.alloc, text, specification, &fault))?;
             write_lines(rt, &lines)
         }
+    }
+}
+
+/// The lines that explain a broken static rule. What there is no memory for is left out, so they are made twice: if
+/// they differ, memory ran out.
+fn rule_lines(
+    alloc: Global,
+    text: &str,
+    specification: &Specification,
+    fault: &CheckFault,
+) -> Result<Lines, AllocError> {
+    let mut first = Lines::new();
+    explain_check_fault(alloc, text.as_bytes(), specification, fault, &mut first);
+    let mut second = Lines::new();
+    explain_check_fault(alloc, text.as_bytes(), specification, fault, &mut second);
+    if first.as_slice() == second.as_slice() {
+        Ok(first)
+    } else {
+        Err(AllocError)
     }
 }
 
@@ -113,85 +125,9 @@ fn write_lines(rt: &impl Print, lines: &Lines) -> Result<(), Stop> {
     Ok(println!(rt; "explained:\n{text}")?)
 }
 
-/// The lines that explain a fault of the parser, made again if they end with what says that memory ran out.
-fn text_fault_lines(heap: &mut Heap, text: &str, fault: &TextFault) -> Lines {
-    let lines = text_fault_lines_once(heap.alloc, text, fault);
-    if lines.as_slice().ends_with(NO_MEMORY) {
-        heap.count_failure();
-        text_fault_lines_once(heap.alloc, text, fault)
-    } else {
-        lines
-    }
-}
-
-fn text_fault_lines_once(alloc: Global, text: &str, fault: &TextFault) -> Lines {
-    let mut lines = Lines::new();
-    explain_text_fault(alloc, text.as_bytes(), fault, &mut lines);
-    lines
-}
-
-/// The lines that explain a broken static rule. What there is no memory for is left out, so they are made twice: if one
-/// call leaves out a line of the other, memory ran out, and the result is that of the other.
-fn check_fault_lines(
-    heap: &mut Heap,
-    text: &str,
-    specification: &Specification,
-    fault: &CheckFault,
-) -> Lines {
-    let first = check_fault_lines_once(heap.alloc, text, specification, fault);
-    let second = check_fault_lines_once(heap.alloc, text, specification, fault);
-    let of_first = count_lines(first.as_slice());
-    let of_second = count_lines(second.as_slice());
-    if of_first != of_second {
-        heap.count_failure();
-    }
-    if of_first < of_second { second } else { first }
-}
-
-fn check_fault_lines_once(
-    alloc: Global,
-    text: &str,
-    specification: &Specification,
-    fault: &CheckFault,
-) -> Lines {
-    let mut lines = Lines::new();
-    explain_check_fault(alloc, text.as_bytes(), specification, fault, &mut lines);
-    lines
-}
-
-fn count_lines(text: &[u8]) -> usize {
-    let mut count: usize = 0;
-    for byte in text {
-        if *byte == b'\n' {
-            count = count.saturating_add(1);
-        }
-    }
-    count
-}
-
-/// Writes the gate of the specification whose name is similar to this one.
-fn write_similar(
-    rt: &impl Print,
-    heap: &mut Heap,
-    name: &str,
-    system: &Checked,
-) -> Result<(), Stop> {
-    let found = similar(heap, name, system.gates())?;
+/// Writes the gate whose name is similar to this one.
+fn write_similar(rt: &impl Print, heap: &Heap, name: &str, gates: &[Name]) -> Result<(), Stop> {
+    let found = heap.retried(|| similar_name(heap.alloc, name, gates))?;
     let gate = found.map_or("none", |gate| gate.text());
     Ok(println!(rt; "similar: {gate}")?)
-}
-
-/// A name that is similar to this one, retried after an allocation failure.
-fn similar<'a>(
-    heap: &mut Heap,
-    name: &str,
-    names: &'a [Name],
-) -> Result<Option<&'a Name>, AllocError> {
-    match similar_name(heap.alloc, name, names) {
-        Ok(found) => Ok(found),
-        Err(_) => {
-            heap.count_failure();
-            similar_name(heap.alloc, name, names)
-        }
-    }
 }

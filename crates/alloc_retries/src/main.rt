@@ -14,7 +14,6 @@ mod cover_calls;
 mod end_calls;
 mod explain_calls;
 mod front_end;
-mod item_search;
 mod lexing_calls;
 mod lines;
 mod mark_calls;
@@ -22,7 +21,7 @@ mod match_calls;
 mod pattern_calls;
 mod read_calls;
 mod request_calls;
-mod retried_sets;
+mod resumed_search;
 mod retry_heap;
 mod search_calls;
 mod set_calls;
@@ -34,8 +33,8 @@ use retry_heap::{Heap, Stop};
 use std::process::ExitCode;
 
 fn main(rt: HostRuntime) -> ExitCode {
-    let mut heap = Heap::new(rt.alloc());
-    let done = all(&rt, &mut heap);
+    let heap = Heap::new(rt.alloc());
+    let done = all(&rt, &heap);
     let failures = heap.failures();
     let said = match done {
         Ok(()) => eprintln!(rt; "calls that were refused memory: {failures}"),
@@ -48,7 +47,7 @@ fn main(rt: HostRuntime) -> ExitCode {
     }
 }
 
-fn all(rt: &impl Print, heap: &mut Heap) -> Result<(), Stop> {
+fn all(rt: &impl Print, heap: &Heap) -> Result<(), Stop> {
     lexing_calls::rows(rt, heap)?;
     check_calls::rows(rt, heap)?;
     explain_calls::rows(rt, heap)?;

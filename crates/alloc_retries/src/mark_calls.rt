@@ -1,6 +1,6 @@
 //! Lines that are read as marks.
 
-use crate::lines::Line;
+use crate::lines::{Line, print_rows};
 use crate::retry_heap::{Heap, Stop};
 use lotos_listing::{Mark, MarkFault};
 use std::fmt::Write;
@@ -14,24 +14,26 @@ const ROWS: &[(&str, bool)] = &[
     ("A i", false),
 ];
 
-pub fn rows(rt: &impl Print, heap: &mut Heap) -> Result<(), Stop> {
-    for (text, strong) in ROWS {
-        let mut line = Line::new();
-        match mark_of(heap, text, *strong) {
-            Ok(mark) => write!(line, "{mark:?}")?,
-            Err(fault) => write!(line, "{fault:?}")?,
-        }
-        println!(rt; "mark: {line}")?;
-    }
-    Ok(())
+pub fn rows(rt: &impl Print, heap: &Heap) -> Result<(), Stop> {
+    print_rows(rt, heap, "mark: ", ROWS, write_row)
 }
 
-pub fn mark_of(heap: &mut Heap, text: &str, strong: bool) -> Result<Mark, MarkFault> {
-    match Mark::read(heap.alloc, text, strong) {
-        Err(MarkFault::E99(_)) => {
-            heap.count_failure();
-            Mark::read(heap.alloc, text, strong)
-        }
-        answer => answer,
+fn write_row(heap: &Heap, line: &mut Line, row: &(&str, bool)) -> Result<(), Stop> {
+    let (text, strong) = *row;
+    match mark_of(heap, text, strong) {
+        Ok(mark) => Ok(write!(line, "{mark:?}")?),
+        Err(fault) => Ok(write!(line, "{fault:?}")?),
     }
+}
+
+fn mark_of(heap: &Heap, text: &str, strong: bool) -> Result<Mark, MarkFault> {
+    heap.retried(|| Mark::read(heap.alloc, text, strong))
+}
+
+/// The mark of a line, or none if it is empty.
+pub fn mark_after(heap: &Heap, text: &str, strong: bool) -> Result<Option<Mark>, MarkFault> {
+    if text.is_empty() {
+        return Ok(None);
+    }
+    Ok(Some(mark_of(heap, text, strong)?))
 }

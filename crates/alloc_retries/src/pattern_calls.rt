@@ -1,13 +1,19 @@
 //! Words of patterns, and whether the prefixes of a sequence match; patterns that match one sequence alone.
 
-use crate::lines::{Line, put};
+use crate::lines::{Line, print_rows, put};
 use crate::retry_heap::{Heap, Stop};
 use lotos_pattern::{Pattern, PatternFault};
-use std::alloc::Global;
 use std::fmt::Write;
 
+type Texts = &'static [&'static str];
+
 /// Words, whether internal steps are observed, and a sequence.
-const ROWS: &[(&[&str], bool, &[&str])] = &[
+type Row = (Texts, bool, Texts);
+
+/// Words of a pattern that observes internal steps, the sequence that is matched alone, and another sequence.
+type ExactRow = (Texts, Texts, Texts);
+
+const ROWS: &[Row] = &[
     (
         &["A", "<any>", "b", "<until>", "c", "exit", "<deadlock>"],
         false,
@@ -29,8 +35,7 @@ const ROWS: &[(&[&str], bool, &[&str])] = &[
     (&["<not>"], false, &[]),
 ];
 
-/// Words of a pattern that observes internal steps, the sequence that is matched alone, and another sequence.
-const EXACT_ROWS: &[(&[&str], &[&str], &[&str])] = &[
+const EXACT_ROWS: &[ExactRow] = &[
     (
         &["<until>", "<deadlock>"],
         &["A", "i", "exit"],
@@ -40,73 +45,44 @@ const EXACT_ROWS: &[(&[&str], &[&str], &[&str])] = &[
     (&["<any>"], &[], &["A"]),
 ];
 
-pub fn rows(rt: &impl Print, heap: &mut Heap) -> Result<(), Stop> {
-    for (words, strong, sequence) in ROWS {
-        let mut line = Line::new();
-        match pattern_of(heap, words, *strong) {
-            Ok(pattern) => write_ends(&mut line, &pattern, sequence)?,
-            Err(fault) => write!(line, " {fault:?}")?,
-        }
-        println!(rt; "pattern:{line}")?;
-    }
-    exact_rows(rt, heap)
+pub fn rows(rt: &impl Print, heap: &Heap) -> Result<(), Stop> {
+    print_rows(rt, heap, "pattern:", ROWS, write_row)?;
+    print_rows(rt, heap, "exact:", EXACT_ROWS, write_exact)
 }
 
-fn exact_rows(rt: &impl Print, heap: &mut Heap) -> Result<(), Stop> {
-    for (words, labels, sequence) in EXACT_ROWS {
-        let mut line = Line::new();
-        let pattern = pattern_of(heap, words, true)?;
-        let exact = exact_of(heap, &pattern, labels)?;
-        write_ends(&mut line, &exact, sequence)?;
-        println!(rt; "exact:{line}")?;
-    }
-    Ok(())
-}
-
-/// The pattern that matches the labels alone.
-fn exact_of(heap: &mut Heap, pattern: &Pattern, labels: &[&str]) -> Result<Pattern, Stop> {
-    match exactly(heap.alloc, pattern, labels) {
-        Err(Stop::Memory) => {
-            heap.count_failure();
-            exactly(heap.alloc, pattern, labels)
-        }
-        answer => answer,
+fn write_row(heap: &Heap, line: &mut Line, row: &Row) -> Result<(), Stop> {
+    let (words, strong, sequence) = *row;
+    match pattern_of(heap, words, strong) {
+        Ok(pattern) => write_ends(line, &pattern, sequence),
+        Err(fault) => Ok(write!(line, " {fault:?}")?),
     }
 }
 
-/// The same, if internal steps are observed, so that all labels are, and there are not too many.
-fn exactly(alloc: Global, pattern: &Pattern, labels: &[&str]) -> Result<Pattern, Stop> {
-    if pattern.strong() {
-        if labels.len() < 256 {
-            let exact = pattern.exactly(alloc, labels)?;
-            return Ok(exact);
-        }
-    }
-    Err(Stop::Row)
+pub fn pattern_of(heap: &Heap, words: &[&str], strong: bool) -> Result<Pattern, PatternFault> {
+    heap.retried(|| Pattern::read(heap.alloc, words, strong))
 }
 
-pub fn pattern_of(heap: &mut Heap, words: &[&str], strong: bool) -> Result<Pattern, PatternFault> {
-    match Pattern::read(heap.alloc, words, strong) {
-        Err(PatternFault::E99(_)) => {
-            heap.count_failure();
-            Pattern::read(heap.alloc, words, strong)
-        }
-        answer => answer,
+/// Writes the ends of the pattern that matches the labels alone. All labels are observed, and there are not too many.
+fn write_exact(heap: &Heap, line: &mut Line, row: &ExactRow) -> Result<(), Stop> {
+    let (words, labels, sequence) = *row;
+    let pattern = pattern_of(heap, words, true)?;
+    if !pattern.strong() || labels.len() > 255 {
+        return Err(Stop::Row);
     }
+    let exact = heap.retried(|| pattern.exactly(heap.alloc, labels))?;
+    write_ends(line, &exact, sequence)
 }
 
 /// Writes whether each prefix of the sequence may end there, up to the first that the pattern cannot match.
 fn write_ends(line: &mut Line, pattern: &Pattern, sequence: &[&str]) -> Result<(), Stop> {
     let mut place = pattern.begin();
-    let end = pattern.accepts(place);
-    write!(line, " {end:?}")?;
+    write!(line, " {:?}", pattern.accepts(place))?;
     for label in sequence {
         let Some(next) = pattern.step(place, label) else {
             return put(line, " none");
         };
         place = next;
-        let end = pattern.accepts(place);
-        write!(line, " {end:?}")?;
+        write!(line, " {:?}", pattern.accepts(place))?;
     }
     Ok(())
 }

@@ -1,6 +1,6 @@
 //! Texts that are read from a source.
 
-use crate::lines::Line;
+use crate::lines::{Line, print_rows};
 use crate::retry_heap::{Heap, Stop};
 use lotos_device::{FromRead, ReadFault, read_text};
 use lotos_text::TEXT_LIMIT;
@@ -11,25 +11,14 @@ use std::io::{self, Read};
 /// The number of bytes that the source has.
 const ROWS: &[u64] = &[0, 1, 10_000];
 
-pub fn rows(rt: &impl Print, heap: &mut Heap) -> Result<(), Stop> {
-    for length in ROWS {
-        let mut line = Line::new();
-        match text_of(heap, *length) {
-            Ok(text) => write_length(&mut line, text.as_slice())?,
-            Err(fault) => write!(line, "{fault:?}")?,
-        }
-        println!(rt; "read: {line}")?;
-    }
-    Ok(())
+pub fn rows(rt: &impl Print, heap: &Heap) -> Result<(), Stop> {
+    print_rows(rt, heap, "read: ", ROWS, write_row)
 }
 
-fn text_of(heap: &mut Heap, length: u64) -> Result<Vec<u8>, ReadFault> {
-    match read(heap.alloc, length) {
-        Err(ReadFault::Memory) => {
-            heap.count_failure();
-            read(heap.alloc, length)
-        }
-        answer => answer,
+fn write_row(heap: &Heap, line: &mut Line, length: &u64) -> Result<(), Stop> {
+    match heap.retried(|| read(heap.alloc, *length)) {
+        Ok(text) => write_length(line, text.as_slice()),
+        Err(fault) => Ok(write!(line, "{fault:?}")?),
     }
 }
 

@@ -1,7 +1,7 @@
 //! Words of the command line.
 
 use crate::retry_heap::{Heap, Stop};
-use lotos_command::{CommandFault, Request, request};
+use lotos_command::{CommandFault, request};
 
 const ROWS: &[&[&str]] = &[
     &["lotosseq", "check"],
@@ -27,9 +27,9 @@ const ROWS: &[&[&str]] = &[
     &["lotosseq", "check", "-h"],
 ];
 
-pub fn rows(rt: &impl Print, heap: &mut Heap) -> Result<(), Stop> {
+pub fn rows(rt: &impl Print, heap: &Heap) -> Result<(), Stop> {
     for words in ROWS {
-        match parsed_request(heap, words) {
+        match heap.retried(|| request(heap.alloc, words)) {
             Ok(found) => println!(rt; "request: {found:?}")?,
             Err(CommandFault::Help(text)) => println!(rt; "request: help\n{text}")?,
             Err(CommandFault::Wrong(text)) => println!(rt; "request: wrong\n{text}")?,
@@ -37,14 +37,4 @@ pub fn rows(rt: &impl Print, heap: &mut Heap) -> Result<(), Stop> {
         }
     }
     Ok(())
-}
-
-fn parsed_request(heap: &mut Heap, words: &[&str]) -> Result<Request, CommandFault> {
-    match request(heap.alloc, words) {
-        Err(CommandFault::Memory) => {
-            heap.count_failure();
-            request(heap.alloc, words)
-        }
-        answer => answer,
-    }
 }

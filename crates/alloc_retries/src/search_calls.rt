@@ -1,19 +1,19 @@
 //! Listings, by depth and by length. A search that runs out of memory is begun again after its last item.
+ghost use Rattle.std.specs.Prelude.{List};
+ghost use Rattle.lotos_check.specs.NameLists.{Name};
 ghost use Rattle.lotos_listing.specs.Question.{HaveTexts};
 
-use crate::item_search::{Bounds, ItemSearch};
-use crate::lines::{Line, put, put_blank};
-use crate::mark_calls::mark_of;
+use crate::front_end::{normal_table_of, table_of};
+use crate::lines::{Line, print_rows, put};
+use crate::mark_calls::mark_after;
 use crate::pattern_calls::pattern_of;
+use crate::resumed_search::{NextResult, Resumable, write_end, write_items};
 use crate::retry_heap::{Heap, Stop};
 use lotos_length::LengthSearch;
 use lotos_listing::{Found, Halt};
 use lotos_search::Search;
 use lotos_terms::Label;
-use std::alloc::AllocError;
-
-/// More calls than any listing here takes.
-const MOST_CALLS: usize = 50;
+use std::fmt::Write;
 
 /// What bounds the sequences of a listing.
 #[derive(Clone, Copy)]
@@ -24,267 +24,184 @@ enum Extent {
     Length(u8),
 }
 
-/// What is searched for.
+use Extent::{Depth, Length};
+
+/// A specification, the words of a pattern, whether internal steps are observed, the extent of the sequences, the line
+/// after which the listing starts, empty for none, and the most terms.
 #[derive(Clone, Copy)]
-struct Question {
-    /// A specification.
-    text: &'static str,
-    words: &'static [&'static str],
-    strong: bool,
-    extent: Extent,
-    /// The line after which the listing starts; empty for none.
-    after: &'static str,
-    terms: usize,
-}
+struct Row(Text, &'static [Text], bool, Extent, Text, usize);
 
-const ENDS: &[&str] = &["<until>", "<deadlock>"];
+type Text = &'static str;
 
-const DISABLING: Question = Question {
-    text: "specification S [a,b] : exit behaviour a; exit [> b; stop endspec",
-    words: ENDS,
-    strong: false,
-    extent: Extent::Depth(2),
-    after: "",
-    terms: 100,
-};
+const DISABLING: Text = "specification S [a,b] : exit behaviour a; exit [> b; stop endspec";
 
-const BRANCHES: &str =
+const TWO_ENDS: Text = "specification S [a,b] : noexit behaviour i; a; stop [] a; b; stop endspec";
+
+const ENABLING: Text =
+    "specification S [a] : exit behaviour P[a] where process P [x] : exit := x; exit >> P[x] endproc endspec";
+
+const HIDDEN: Text =
+    "specification S [a,b] : noexit behaviour hide a in a; b; stop [] b; stop endspec";
+
+const BRANCHES: Text =
     "specification S [a,b] : noexit behaviour a; stop [] b; stop [] b; a; stop endspec";
 
-const ROWS: &[Question] = &[
-    DISABLING,
-    Question {
-        after: "B",
-        ..DISABLING
-    },
-    Question {
-        text: "specification S [a,b] : noexit behaviour i; a; stop [] a; b; stop endspec",
-        words: &["A", "<deadlock>"],
-        ..DISABLING
-    },
-    Question {
-        text: "specification S [a] : exit behaviour P[a] where process P [x] : exit := x; exit >> P[x] endproc endspec",
-        words: &["A", "A", "A"],
-        extent: Extent::Depth(5),
-        ..DISABLING
-    },
-    Question {
-        text: "specification S [a,b] : noexit behaviour hide a in a; b; stop [] b; stop endspec",
-        strong: true,
-        ..DISABLING
-    },
-    Question {
-        text: BRANCHES,
-        words: &["<any>"],
-        terms: 1,
-        ..DISABLING
-    },
-    Question {
-        text: "specification S [a,b] : noexit behaviour a; b; b; stop endspec",
-        words: &["<while>", "<any>"],
-        extent: Extent::Depth(3),
-        ..DISABLING
-    },
-    Question {
-        text: "specification S [a] : noexit behaviour P[a,a] where process P [x,y] : noexit := x; stop |[x]| y; x; stop endproc endspec",
-        ..DISABLING
-    },
-    Question {
-        text: "specification S [a,b,c] : noexit behaviour (a; stop ||| b; stop) ||| c; stop endspec",
-        words: &["<until>", "exit"],
-        extent: Extent::Depth(4),
-        ..DISABLING
-    },
-];
+const REPEATED: Text = "specification S [a,b] : noexit behaviour a; b; b; stop endspec";
+
+const SAME_GATE: Text =
+    "specification S [a] : noexit behaviour P[a,a] where process P [x,y] : noexit := x; stop |[x]| y; x; stop endproc endspec";
+
+const INTERLEAVED: Text =
+    "specification S [a,b,c] : noexit behaviour (a; stop ||| b; stop) ||| c; stop endspec";
 
 /// The sequences begin with A; an internal step leads back to the beginning, and B ends.
-const LOOP: Question = Question {
-    text: "specification S [a,b] : noexit behaviour P[a,b] where process P [x,y] : noexit := x; (i; P[x,y] [] y; stop) endproc endspec",
-    words: &["<while>", "<any>"],
-    strong: false,
-    extent: Extent::Length(2),
-    after: "",
-    terms: 100,
-};
+const LOOP: Text =
+    "specification S [a,b] : noexit behaviour P[a,b] where process P [x,y] : noexit := x; (i; P[x,y] [] y; stop) endproc endspec";
 
-const LENGTH_ROWS: &[Question] = &[
-    LOOP,
-    Question {
-        words: ENDS,
-        extent: Extent::Length(3),
-        after: "A A",
-        ..LOOP
-    },
-    Question {
-        words: &["<any>", "<any>"],
-        strong: true,
-        ..LOOP
-    },
-    Question {
-        words: &["B", "A"],
-        extent: Extent::Length(5),
-        ..LOOP
-    },
-    Question {
-        words: &["<while>", "A", "B", "A"],
-        extent: Extent::Length(4),
-        ..LOOP
-    },
-    Question {
-        text: BRANCHES,
-        words: &["<any>"],
-        extent: Extent::Length(1),
-        terms: 1,
-        ..LOOP
-    },
-    // A chain of parallel compositions, which is regrouped.
-    Question {
-        text: "specification S [a,b,c,d] : noexit behaviour a; stop ||| b; stop ||| c; stop ||| d; i; stop endspec",
-        words: &["D", "C", "<until>", "<deadlock>"],
-        extent: Extent::Length(4),
-        ..LOOP
-    },
+/// A chain of parallel compositions, which is regrouped.
+const CHAIN: Text =
+    "specification S [a,b,c,d] : noexit behaviour a; stop ||| b; stop ||| c; stop ||| d; i; stop endspec";
+
+const ENDS: &[Text] = &["<until>", "<deadlock>"];
+
+const REPETITION: &[Text] = &["<while>", "A", "B", "A"];
+
+const END_OF_CHAIN: &[Text] = &["D", "C", "<until>", "<deadlock>"];
+
+const ROWS: &[Row] = &[
+    Row(DISABLING, ENDS, false, Depth(2), "", 100),
+    Row(DISABLING, ENDS, false, Depth(2), "B", 100),
+    Row(TWO_ENDS, &["A", "<deadlock>"], false, Depth(2), "", 100),
+    Row(ENABLING, &["A", "A", "A"], false, Depth(5), "", 100),
+    Row(HIDDEN, ENDS, true, Depth(2), "", 100),
+    Row(BRANCHES, &["<any>"], false, Depth(2), "", 1),
+    Row(REPEATED, &["<while>", "<any>"], false, Depth(3), "", 100),
+    Row(SAME_GATE, ENDS, false, Depth(2), "", 100),
+    Row(INTERLEAVED, &["<until>", "exit"], false, Depth(4), "", 100),
+    Row(LOOP, &["<while>", "<any>"], false, Length(2), "", 100),
+    Row(LOOP, ENDS, false, Length(3), "A A", 100),
+    Row(LOOP, &["<any>", "<any>"], true, Length(2), "", 100),
+    Row(LOOP, &["B", "A"], false, Length(5), "", 100),
+    Row(LOOP, REPETITION, false, Length(4), "", 100),
+    Row(BRANCHES, &["<any>"], false, Length(1), "", 1),
+    Row(CHAIN, END_OF_CHAIN, false, Length(4), "", 100),
 ];
 
-pub fn rows(rt: &impl Print, heap: &mut Heap) -> Result<(), Stop> {
-    for question in ROWS {
-        write_row(rt, heap, question)?;
-    }
-    for question in LENGTH_ROWS {
-        write_row(rt, heap, question)?;
-    }
-    Ok(())
-}
-
-fn write_row(rt: &impl Print, heap: &mut Heap, question: &Question) -> Result<(), Stop> {
-    let mut line = Line::new();
-    list(heap, question, &mut line)?;
-    Ok(println!(rt; "listing: {line}")?)
+pub fn rows(rt: &impl Print, heap: &Heap) -> Result<(), Stop> {
+    print_rows(rt, heap, "listing: ", ROWS, write_row)
 }
 
 /// Writes the items of a listing, and how it ends.
-fn list(heap: &mut Heap, question: &Question, line: &mut Line) -> Result<(), Stop> {
-    let mut last = Line::new();
-    put(&mut last, question.after)?;
-    for _ in 0..MOST_CALLS {
-        if list_part(heap, question, line, &mut last)? {
-            return Ok(());
-        }
-        heap.count_failure();
-    }
-    Err(Stop::Row)
-}
-
-/// Writes the items after the last one, which is stored, until the listing ends or memory runs out. Returns whether it
-/// ended.
-fn list_part(
-    heap: &mut Heap,
-    question: &Question,
-    line: &mut Line,
-    last: &mut Line,
-) -> Result<bool, Stop> {
-    match question.extent {
-        Extent::Depth(depth) => list_by::<Search>(heap, question, depth, line, last),
-        Extent::Length(length) => list_by::<LengthSearch>(heap, question, length, line, last),
+fn write_row(heap: &Heap, line: &mut Line, row: &Row) -> Result<(), Stop> {
+    let Row(_, _, _, extent, after, _) = *row;
+    match extent {
+        Depth(most) => write_items(
+            heap,
+            line,
+            after,
+            |after| begin::<Search>(heap, row, most, after),
+        ),
+        Length(most) => write_items(
+            heap,
+            line,
+            after,
+            |after| begin::<LengthSearch>(heap, row, most, after),
+        ),
     }
 }
 
-/// The same by a search of this kind.
-fn list_by<S: ItemSearch + Drop>(
-    heap: &mut Heap,
-    question: &Question,
-    most: u8,
-    line: &mut Line,
-    last: &mut Line,
-) -> Result<bool, Stop> {
-    let mut search = begin::<S>(heap, question, most, last.as_str())?;
-    write_items(&mut *search, line, last)
+fn begin<S: ItemSearch>(heap: &Heap, row: &Row, most: u8, after: &str) -> Result<Items<S>, Stop> {
+    let search = heap.retried(|| S::begun(heap, row, most, after))?;
+    Ok(Items { search })
 }
 
-/// Writes the items of a search, and stores the last one, until the listing ends or memory runs out. Returns whether it
-/// ended.
-fn write_items<S: ItemSearch>(
-    search: &mut S,
-    line: &mut Line,
-    last: &mut Line,
-) -> Result<bool, Stop> {
-    for _ in 0..MOST_CALLS {
-        match advance(search, line, last)? {
-            NextResult::Item => {}
-            NextResult::End => return Ok(true),
-            NextResult::Refusal => {
-                fail(search)?;
-                return Ok(false);
-            }
+/// A search for the items of a listing.
+#[derive(Drop)]
+struct Items<S> {
+    search: Box<S>,
+}
+
+impl<S: ItemSearch> Resumable for Items<S> {
+    fn advance(&mut self, line: &mut Line, last: &mut Line) -> Result<NextResult, Stop> {
+        let search = &mut *self.search;
+        match search.next_item() {
+            Ok(Some(found)) => write_item(search, &found, line, last),
+            Ok(None) => write_end(line),
+            Err(Halt::OverTerms(labels)) => write_over(search, labels.as_slice(), line),
+            Err(Halt::Memory) => Ok(NextResult::Refusal),
+            Err(Halt::Failed) => Err(Stop::Row),
         }
     }
-    Err(Stop::Row)
-}
 
-fn begin<S: ItemSearch + Drop>(
-    heap: &mut Heap,
-    question: &Question,
-    most: u8,
-    after: &str,
-) -> Result<Box<S>, Stop> {
-    match begin_once::<S>(heap, question, most, after)? {
-        Ok(search) => Ok(search),
-        Err(_) => {
-            heap.count_failure();
-            Ok(begin_once::<S>(heap, question, most, after)??)
-        }
+    fn has_failed(&mut self) -> bool {
+        matches!(self.search.next_item(), Err(Halt::Failed))
     }
 }
 
-fn begin_once<S: ItemSearch>(
-    heap: &mut Heap,
-    question: &Question,
-    most: u8,
-    after: &str,
-) -> Result<Result<Box<S>, AllocError>, Stop> {
-    let pattern = pattern_of(heap, question.words, question.strong)?;
-    let mark = if after.is_empty() {
-        None
-    } else {
-        Some(mark_of(heap, after, question.strong)?)
-    };
-    let bounds = Bounds {
-        text: question.text,
-        most,
-        terms: question.terms,
-    };
-    S::begun(heap, bounds, pattern, mark)
+/// The searches for the items of a listing, by depth and by length, as one.
+trait ItemSearch: Sized + Drop {
+    ghost use Rattle.lotos_listing.specs.ListingSteps.{HasPrintedLabels};
+    ghost use Rattle.lotos_listing.specs.Order.{Label as Text};
+    ghost use Rattle.lotos_terms.specs.TableView.{IsPrintedAs};
+
+    /// The names of the gates.
+    ghost names: { Self → List Name };
+
+    /// The search for the items after a line, or for all if that is empty, in a new table.
+    fn begun(heap: &Heap, row: &Row, most: u8, after: &str) -> Result<Box<Self>, Stop>;
+
+    /// The next item, or `None` at the end of the listing.
+    fn next_item(&mut self) -> Result<Option<Found>, Halt>
+        ensures { HasPrintedLabels (names self.new) result };
+
+    /// The text of a label: a gate's name, `exit` or `i`.
+    fn label_text(&self, label: Label) -> &str
+        requires { (text : Text) × IsPrintedAs (names self.now) label text };
 }
 
-/// Fails unless a search that ran out of memory returns `Halt::Failed`, again and again.
-fn fail<S: ItemSearch>(search: &mut S) -> Result<(), Stop> {
-    for _ in 0..2 {
-        if !matches!(search.next_item(), Err(Halt::Failed)) {
+impl ItemSearch for Search {
+    ghost names = { λ s. s.question.names };
+
+    fn begun(heap: &Heap, row: &Row, most: u8, after: &str) -> Result<Box<Search>, Stop> {
+        let Row(text, words, strong, _, _, terms) = *row;
+        if terms == 0 {
             return Err(Stop::Row);
         }
+        let pattern = pattern_of(heap, words, strong)?;
+        let mark = mark_after(heap, after, strong)?;
+        let table = Box::into_inner(table_of(heap, text)?);
+        let search = Search::begin(heap.alloc, table, pattern, most, mark, terms)?;
+        Ok(Box::new(heap.alloc, search)?)
     }
-    Ok(())
+
+    fn next_item(&mut self) -> Result<Option<Found>, Halt> {
+        self.next()
+    }
+
+    fn label_text(&self, label: Label) -> &str {
+        self.label_text(label)
+    }
 }
 
-/// What a call of the search returns.
-enum NextResult {
-    Item,
-    End,
-    Refusal,
-}
+impl ItemSearch for LengthSearch {
+    ghost names = { λ s. s.question.matches.names };
 
-/// Writes what a call returns, and stores the sequence of an item as the last one.
-fn advance<S: ItemSearch>(
-    search: &mut S,
-    line: &mut Line,
-    last: &mut Line,
-) -> Result<NextResult, Stop> {
-    match search.next_item() {
-        Ok(Some(found)) => write_item(search, &found, line, last),
-        Ok(None) => write_end(line),
-        Err(Halt::OverTerms(labels)) => write_over(search, labels.as_slice(), line),
-        Err(Halt::Memory) => Ok(NextResult::Refusal),
-        Err(Halt::Failed) => Err(Stop::Row),
+    /// Each item has its run.
+    fn begun(heap: &Heap, row: &Row, most: u8, after: &str) -> Result<Box<LengthSearch>, Stop> {
+        let Row(text, words, strong, _, _, terms) = *row;
+        let pattern = pattern_of(heap, words, strong)?;
+        let mark = mark_after(heap, after, strong)?;
+        let table = Box::into_inner(normal_table_of(heap, text)?);
+        let search = LengthSearch::begin(heap.alloc, table, pattern, most, terms, mark, true)?;
+        Ok(Box::new(heap.alloc, search)?)
+    }
+
+    fn next_item(&mut self) -> Result<Option<Found>, Halt> {
+        self.next()
+    }
+
+    fn label_text(&self, label: Label) -> &str {
+        self.label_text(label)
     }
 }
 
@@ -300,17 +217,10 @@ fn write_item<S: ItemSearch>(
 {
     last.clear();
     spell(last, search, found.sequence.as_slice())?;
-    put(line, last.as_str())?;
-    put(line, " : ")?;
+    write!(line, "{last} : ")?;
     spell(line, search, found.word.as_slice())?;
     put(line, "; ")?;
     Ok(NextResult::Item)
-}
-
-/// Writes that there are no more items.
-fn write_end(line: &mut Line) -> Result<NextResult, Stop> {
-    put(line, "end")?;
-    Ok(NextResult::End)
 }
 
 /// Writes the prefix whose terms are more than the bound.
@@ -335,7 +245,9 @@ fn spell<S: ItemSearch>(line: &mut Line, search: &S, labels: &[Label]) -> Result
     }
     let mut is_first = true;
     for label in labels {
-        put_blank(line, is_first)?;
+        if !is_first {
+            put(line, " ")?;
+        }
         put(line, search.label_text(*label))?;
         is_first = false;
     }

@@ -1,7 +1,7 @@
 //! Checked specifications as text, with every parenthesis and with calls by number.
 
 use crate::ast_lines::functionality_word;
-use crate::lines::{Line, put, put_number};
+use crate::lines::{Line, put, put_names};
 use crate::retry_heap::Stop;
 use lotos_check::{CheckFault, Checked, Code, Process};
 use lotos_text::Name;
@@ -9,8 +9,7 @@ use std::fmt::Write;
 
 /// Writes the gates and the behaviour, then each process.
 pub fn write_system(line: &mut Line, system: &Checked) -> Result<(), Stop> {
-    write_names(line, system.gates())?;
-    put(line, " := ")?;
+    put_names(line, "", system.gates(), " := ")?;
     write_code(line, system.start())?;
     for process in system.processes() {
         write_process(line, process)?;
@@ -20,12 +19,9 @@ pub fn write_system(line: &mut Line, system: &Checked) -> Result<(), Stop> {
 
 /// Writes a process with its gates, functionality and body.
 fn write_process(line: &mut Line, process: &Process) -> Result<(), Stop> {
-    put(line, "; ")?;
-    put(line, process.name.text())?;
-    write_names(line, process.formals.as_slice())?;
-    put(line, " ")?;
-    put(line, functionality_word(process.functionality))?;
-    put(line, " := ")?;
+    write!(line, "; {}", process.name.text())?;
+    put_names(line, "", process.formals.as_slice(), " ")?;
+    write!(line, "{} := ", functionality_word(process.functionality))?;
     write_code(line, &process.body)
 }
 
@@ -66,28 +62,21 @@ fn write_front(line: &mut Line, code: &Code) -> Result<(), Stop> {
     match code {
         Code::Stop => put(line, "stop"),
         Code::Exit => put(line, "exit"),
-        Code::Prefix { action, .. } => write_action(line, action),
-        Code::Hide { gates, .. } => write_hidden(line, gates.as_slice()),
+        Code::Prefix { action, .. } => write_prefix(line, action),
+        Code::Hide { gates, .. } => put_names(line, "(hide", gates.as_slice(), " in "),
         Code::Call { process, gates } => write_call(line, *process, gates.as_slice()),
         _ => put(line, "("),
     }
 }
 
-fn write_action(line: &mut Line, action: &Option<Name>) -> Result<(), Stop> {
-    put(line, "(")?;
-    put(line, action.as_ref().map_or("i", |gate| gate.text()))?;
-    put(line, "; ")
-}
-
-fn write_hidden(line: &mut Line, gates: &[Name]) -> Result<(), Stop> {
-    put(line, "(hide")?;
-    write_names(line, gates)?;
-    put(line, " in ")
+fn write_prefix(line: &mut Line, action: &Option<Name>) -> Result<(), Stop> {
+    let action = action.as_ref().map_or("i", |gate| gate.text());
+    Ok(write!(line, "({action}; ")?)
 }
 
 fn write_call(line: &mut Line, process: usize, gates: &[Name]) -> Result<(), Stop> {
-    put_number(line, process)?;
-    write_names(line, gates)
+    write!(line, "{process}")?;
+    put_names(line, "", gates, "")
 }
 
 /// Writes what stands between the operands of a behaviour.
@@ -103,21 +92,7 @@ fn write_sign(line: &mut Line, code: &Code) -> Result<(), Stop> {
 
 fn write_sync(line: &mut Line, sync: &Option<Vec<Name>>) -> Result<(), Stop> {
     match sync {
-        Some(gates) => {
-            put(line, " |[")?;
-            write_names(line, gates.as_slice())?;
-            put(line, " ]| ")
-        }
+        Some(gates) => put_names(line, " |[", gates.as_slice(), " ]| "),
         None => put(line, " || "),
     }
-}
-
-/// Writes names, each after a blank.
-fn write_names(line: &mut Line, names: &[Name]) -> Result<(), Stop> {
-    for name in names {
-        let text = name.text();
-        put(line, " ")?;
-        put(line, text)?;
-    }
-    Ok(())
 }
