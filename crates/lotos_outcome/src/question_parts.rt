@@ -1,5 +1,5 @@
 //! The parts of a question that the words of a command give: the pattern, the mark, and that its gates are known.
-ghost use Rattle.std.specs.Prelude.{◌≡◌, IfErr, IfOk, OnErr, OnOk, false, map, string_bytes, true};
+ghost use Rattle.std.specs.Prelude.{◌≡◌, ◌≢◌, IfErr, IfOk, None, OnErr, OnOk, false, map, string_bytes, true};
 ghost use Rattle.lotos_check.specs.CheckedView.{system_of};
 ghost use Rattle.lotos_pattern.specs.EverPatterns.{kind_of_words};
 ghost use Rattle.lotos_pattern.specs.Spelling.{PatternOf, texts_of};
@@ -50,6 +50,7 @@ pub fn read_mark(
     strong: bool,
 ) -> Result<Option<Mark>, Rejection>
     ensures mark { IfOk result (IsMarkOf strong line.now) }
+    ensures given { OnErr result (line.now ≢ None) }
     ensures rejected { IfErr result (IsRejectionBy (IsMarkRefusal strong line.now)) }
     ensures unread { is_input_failure result ≡ false }
 {
