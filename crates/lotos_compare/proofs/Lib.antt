@@ -1,0 +1,4 @@
+pub mod FewestLabels
+pub mod Inclusions
+pub mod BehaviourObservations
+pub mod LineOrder
