@@ -40,7 +40,8 @@ module _ (strong : Bool) where
   abbrev pub IsLabels : Text → Type 0
   IsLabels word = (labels : List Label) × NamesLabels strong word labels
 
-  -- no element begins with the word, and it does not name the internal action
+  -- no element begins with the word, it does not name the internal action, and it is no demand on what can come after
+  -- the end
   pub record BeginsNoElement (word : Text) : Type 0 where
     pub labels : IsLabels word → ⊥
     pub internal : NamesInternal word → ⊥
@@ -52,7 +53,8 @@ module _ (strong : Bool) where
     pub refuses : IsRefuses word → ⊥
     pub future : IsFuture word → ⊥
 
-  -- the word goes on no element that `<until>` begins, and it does not name the internal action
+  -- the word goes on no element that `<until>` begins, it does not name the internal action, and it is no demand on
+  -- what can come after the end
   pub record EndsNoUntil (word : Text) : Type 0 where
     pub labels : IsLabels word → ⊥
     pub internal : NamesInternal word → ⊥
@@ -97,7 +99,7 @@ module _ (strong : Bool) where
   AwaitsLabels words n = AwaitsSet words n
       ⊎ ((before : ℕ) × (n ≡ before + 1) × AwaitsSet words before × HasWord words before IsNot)
 
-  -- the cause of a fault
+  -- the cause of a fault, which is said above its line
   abbrev pub IsCause : List Text → PatternFault → Type 0
   -- an element should begin, and none begins with the word
   IsCause words (E41 n) = BeginsElement words n × HasWord words n BeginsNoElement
