@@ -50,7 +50,7 @@ after_token open_ones token =
     else if closes token.kind then take (length open_ones - 1) open_ones
     else open_ones
 
--- the same after more tokens
+-- with these tokens of open constructs, the outermost first, those after more tokens
 abbrev pub after_tokens : List Token → List Token → List Token
 after_tokens open_ones [] = open_ones
 after_tokens open_ones (token ∷ tokens) = after_tokens (after_token open_ones token) tokens
