@@ -25,6 +25,7 @@ module _ {X : Type 0} (Step : X → Label → X → Type 0) (start : X) (p : Pat
   abbrev pub IsMatch : List Label → Type 0
   IsMatch = IsMatchTo Step start p (MayEnd Step p)
 
-  -- the run is such a match, and no such match comes before it
+  -- the run of such a match, and no such match comes before it: none has fewer steps, and among those with as many it
+  -- is the first in the order of labels
   abbrev pub IsFirstMatch : List Label → Type 0
   IsFirstMatch = IsFirstMatchTo Step start p (MayEnd Step p)
