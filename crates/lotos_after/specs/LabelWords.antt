@@ -8,7 +8,7 @@ use Rattle.lotos_pattern.specs.Spelling.{EqualsIgnoringCase, Names, NamesEach, T
 use Rattle.lotos_after.specs.declared.label_words.WordFault.{WordFault}
 use Rattle.lotos_after.specs.declared.label_words.WordFault.TheVariants.{Internal, NoLabel}
 
--- the word names no label at all
+-- the word names no label, not even the internal action
 abbrev pub NamesNone : Text → Type 0
 NamesNone word = (l : Label) → Names true word l → ⊥
 

@@ -35,7 +35,7 @@ IsDuplicateFault whole (E26 at) = ⊥
 IsDuplicateFault whole (E27 name set) = ⊥
 IsDuplicateFault whole (E99 e) = Unit {0}
 
--- why a specification breaks a static rule, or memory ran out
+-- what each fault says of the specification: the static rule that it breaks, or that memory ran out
 abbrev pub IsStaticFault : DefinitionView → CheckFault → Type 0
 IsStaticFault whole (E20 gate) = IsE20 whole gate
 IsStaticFault whole (E21 gate) = IsE21 whole gate
@@ -47,7 +47,7 @@ IsStaticFault whole (E26 at) = IsE26 whole at
 IsStaticFault whole (E27 name set) = IsE27 whole name set.items
 IsStaticFault whole (E99 e) = Unit {0}
 
--- the fault is that memory ran out, or the specification is not accepted
+-- the fault is that memory ran out, or no system of the specification is accepted
 abbrev pub IsNotAccepted : DefinitionView → CheckFault → Type 0
 IsNotAccepted whole (E99 e) = Unit {0}
 IsNotAccepted whole (E20 gate) = (system : System) → IsAccepted whole system → ⊥

@@ -22,7 +22,7 @@ pub data Flat : Type 0 where
   disable : Flat → Flat → Flat
   call : ℕ → List Name → Flat
 
--- a process, with its formal gates in their order
+-- a process: its name, its formal gates in their order, its functionality, and its body with calls by number
 pub record FlatProcess : Type 0 where
   pub name : Name
   pub formals : List Name
@@ -35,7 +35,7 @@ pub record System : Type 0 where
   pub start : Flat
   pub processes : List FlatProcess
 
--- the gate of an action, if it is not the internal one
+-- the gate of a prefix, and none for the internal action
 abbrev pub action_of : Action → Option Name
 action_of Internal = None
 action_of (Gate g) = Some g.name

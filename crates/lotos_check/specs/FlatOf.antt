@@ -4,7 +4,7 @@ use Rattle.lotos_check.specs.Flat.{Flat, stop, exit, prefix, choice, par, hide, 
 use Rattle.lotos_check.specs.declared.resolved.Code.{Code, Stop, Exit, Prefix', Choice', Par', Hide', Enable', Disable', Call}
 use Rattle.lotos_check.specs.declared.resolved.Process.{Process}
 
--- the view of a behaviour
+-- the view of the program's behaviour with calls by number
 abbrev pub flat_of : Code → Flat
 flat_of Stop = stop
 flat_of Exit = exit
@@ -16,7 +16,7 @@ flat_of (Enable' p left q right) = enable (flat_of left) (flat_of right)
 flat_of (Disable' p left q right) = disable (flat_of left) (flat_of right)
 flat_of (Call process gates) = call process gates.items
 
--- the view of a process
+-- the view of the program's process
 abbrev pub process_of : Process → FlatProcess
 process_of p = record {
   name = p.name;

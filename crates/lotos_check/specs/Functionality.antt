@@ -18,7 +18,11 @@ abbrev pub both : Functionality → Functionality → Functionality
 both Exit g = g
 both NoExit g = NoExit
 
--- given the visible processes, the behaviour has the functionality
+-- given the visible processes, the behaviour has the functionality. `stop` has noexit and `exit` has exit; a prefix and
+-- a hide form have that of their body; a choice and a disabling have exit if either operand has; a parallel expression
+-- has exit if both have; an enabling has that of its right operand; a call has the declared one. Only noexit says
+-- something: that the behaviour never terminates successfully (law `noexit_never_exits` of `lotos_warn`). `P := x; P`
+-- may be declared exit and never ends (own, after ISO)
 pub data Func (scope : Scope) : BehaviourView → Functionality → Type 0 where
   of_stop : Func scope stop NoExit
   of_exit : Func scope exit Exit

@@ -11,7 +11,8 @@ pub data IsWithout (removed : List Name) : List Name → List Name → Type 0 wh
   keeps : {n : Name} {names left : List Name} → (In n removed → ⊥) → IsWithout removed names left →
       IsWithout removed (n ∷ names) (n ∷ left)
 
--- the second system is the first one with these gates hidden around its behaviour; they are no formal gates of it
+-- the second system is the first one with these gates hidden around its behaviour, as a set; its formal gates are those
+-- of the first that are not among them, and its processes are the same
 pub record IsHiddenIn (gates : List Name) (system hidden : System) : Type 0 where
   -- the gates in the order of their bytes, without repeats
   pub names : List Name

@@ -26,7 +26,8 @@ pub record IsDuplicate (placed : Placed) (names : List Placed) : Type 0 where
 abbrev pub AreDistinct : List Placed → Type 0
 AreDistinct names = (p : Placed) → IsDuplicate p names → ⊥
 
--- smaller at the first index where the lists differ, or a proper prefix of the other
+-- one list comes before another by an order of their items: its item is smaller at the first index where they differ,
+-- or it is a proper prefix
 abbrev pub Lex : {A : Type 0} → (A → A → Type 0) → List A → List A → Type 0
 Lex smaller [] [] = ⊥
 Lex smaller [] (y ∷ ys) = Unit {0}
@@ -37,7 +38,7 @@ Lex smaller (x ∷ xs) (y ∷ ys) = smaller x y ⊎ ((x ≡ y) × Lex smaller xs
 abbrev pub Below : Name → Name → Type 0
 Below = Lex ◌<◌
 
--- each item is smaller than the next
+-- each item of the list is smaller than the next, by an order of the items
 pub data IsAscendingBy {A : Type 0} (smaller : A → A → Type 0) : List A → Type 0 where
   none : IsAscendingBy smaller []
   one : {x : A} → IsAscendingBy smaller (x ∷ [])

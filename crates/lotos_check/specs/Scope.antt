@@ -30,7 +30,8 @@ pub data Declares : DefinitionListView → ℕ → Name → ℕ → DefinitionVi
   later : {d e : DefinitionView} {ds : DefinitionListView} {k j : ℕ} {n : Name} →
       Declares ds (k + 1 + count (inner_of d)) n j e → Declares (more_defs d ds) k n j e
 
--- the name is bound to the process with this number and definition
+-- the name is bound to the process with this number and definition, which is the one in the nearest enclosing `where`
+-- that declares it
 pub data Binds : Scope → Name → ℕ → DefinitionView → Type 0 where
   nearest : {w : Where} {ws : Scope} {n : Name} {k : ℕ} {d : DefinitionView} → Declares w.defs w.first n k d →
       Binds (w ∷ ws) n k d
@@ -81,12 +82,13 @@ IsDefinition whole scope d = In {X = ScopedDefinition} (record { scope = scope; 
 abbrev pub IsDistinctScope : Scope → Type 0
 IsDistinctScope scope = (w : Where) → In w scope → AreDistinct (declared_names w.defs)
 
--- a definition and all definitions inside it, each followed at once by its inner ones; and the same of a list
 abbrev mutual
+  -- a definition and all definitions inside it, each followed at once by its inner ones
   pub definitions_in : DefinitionView → List DefinitionView
   definitions_in (def name formals declared body inner) = def name formals declared body inner
       ∷ definitions_in_list inner
 
+  -- all definitions of a list and those inside them, each followed at once by its inner ones
   pub definitions_in_list : DefinitionListView → List DefinitionView
   definitions_in_list no_defs = []
   definitions_in_list (more_defs d ds) = definitions_in d ++ definitions_in_list ds

@@ -15,14 +15,14 @@ pub record Occurs (whole : DefinitionView) (scope : Scope) (in_scope : List Name
   pub located : IsDefinition whole scope definition
   pub inside : IsSubexpression (texts (formals_of definition)) (body_of definition) in_scope part
 
--- one list declares a formal gate twice
+-- one list declares a formal gate twice, the second time with this name and offset
 pub record IsE20 (whole : DefinitionView) (gate : Placed) : Type 0 where
   pub scope : Scope
   pub definition : DefinitionView
   pub located : IsDefinition whole scope definition
   pub second : IsDuplicate gate (formals_of definition)
 
--- a gate is used where it is not in scope
+-- this gate is used where it is not in scope
 pub record IsE21 (whole : DefinitionView) (gate : Placed) : Type 0 where
   pub scope : Scope
   pub in_scope : List Name
@@ -31,7 +31,7 @@ pub record IsE21 (whole : DefinitionView) (gate : Placed) : Type 0 where
   pub uses : UsesGate part gate
   pub unknown : In gate.name in_scope → ⊥
 
--- no process with this name is visible
+-- a call has this name, and no process with the name is visible
 pub record IsE22 (whole : DefinitionView) (name : Placed) : Type 0 where
   pub scope : Scope
   pub in_scope : List Name
@@ -39,7 +39,7 @@ pub record IsE22 (whole : DefinitionView) (name : Placed) : Type 0 where
   pub occurs : Occurs whole scope in_scope (call name actuals)
   pub unknown : (k : ℕ) (d : DefinitionView) → Binds scope name.name k d → ⊥
 
--- a call has another number of gates than the definition that its name is bound to
+-- the call with this name has another number of gates than the definition that its name is bound to (ISO)
 pub record IsE23 (whole : DefinitionView) (name : Placed) (formal actual : ℕ) : Type 0 where
   pub scope : Scope
   pub in_scope : List Name
@@ -52,14 +52,14 @@ pub record IsE23 (whole : DefinitionView) (name : Placed) (formal actual : ℕ) 
   pub given : actual ≡ length actuals
   pub differ : formal ≢ actual
 
--- one `where` declares a process name twice
+-- one `where` declares a process name twice, the second time with this name and offset
 pub record IsE24 (whole : DefinitionView) (name : Placed) : Type 0 where
   pub scope : Scope
   pub definition : DefinitionView
   pub located : IsDefinition whole scope definition
   pub second : IsDuplicate name (declared_names (inner_of definition))
 
--- the declared functionality differs from the body's
+-- the functionality that the definition with this name declares differs from that of its body
 pub record IsE25 (whole : DefinitionView) (name : Placed) (declared : Functionality) : Type 0 where
   pub scope : Scope
   pub definition : DefinitionView
@@ -70,7 +70,7 @@ pub record IsE25 (whole : DefinitionView) (name : Placed) (declared : Functional
   pub has : Func scope (body_of definition) other
   pub differ : other ≢ declared
 
--- the left operand of a `>>` has noexit
+-- the left operand of the `>>` at this offset has noexit
 pub record IsE26 (whole : DefinitionView) (at : ℕ) : Type 0 where
   pub scope : Scope
   pub in_scope : List Name
@@ -79,12 +79,12 @@ pub record IsE26 (whole : DefinitionView) (at : ℕ) : Type 0 where
   pub occurs : Occurs whole scope in_scope (enable left at right)
   pub never_exits : Func scope left NoExit
 
--- no list declares a formal gate twice, no `where` a process
+-- no list declares a formal gate twice, no `where` a process: there is neither E20 nor E24
 pub record IsDistinct (whole : DefinitionView) : Type 0 where
   pub gates : (p : Placed) → IsE20 whole p → ⊥
   pub processes : (p : Placed) → IsE24 whole p → ⊥
 
--- the static rules without guardedness: there is none of these faults
+-- the static rules without guardedness: there is none of E20 to E26
 pub record WellTyped (whole : DefinitionView) : Type 0 where
   pub distinct : IsDistinct whole
   pub known_gates : (p : Placed) → IsE21 whole p → ⊥

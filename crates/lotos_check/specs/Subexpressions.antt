@@ -6,8 +6,8 @@ use Rattle.lotos_text.specs.declared.ast.Action.{Action}
 use Rattle.lotos_text.specs.declared.ast.Action.TheVariants.{Gate}
 use Rattle.lotos_check.specs.NameLists.{Name, In, texts}
 
--- with the first gates in scope around the whole, the second are in scope at the part: the first, and those hidden
--- around it
+-- the last behaviour is a part of the first. With the first gates in scope around the whole, the second are in scope at
+-- the part: the first, and those hidden around it
 pub data IsSubexpression : List Name → BehaviourView → List Name → BehaviourView → Type 0 where
   whole : {in_scope : List Name} {t : BehaviourView} → IsSubexpression in_scope t in_scope t
   in_prefix : {in_scope there : List Name} {a : Action} {b t : BehaviourView} → IsSubexpression in_scope b there t →
@@ -31,7 +31,8 @@ pub data IsSubexpression : List Name → BehaviourView → List Name → Behavio
   in_disable_right : {in_scope there : List Name} {l r t : BehaviourView} → IsSubexpression in_scope r there t →
       IsSubexpression in_scope (disable l r) there t
 
--- the behaviour itself, and not only a part of it, uses the gate
+-- the behaviour itself, and not only a part of it, uses the gate: in a prefix, in the list of a parallel expression, or
+-- in a call
 pub data UsesGate : BehaviourView → Placed → Type 0 where
   acts : {g : Placed} {b : BehaviourView} → UsesGate (prefix (Gate g) b) g
   synchronizes : {g : Placed} {l r : BehaviourView} {gs : List Placed} → In g gs → UsesGate (par l (gates gs) r) g

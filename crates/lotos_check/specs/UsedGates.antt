@@ -17,7 +17,8 @@ abbrev pub IsSyncOf : List Name → Option (List Name) → Type 0
 IsSyncOf gates None = Unit {0}
 IsSyncOf gates (Some names) = AreNamesOf gates names
 
--- each gate that a part of the behaviour uses is in the list, or is hidden around the part
+-- each gate that a part of the behaviour uses, in a prefix, a parallel expression or a call, is in the list, or is
+-- hidden around the part
 abbrev pub UsesOnly : List Name → Flat → Type 0
 UsesOnly gates stop = Unit {0}
 UsesOnly gates exit = Unit {0}

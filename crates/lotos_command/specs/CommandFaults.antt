@@ -20,7 +20,7 @@ IsHelpKind k = (k ≡ kind.DisplayHelp) ⊎ (k ≡ kind.DisplayVersion)
 abbrev pub AskForHelp : List Text → Type 0
 AskForHelp words = (k : ErrorKind) × IsAmong k (fault_of lotosseq words) × IsHelpKind k
 
--- clap may report a fault of the words whose kind is that of neither of these
+-- clap may report a fault of the words that is neither of the kind for help nor of that for the version
 abbrev pub AreFaulty : List Text → Type 0
 AreFaulty words =
     (k : ErrorKind) × IsAmong k (fault_of lotosseq words) × (k ≢ kind.DisplayHelp) × (k ≢ kind.DisplayVersion)
@@ -30,7 +30,7 @@ AreFaulty words =
 abbrev pub MakeNoRequest : List Text → Type 0
 MakeNoRequest words = (fault_of lotosseq words ≡ []) × (request_of words ≡ None)
 
--- clap may report a fault of the words, or they make no request
+-- clap may report a fault of the words other than for help or for the version, or they make no request
 abbrev pub AreRejected : List Text → Type 0
 AreRejected words = AreFaulty words ⊎ MakeNoRequest words
 

@@ -104,7 +104,7 @@ subcommand_apps =
     ∷ subcommand_app (codes "ever") ever_rules ∷ subcommand_app (codes "after") after_rules
     ∷ subcommand_app (codes "cover") cover_rules ∷ []
 
--- `lotosseq`, which has a version and needs one of its subcommands
+-- `lotosseq`, the command line as clap reads it: it has a version and needs one of its subcommands
 abbrev pub lotosseq : App
 lotosseq =
     with_subcommands

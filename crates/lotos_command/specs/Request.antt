@@ -20,7 +20,7 @@ use Rattle.lotos_command.specs.declared.command.EverRequest.{EverRequest}
 use Rattle.lotos_command.specs.declared.command.AfterRequest.{AfterRequest}
 use Rattle.lotos_command.specs.declared.command.CoverRequest.{CoverRequest}
 
--- the view of an interface: texts for strings
+-- which gates a question is about, with texts for strings: all, all but these, or these
 pub data InterfaceView : Type 0 where
   whole : InterfaceView
   hide : Text → InterfaceView
@@ -75,13 +75,13 @@ pub data RequestView : Type 0 where
   after : AfterView → RequestView
   cover : CoverView → RequestView
 
--- the view of this interface
+-- the view of the program's interface
 abbrev pub interface_view : Interface → InterfaceView
 interface_view Whole = whole
 interface_view (Hide names) = hide (string_bytes names)
 interface_view (Only names) = only (string_bytes names)
 
--- the view of this search
+-- the view of the program's search
 abbrev pub search_view : SearchRequest → SearchView
 search_view request = record {
   extent = request.extent;
@@ -96,7 +96,7 @@ search_view request = record {
   words = map string_bytes request.words.items;
 }
 
--- the view of this search for a match of any length
+-- the view of the program's search for a match of any length
 abbrev pub ever_view : EverRequest → EverView
 ever_view request = record {
   states = request.states;
@@ -107,7 +107,7 @@ ever_view request = record {
   words = map string_bytes request.words.items;
 }
 
--- the view of this request for what can come after a sequence
+-- the view of the program's request for what can come after a sequence
 abbrev pub after_view : AfterRequest → AfterView
 after_view request = record {
   terms = request.terms;
@@ -117,7 +117,7 @@ after_view request = record {
   words = map string_bytes request.words.items;
 }
 
--- the view of this request for sequences that together show all that can be observed
+-- the view of the program's request for sequences that together show all that can be observed
 abbrev pub cover_view : CoverRequest → CoverView
 cover_view request = record {
   limit = request.limit;
@@ -129,7 +129,7 @@ cover_view request = record {
   progress = request.progress;
 }
 
--- the view of this request
+-- the view of the program's request
 abbrev pub request_view : Request → RequestView
 request_view request.Check = check
 request_view (request.Diagnose request) = diagnose request
@@ -158,12 +158,12 @@ abbrev pub extent_from : List Row → Option Extent
 extent_from rows =
     extent_of (option_map number (one_of (codes "depth") rows)) (option_map number (one_of (codes "length") rows))
 
--- what lines have after their sequences: the origins of internal steps if `--hidden` is given, otherwise the labels of
--- runs if `--explain` is given
+-- what a line has after its sequence: what makes the internal steps of its run if `--hidden` is given, otherwise the
+-- labels of the run if `--explain` is, otherwise nothing
 abbrev pub runs_of : (explain hidden : Bool) → Runs
 runs_of explain hidden = if hidden then Origins else (if explain then Labels else Omitted)
 
--- what the entries of a subcommand give of that
+-- what a line has after its sequence, by the entries of a subcommand
 abbrev pub runs_from : List Row → Runs
 runs_from rows = runs_of (flag (codes "explain") rows) (flag (codes "hidden") rows)
 

@@ -9,7 +9,7 @@ Reads old new r into = MatchResult r
     (λ n. (n ≤ length into) × Consumes old new (take n into) × (n ≡ 0 → 0 < length into → IsAtEnd new))
     (λ _. Keeps old new)
 
--- a read that returns `n` gave `n` bytes; a failure gave none
+-- how many bytes a source has given since it was made: a read that returns `n` gave `n` more; a failure gave none
 abbrev pub CountsGiven : {E : Type 0} → ℕ → ℕ → Result ℕ E → Type 0
 CountsGiven old new r = MatchResult r (λ n. new ≡ old + n) (λ _. new ≡ old)
 
@@ -20,6 +20,6 @@ Accepts old new r bytes = MatchResult r
     (λ n. (n ≤ length bytes) × Appends old new (take n bytes) × (0 < length bytes → 0 < n))
     (λ _. Keeps old new)
 
--- the flag is set if the call failed, and never cleared
+-- the flag of the device is set if the call failed, and nothing clears it
 abbrev pub SetsFailed : {T E : Type 0} → Bool → Bool → Result T E → Type 0
 SetsFailed old new r = new ≡ old || is_err r

@@ -24,7 +24,7 @@ pub record TakesWithin (old new : SourceState) (n : ℕ) : Type 0 where
 abbrev pub TakesExactly : Option (List ℕ) → Option (List ℕ) → ℕ → Type 0
 TakesExactly old new n = (taken : List ℕ) × (length taken ≡ n) × Consumes old new taken
 
--- the reader failed
+-- the result of a read is that the reader failed
 abbrev pub is_device_fault : {T : Type 0} → Result T ReadFault → Bool
 is_device_fault (Err Device) = true
 is_device_fault _ = false

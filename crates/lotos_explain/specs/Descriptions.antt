@@ -8,7 +8,7 @@ use Rattle.lotos_text.specs.declared.fault.TextFault.TheVariants as fault
 use Rattle.lotos_explain.specs.declared.token_description.Description.{Description}
 use Rattle.lotos_explain.specs.declared.token_description.Description.TheVariants as what
 
--- the bytes of a byte order mark in UTF-8
+-- the bytes of a byte order mark in UTF-8: 239, 187 and 191 (Unicode)
 abbrev pub byte_order_mark : List ℕ
 byte_order_mark = 239 ∷ 187 ∷ 191 ∷ []
 

@@ -11,7 +11,7 @@ use Rattle.lotos_explain.specs.declared.functionality_causes.Cause.{Cause}
 use Rattle.lotos_explain.specs.declared.functionality_causes.Leaf.{Leaf}
 use Rattle.lotos_explain.specs.declared.functionality_causes.Leaf.TheVariants as leaf
 
--- the leaf is this behaviour
+-- what a leaf means: this behaviour is `stop`, `exit` or a call
 abbrev pub IsLeaf : Leaf → BehaviourView → Type 0
 IsLeaf leaf.Stop b = b ≡ stop
 IsLeaf leaf.Exit b = b ≡ exit

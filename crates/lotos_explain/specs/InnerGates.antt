@@ -22,7 +22,7 @@ pub record HidesAt (around : List Name) (body : BehaviourView) (n : Name) (at : 
   pub inside : IsSubexpression around body there (hide gates part)
   pub listed : IsNamedAt gates n at
 
--- the body of one of these definitions does
+-- in the body of one of these definitions a `hide` has a gate with this name and this offset in its list
 pub record HidesInAny (definitions : List ScopedDefinition) (n : Name) (at : ℕ) : Type 0 where
   pub scoped : ScopedDefinition
   pub located : In scoped definitions

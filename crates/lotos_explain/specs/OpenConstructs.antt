@@ -9,22 +9,24 @@ use Rattle.lotos_text.specs.declared.token.Sign.TheVariants as s
 use Rattle.lotos_text.specs.declared.token.Word.{Word}
 use Rattle.lotos_text.specs.declared.token.Word.TheVariants as w
 
--- the keywords that open a construct with a closing one, and those that close one
+-- the keywords that open a construct with a closing one: `specification` and `process`
 abbrev pub word_opens : Word → Bool
 word_opens w.SpecificationWord = true
 word_opens w.ProcessWord = true
 word_opens _ = false
 
+-- the keywords that close a construct: `endspec` and `endproc`
 abbrev pub word_closes : Word → Bool
 word_closes w.EndspecWord = true
 word_closes w.EndprocWord = true
 word_closes _ = false
 
--- the same of signs: the parentheses
+-- the sign that opens a construct with a closing one: the left parenthesis
 abbrev pub sign_opens : Sign → Bool
 sign_opens s.LeftParenthesis = true
 sign_opens _ = false
 
+-- the sign that closes a construct: the right parenthesis
 abbrev pub sign_closes : Sign → Bool
 sign_closes s.RightParenthesis = true
 sign_closes _ = false
@@ -35,7 +37,7 @@ opens Identifier = false
 opens (Reserved word) = word_opens word
 opens (of_sign sign) = sign_opens sign
 
--- a token of the kind closes such a construct
+-- a token of the kind closes a construct with a closing word or sign
 abbrev pub closes : TokenKind → Bool
 closes Identifier = false
 closes (Reserved word) = word_closes word
@@ -48,7 +50,7 @@ after_token open_ones token =
     else if closes token.kind then take (length open_ones - 1) open_ones
     else open_ones
 
--- the same after more tokens
+-- with these tokens of open constructs, the outermost first, those after more tokens
 abbrev pub after_tokens : List Token → List Token → List Token
 after_tokens open_ones [] = open_ones
 after_tokens open_ones (token ∷ tokens) = after_tokens (after_token open_ones token) tokens

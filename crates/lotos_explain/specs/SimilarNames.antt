@@ -15,7 +15,8 @@ use Rattle.lotos_explain.specs.declared.similar_gates.Occurrence.TheVariants as 
 abbrev pub IsFrom : Option Name → List Name → Name → Type 0
 IsFrom best names n = (best ≡ Some n) ⊎ In n names
 
--- the number of edits of a character that lead from the first name to the second: the Levenshtein distance
+-- the number of edits of a character that lead from the first name to the second: the Levenshtein distance (as `strsim`
+-- defines it)
 abbrev pub edits : Name → Name → ℕ
 edits name other = levenshtein_row nat_eq (chars name) (chars other) (length (chars other))
 
@@ -30,7 +31,7 @@ pub record IsAmongAt (gates : List Placed) (at : ℕ) : Type 0 where
   pub located : In gate gates
   pub offset : gate.at ≡ at
 
--- the behaviour itself uses a gate whose offset this is
+-- the behaviour itself uses a gate with this offset
 pub record UsesGateAt (part : BehaviourView) (at : ℕ) : Type 0 where
   pub gate : Placed
   pub uses : UsesGate part gate
@@ -43,7 +44,7 @@ pub record IsCallAt (part : BehaviourView) (at : ℕ) : Type 0 where
   pub is : part ≡ call called actuals
   pub offset : called.at ≡ at
 
--- the behaviour itself uses a gate whose offset this is, or is a call whose name has it
+-- a name with this offset occurs in the behaviour itself: as a gate that it uses, or as the name of a call
 abbrev pub OccursAt : BehaviourView → Occurrence → Type 0
 OccursAt part (occurrence.Gate at) = UsesGateAt part at
 OccursAt part (occurrence.Call at) = IsCallAt part at

@@ -9,13 +9,15 @@ use Rattle.lotos_pattern.specs.Patterns.{IsIn, LabelSet, Pattern, refusal}
 use Rattle.lotos_listing.specs.Order.{Label as Text, internal}
 use Rattle.lotos_listing.specs.declared.label_flags.LabelFlags.{LabelFlags}
 
--- the set has the label
+-- the set has the label: a gate has its own flag if there are flags up to its number, and else one flag for all other
+-- gates; `exit` and `i` have a flag each. If A has the number 0, the set of A alone has one flag for gates, which is
+-- set, and its other flags are not set
 abbrev pub HasLabel : LabelFlags → Label → Type 0
 HasLabel flags (l.Gate g) = get_or flags.gates.items g flags.others ≡ true
 HasLabel flags l.Exit = flags.exit ≡ true
 HasLabel flags l.Internal = flags.internal ≡ true
 
--- the labels are those of a table with these gates that are in the set
+-- the labels of a table with these gates that are in the set, and no others, have their flag
 abbrev pub AreFlagsOf : LabelSet → List Name → LabelFlags → Type 0
 AreFlagsOf set names flags = (label : Label) (text : Text) → IsPrintedAs names label text →
     HasLabel flags label ↔ IsIn text set

@@ -18,7 +18,7 @@ pub data Event : Type 0 where
   termination : Event
   inside : (made_by : Origin) → Event
 
--- the term has a step to the other one that does so
+-- a step that does this leads from the first term to the second
 abbrev pub Does : List Process → Term → Event → Term → Type 0
 Does system t (gate g) u = Step system t (l.Gate g) u
 Does system t termination u = Step system t l.Exit u

@@ -8,7 +8,11 @@ use Rattle.lotos_terms.specs.Steps.{Step}
 use Rattle.lotos_origins.specs.declared.origin.Origin.{Origin}
 use Rattle.lotos_origins.specs.declared.origin.Origin.TheVariants as origin
 
--- an internal step of a term, and what makes it: each rule by which internal steps are made or passed on
+-- a term has an internal step to another, and what makes it: an `i` of the text; a gate that a hiding makes internal,
+-- by its name there; or the termination of the left operand of an enabling. There is a rule for each inference rule
+-- that makes an internal step or passes one on, and all that pass one on keep its origin. `hide b in P [b]`, where P is
+-- `process P [x] := x; P [x]`, has an internal step by B: the step of the body is one by X, which the call makes one by
+-- B, and the hiding makes this internal (ISO, with origins)
 pub data InternalStep (system : List Process) : Term → Origin → Term → Type 0 where
   -- the internal action of the text
   acts_inside : {b : Term} → InternalStep system (prefix None b) origin.Text b

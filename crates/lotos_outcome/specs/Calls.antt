@@ -22,7 +22,8 @@ pub record Answering (F P : Type 0) : Type 1 where
   -- the place of a command that stops before it has looked for an answer
   pub nowhere : P
 
--- what is a command's own: that, and what its words and the text ask
+-- what is a command's own: which questions it reads, what is found for each and which bytes are then written, where it
+-- may stop with which bytes, and what it refuses
 pub record Meaning (F P : Type 0) : Type 1 where
   pub answering : Answering F P
   -- why it is refused, by what the reader had left before it and after it
@@ -41,7 +42,9 @@ pub record IsWritten {Q : Type 0} (Asked : Q → Type 0) (Said : Q → List ℕ 
 
 -- what each end of a call means, if `Refuses` is why it is refused and `Asked` holds of the question: all was found and
 -- written; or it is refused, and nothing was written; or it stopped where it may, with what was written until then. If
--- memory runs out, that may be before it has looked for an answer, and then nothing was written
+-- memory runs out, that may be before it has looked for an answer, and then nothing was written. If `cover` stops at
+-- `--limit 2`, say, a question was asked that `cover_meaning` reads from the request and the text, and exactly the
+-- first two lines of its cover were written
 abbrev pub EndsAs : {F P : Type 0} → (a : Answering F P) → (Refuses : Refusal → Type 0) →
     (Asked : a.Question → Type 0) → (got got' : Option (List ℕ)) → Ended F P → Type 0
 EndsAs a Refuses Asked got got' (Done found) = IsWritten Asked (λ q. a.Answers q found) got got'
@@ -50,7 +53,7 @@ EndsAs a Refuses Asked got got' (Stopped Memory place) =
     ((place ≡ a.nowhere) × Keeps got got') ⊎ IsWritten Asked (λ q. a.Stops q Memory place) got got'
 EndsAs a Refuses Asked got got' (Stopped cause place) = IsWritten Asked (λ q. a.Stops q cause place) got got'
 
--- the same of a call that is not refused
+-- what each end of a call means that is not refused
 abbrev pub Answered : {F P : Type 0} → (a : Answering F P) → (Asked : a.Question → Type 0) →
     (got got' : Option (List ℕ)) → Ended F P → Type 0
 Answered a Asked got got' ended = EndsAs a (λ cause. ⊥) Asked got got' ended

@@ -24,7 +24,7 @@ pub data RunsView : Type 0 where
   labels : RunsView
   origins : MatchQuestion → RunsView
 
--- the question whose derivations are followed
+-- the question whose derivations are followed: that of the table and of the pattern
 abbrev pub question_of : RunNamesView → MatchQuestion
 question_of names = match_question_of names.table names.pattern
 
@@ -34,7 +34,7 @@ runs_view written.Omitted = omitted
 runs_view written.Labels = labels
 runs_view (written.Origins names) = origins (question_of names)
 
--- what is wanted
+-- which runs are written, as the request has it
 abbrev pub runs_of : RunsView → Runs
 runs_of omitted = runs.Omitted
 runs_of labels = runs.Labels

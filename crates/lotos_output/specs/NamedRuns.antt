@@ -42,7 +42,7 @@ pub record AreRoundNamed (names : List Name) (round : Round) (row_shown turn_sho
   pub row : AreNamed names round.row.items round.row_origins.items row_shown []
   pub turn : AreNamed names round.turn.items round.turn_origins.items turn_shown []
 
--- whether lines have runs
+-- whether lines have runs, by their labels or with what makes their internal steps
 abbrev pub writes_runs : Runs → Bool
 writes_runs Omitted = false
 writes_runs Labels = true
@@ -62,7 +62,8 @@ module _ (names : List Name) (processes : List Process) where
       (n : ℕ) → (u : Term) × DerivesNamed t (row ++ repeated n loop) (row_shown ++ repeated n loop_shown) u
 
   -- the second texts are those of a derivation by the run with the first ones, where those of internal steps say what
-  -- makes them; it may end where it does
+  -- makes them; it may end where it does. In `hide s in (i; a; s; stop)` the texts `i A i(S)` are those of a derivation
+  -- by the run `i A i`
   pub record IsNamedRun (start : Term) (Ends : Term → Type 0) (run shown : List Label) : Type 0 where
     pub labels : List TermLabel
     pub printed : ArePrinted names labels run

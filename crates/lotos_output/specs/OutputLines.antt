@@ -27,7 +27,7 @@ pub record IsItemOf (names : List Name) (labels run_labels : List TermLabel) (it
 abbrev pub sequences : List Item → List (List Label)
 sequences items = map (λ item. item.sequence) items
 
--- a sequence as text: its labels, separated by one blank each, or `<empty>`
+-- a sequence as text: its labels, separated by one blank each; the empty sequence as `<empty>`
 abbrev pub sequence_text : List Label → List ℕ
 sequence_text [] = codes "<empty>"
 sequence_text (l ∷ rest) = l ++ flat_map (λ m. 32 ∷ m) rest
@@ -48,7 +48,7 @@ abbrev pub IsLeft : List Name → List TermLabel → (text whole : List ℕ) →
 IsLeft names rest text whole =
     (left : List Label) × ArePrinted names rest left × (text ++ flat_map (λ m. 32 ∷ m) left ≡ whole)
 
--- the text of labels, if there are any
+-- the text of the labels as that of a sequence, and none if there are no labels
 abbrev pub IsTextOf : List Label → Option (String Global) → Type 0
 IsTextOf next None = length next ≡ 0
 IsTextOf next (Some text) = (0 < length next) × (string_bytes text ≡ sequence_text next)
@@ -83,7 +83,8 @@ abbrev pub match_line : (with_run : Bool) → Item → Option (List Label × Lis
 match_line with_run item round =
     sequence_text item.sequence ++ run_text with_run item.run ++ round_text_if with_run round ++ 10 ∷ []
 
--- the line of an item, ended by a line feed
+-- the line of an item, ended by a line feed: its sequence, and, if lines have runs, ` : ` and what is written of its
+-- run
 abbrev pub line_of : (with_run : Bool) → Item → List ℕ
 line_of with_run item = sequence_text item.sequence ++ run_text with_run item.run ++ 10 ∷ []
 
@@ -95,16 +96,17 @@ lines_of with_run items = flat_map (λ item. line_of with_run item) items
 abbrev pub next_lines : List Label → (dead : Bool) → List ℕ
 next_lines next dead = flat_map (λ l. l ++ 10 ∷ []) next ++ deadlock_line dead
 
--- a functionality as text
+-- a functionality as text: `exit` or `noexit`
 abbrev pub functionality_text : Functionality → List ℕ
 functionality_text Exit = codes "exit"
 functionality_text NoExit = codes "noexit"
 
--- the line of a process: its name, how many formal gates it has, and its functionality
+-- the line of a process: its name, how many formal gates it has, and `exit` or `noexit`, separated by one blank each,
+-- and a line feed
 abbrev pub process_line : FlatProcess → List ℕ
 process_line p = p.name ++ codes " " ++ decimal (length p.formals) ++ codes " " ++ functionality_text p.functionality
     ++ codes "\n"
 
--- the lines of the processes of a system
+-- the lines of all processes of a system
 abbrev pub check_lines : System → List ℕ
 check_lines system = flat_map process_line system.processes

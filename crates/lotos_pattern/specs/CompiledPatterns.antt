@@ -6,20 +6,22 @@ use Rattle.lotos_pattern.specs.NfaStates.{IsPlaceValue, Place}
 use Rattle.lotos_pattern.specs.NfaTransitions.{HasStatesAfter}
 use Rattle.lotos_pattern.specs.Places.{IsPlaceOf}
 
--- the place that the label leads to from a place; none if no sequence that the pattern matches goes on like this
+-- the place that the label leads to from a place: that of each sequence of the place with the label after it, by
+-- meaning and by NFA states; none if none of these sequences can be completed
 pub record IsPlaceAfter (p : Pattern) (from : Place) (label : Label) (to : Option Place) : Type 0 where
   pub goes_on : (r : List Label) → IsPlaceOf p r from → MatchOption to (Viable p (r ++ label ∷ []) → ⊥)
       (λ q. Viable p (r ++ label ∷ []) × IsPlaceOf p (r ++ label ∷ []) q)
   pub states : (r : List Label) → HasStatesAfter p r from → IfSome to (HasStatesAfter p (r ++ label ∷ []))
   pub place_value : IfSome to IsPlaceValue
 
--- the place of the empty sequence, with which some sequence can go on
+-- the place of the empty sequence, with the NFA states that it has; some sequence is matched
 pub record IsFirstPlace (p : Pattern) (place : Place) : Type 0 where
   pub begins : IsPlaceOf p [] place
   pub viable : Viable p []
   pub states : HasStatesAfter p [] place
 
--- a compiled pattern: the pattern, and the labels and the places that it knows, by their numbers
+-- a compiled pattern: the pattern, the labels that it is compiled against, and the places that have come up, each at
+-- the index that is its number
 pub record CompiledView : Type 0 where
   pub pattern : Pattern
   pub labels : List Label

@@ -9,12 +9,12 @@ use Rattle.lotos_pattern.specs.declared.element.Element.TheVariants as code
 use Rattle.lotos_pattern.specs.declared.label_set.LabelSet.{LabelSet as CodeLabelSet}
 use Rattle.lotos_pattern.specs.declared.label_set.LabelSet.TheVariants as code_set
 
--- the view of a set of labels
+-- the set of labels that a value of the program is
 abbrev pub set_of : CodeLabelSet → LabelSet
 set_of (code_set.These labels) = these (map string_bytes labels.items)
 set_of (code_set.Others labels) = others (map string_bytes labels.items)
 
--- that of a set that is lent
+-- the set of labels that a lent value of the program is
 abbrev pub lent_set_of : Bor CodeLabelSet → LabelSet
 lent_set_of set = set_of set.now
 

@@ -27,7 +27,7 @@ pub record IsFirstState (place : Place) (from k : ℕ) : Type 0 where
 abbrev pub remaining_elements : Pattern → ℕ → Pattern
 remaining_elements p k = record { elements = drop k p.elements; strong = p.strong }
 
--- at some state of the place, the rest of the pattern matches what follows
+-- what may still follow at a place: at some state of the place, the remaining elements match it
 pub record CanFollow (p : Pattern) (place : Place) (s : List Label) : Type 0 where
   pub state : ℕ
   pub has : HasState place state

@@ -40,7 +40,8 @@ module _ (strong : Bool) where
   abbrev pub IsLabels : Text → Type 0
   IsLabels word = (labels : List Label) × NamesLabels strong word labels
 
-  -- no element begins with the word, and it does not name the internal action
+  -- no element begins with the word, it does not name the internal action, and it is no demand on what can come after
+  -- the end
   pub record BeginsNoElement (word : Text) : Type 0 where
     pub labels : IsLabels word → ⊥
     pub internal : NamesInternal word → ⊥
@@ -52,7 +53,8 @@ module _ (strong : Bool) where
     pub refuses : IsRefuses word → ⊥
     pub future : IsFuture word → ⊥
 
-  -- the word goes on no element that `<until>` begins, and it does not name the internal action
+  -- the word goes on no element that `<until>` begins, it does not name the internal action, and it is no demand on
+  -- what can come after the end
   pub record EndsNoUntil (word : Text) : Type 0 where
     pub labels : IsLabels word → ⊥
     pub internal : NamesInternal word → ⊥
@@ -97,26 +99,23 @@ module _ (strong : Bool) where
   AwaitsLabels words n = AwaitsSet words n
       ⊎ ((before : ℕ) × (n ≡ before + 1) × AwaitsSet words before × HasWord words before IsNot)
 
-  -- the cause of a fault
+  -- the cause of a fault. E41: an element should begin, and none begins with the word. E42: an element begins with
+  -- `<until>`, and does not go on with the next word, or there is none. E43: the words before spell a pattern that
+  -- demands a refusal. E44: the words before spell 256 elements and demand no refusal. E45: the word may name labels,
+  -- and names the internal action, which is not observed. E48: an element begins with `<while>`, and does not go on
+  -- with the next word, or there is none. E50: a set begins with `<not>`, and the next word does not name its labels,
+  -- or there is none; or a demand on the end begins with `<refuses>`, and no set comes after it. E51: a demand on the
+  -- end may begin at the word, and the word is a demand on what can come after the end
   abbrev pub IsCause : List Text → PatternFault → Type 0
-  -- an element should begin, and none begins with the word
   IsCause words (E41 n) = BeginsElement words n × HasWord words n BeginsNoElement
-  -- an element begins with `<until>`, and it does not go on with the next word, or there is none
   IsCause words (E42 n) = BeginsWith words n IsUntil × (HasWord words (n + 1) EndsNoUntil ⊎ (length words ≡ n))
-  -- the words before spell a pattern that demands a refusal
   IsCause words (E43 n) = (p : Pattern) × IsAfterPattern words n p × DemandsRefusal p
-  -- the words before spell 256 elements and demand no refusal
   IsCause words (E44 n) = (p : Pattern) × IsAfterPattern words n p × (DemandsRefusal p → ⊥) × (length p.elements ≡ 256)
-  -- the word may name labels, and names the internal action, which is not observed
   IsCause words (E45 n) = AwaitsLabels words n × HasWord words n NamesInternal × (strong ≡ false)
-  -- an element begins with `<while>`, and it does not go on with the next word, or there is none
   IsCause words (E48 n) = BeginsWith words n IsWhile × HasNoSetAfter words n
-  -- a set begins with `<not>`, and the next word does not name its labels, or there is none; or a demand on the end
-  -- begins with `<refuses>`, and no set comes after it
   IsCause words (E50 n) = (AwaitsSet words n × HasWord words n IsNot ×
       (HasWord words (n + 1) EndsNoComplement ⊎ (length words ≡ n)))
       ⊎ (AwaitsEnd words n × HasWord words n IsRefuses × HasNoSetAfter words n)
-  -- a demand on the end may begin at the word, and the word is a demand on what can come after the end
   IsCause words (E51 n) = AwaitsEnd words n × HasWord words n IsFuture
   IsCause words (E99 e) = Unit {0}
 

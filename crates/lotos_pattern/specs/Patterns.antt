@@ -9,11 +9,9 @@ IsJoin Part [] xs = xs ≡ []
 IsJoin {E} {X} Part (e ∷ es) xs = (front : List X) × (rest : List X) × Part e front × IsJoin Part es rest
     × (xs ≡ front ++ rest)
 
--- a set of labels
+-- a set of labels: these labels, or all labels but these
 pub data LabelSet : Type 0 where
-  -- these labels
   these : List Label → LabelSet
-  -- all labels but these
   others : List Label → LabelSet
 
 -- the label is in the set
@@ -21,20 +19,16 @@ abbrev pub IsIn : Label → LabelSet → Type 0
 IsIn l (these labels) = Contains labels l
 IsIn l (others labels) = Contains labels l → ⊥
 
--- an element of a pattern
+-- an element of a pattern, by the labels that it matches: one label of the set; any number of labels outside of it, and
+-- then one of it; any number, all of it; none, and the end must refuse the set; any number, and the end must refuse it
 pub data Element : Type 0 where
-  -- one label of the set
   one : LabelSet → Element
-  -- any number of labels outside of the set, and then one of the set
   until : LabelSet → Element
-  -- any number of labels, all of the set
   while : LabelSet → Element
-  -- no label; the end must refuse the set
   refuses : LabelSet → Element
-  -- any number of labels; the end must refuse the set
   until_refuses : LabelSet → Element
 
--- the sequence is a segment of the element
+-- the sequence is a segment of the element: labels that it matches
 abbrev pub Segment : Element → List Label → Type 0
 Segment (one set) s = (l : Label) × IsIn l set × (s ≡ l ∷ [])
 Segment (until set) s = (before : List Label) × (l : Label) × All (λ x. IsIn x set → ⊥) before × IsIn l set ×
@@ -43,7 +37,8 @@ Segment (while set) s = All (λ x. IsIn x set) s
 Segment (refuses set) s = s ≡ []
 Segment (until_refuses set) s = Unit {0}
 
--- the label can be observed: any label if internal steps are observed, otherwise any but the internal action
+-- the label can be observed: any label if internal steps are observed (`--strong`), otherwise any but the internal
+-- action (ISO; the flag is own)
 abbrev pub IsObservable : (strong : Bool) → Label → Type 0
 IsObservable true l = Unit {0}
 IsObservable false l = l ≢ internal

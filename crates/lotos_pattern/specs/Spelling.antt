@@ -11,7 +11,7 @@ use Rattle.lotos_pattern.specs.Patterns.{these, until, until_refuses, while}
 abbrev pub Text : Type 0
 Text = List ℕ
 
--- the texts of the words
+-- the bytes of the words of a list
 abbrev pub texts_of : List (Bor Text) → List Text
 texts_of words = map (λ word. word.now) words
 
@@ -57,66 +57,62 @@ parts_of word = slice_split (λ b. b == 44) word
 abbrev pub NamesLabels : (strong : Bool) → Text → List Label → Type 0
 NamesLabels strong word labels = NamesEach strong (parts_of word) labels
 
--- the word is `<any>`
+-- the word is `<any>`, in any mix of cases
 abbrev pub IsAny : Text → Type 0
 IsAny word = EqualsIgnoringCase word (codes "<any>")
 
--- the word is `<not>`
+-- the word is `<not>`, in any mix of cases
 abbrev pub IsNot : Text → Type 0
 IsNot word = EqualsIgnoringCase word (codes "<not>")
 
--- the word is `<until>`
+-- the word is `<until>`, in any mix of cases
 abbrev pub IsUntil : Text → Type 0
 IsUntil word = EqualsIgnoringCase word (codes "<until>")
 
--- the word is `<while>`
+-- the word is `<while>`, in any mix of cases
 abbrev pub IsWhile : Text → Type 0
 IsWhile word = EqualsIgnoringCase word (codes "<while>")
 
--- the word is `<deadlock>`
+-- the word is `<deadlock>`, in any mix of cases
 abbrev pub IsDeadlock : Text → Type 0
 IsDeadlock word = EqualsIgnoringCase word (codes "<deadlock>")
 
--- the word is `<refuses>`
+-- the word is `<refuses>`, in any mix of cases
 abbrev pub IsRefuses : Text → Type 0
 IsRefuses word = EqualsIgnoringCase word (codes "<refuses>")
 
--- the word is `<livelock>`
+-- the word is `<livelock>`, in any mix of cases
 abbrev pub IsLivelock : Text → Type 0
 IsLivelock word = EqualsIgnoringCase word (codes "<livelock>")
 
--- the word is `<forever>`
+-- the word is `<forever>`, in any mix of cases
 abbrev pub IsForever : Text → Type 0
 IsForever word = EqualsIgnoringCase word (codes "<forever>")
 
--- the word is `<never>`
+-- the word is `<never>`, in any mix of cases
 abbrev pub IsNever : Text → Type 0
 IsNever word = EqualsIgnoringCase word (codes "<never>")
 
--- the word is a demand on what can come after the end
+-- the word is `<livelock>`, `<forever>` or `<never>`, which demand something of what can come after the end
 abbrev pub IsFuture : Text → Type 0
 IsFuture word = IsLivelock word ⊎ (IsForever word ⊎ IsNever word)
 
--- the words that spell a set of labels
+-- the words that spell a set of labels: the names of its labels, or `<not>` and the names of those that are not in it
 pub data SetSpelling (strong : Bool) : LabelSet → List Text → Type 0 where
-  -- the names of its labels
   named : {word : Text} {labels : List Label} → NamesLabels strong word labels →
       SetSpelling strong (these labels) (word ∷ [])
-  -- `<not>`, and the names of the labels that are not in it
   complement : {first second : Text} {labels : List Label} → IsNot first → NamesLabels strong second labels →
       SetSpelling strong (others labels) (first ∷ second ∷ [])
 
--- the words that spell a set of labels, which may be that of all
+-- the words that spell a set of labels, or `<any>`, which is the set of all labels
 pub data WideSetSpelling (strong : Bool) : LabelSet → List Text → Type 0 where
   some : {set : LabelSet} {words : List Text} → SetSpelling strong set words → WideSetSpelling strong set words
-  -- `<any>`
   all : {word : Text} → IsAny word → WideSetSpelling strong (others []) (word ∷ [])
 
--- the words that spell the demand that the end refuses a set
+-- the words of the demand that the end refuses a set: `<deadlock>`, of which the set is that of all labels, or
+-- `<refuses>` and the words of the set
 pub data RefusalSpelling (strong : Bool) : LabelSet → List Text → Type 0 where
-  -- `<deadlock>`: the set of all labels
   deadlock : {word : Text} → IsDeadlock word → RefusalSpelling strong (others []) (word ∷ [])
-  -- `<refuses>`, and the set
   refused : {first : Text} {set : LabelSet} {rest : List Text} → IsRefuses first → WideSetSpelling strong set rest →
       RefusalSpelling strong set (first ∷ rest)
 
@@ -136,8 +132,8 @@ pub data Spelling (strong : Bool) : Element → List Text → Type 0 where
   until_end : {first : Text} {set : LabelSet} {rest : List Text} → IsUntil first → RefusalSpelling strong set rest →
       Spelling strong (until_refuses set) (first ∷ rest)
 
--- the words spell the pattern: at most 256 elements, of which only the last may demand a refusal; if internal steps
--- are observed, the internal action is a label like others
+-- the words spell the pattern: they are the concatenation of those of at most 256 elements, of which only the last may
+-- demand that the end refuses a set; if internal steps are observed, the internal action is a label like others
 pub record PatternOf (strong : Bool) (words : List Text) (p : Pattern) : Type 0 where
   pub shows : p.strong ≡ strong
   pub spelled : IsJoin (Spelling strong) p.elements words

@@ -5,11 +5,9 @@ use Rattle.lotos_pattern.specs.Patterns.{Element, Segment}
 use Rattle.lotos_pattern.specs.declared.element.Transition.{Transition}
 use Rattle.lotos_pattern.specs.declared.element.Transition.TheVariants as transition
 
--- the label has this transition at the element
+-- what the label does at the element: it is a segment, and no longer segment starts with it; after it any segment of
+-- the element may follow, and nothing else; no segment starts with it
 unfoldable pub IsTransition : Element → Label → Transition → Type 0
--- the label is a segment, and no longer segment starts with it
 IsTransition e l transition.Advance = (s : List Label) → Segment e (l ∷ s) ↔ (s ≡ [])
--- after the label any segment of the element may follow, and nothing else
 IsTransition e l transition.Stay = (s : List Label) → Segment e (l ∷ s) ↔ Segment e s
--- no segment starts with the label
 IsTransition e l transition.Reject = (s : List Label) → Segment e (l ∷ s) → ⊥

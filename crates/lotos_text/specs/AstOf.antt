@@ -13,12 +13,12 @@ use Rattle.lotos_text.specs.declared.ast.SyncSet.{SyncSet}
 use Rattle.lotos_text.specs.declared.ast.SyncSet.TheVariants.{Gates, All}
 use Rattle.lotos_text.specs.declared.ast.Definition.{Definition, fold-Definition}
 
--- the view of the gates of a parallel expression
+-- the view of the gates of a parallel expression of the program
 abbrev pub sync_view : SyncSet → SyncView
 sync_view (Gates list) = gates list.items
 sync_view All = all
 
--- the view of a behaviour expression
+-- the view of a behaviour expression of the program
 abbrev pub behaviour_view : Behaviour → BehaviourView
 behaviour_view Stop = stop
 behaviour_view Exit = exit
@@ -30,12 +30,12 @@ behaviour_view (Enable' p left at q right) = enable (behaviour_view left) at (be
 behaviour_view (Disable' p left q right) = disable (behaviour_view left) (behaviour_view right)
 behaviour_view (Call name list) = call name list.items
 
--- a list of views as the view of a list
+-- a list of views of definitions as the view of a list
 abbrev pub definition_list_view : List DefinitionView → DefinitionListView
 definition_list_view [] = no_defs
 definition_list_view (d ∷ ds) = more_defs d (definition_list_view ds)
 
--- the view of a definition
+-- the view of a definition of the program
 abbrev pub definition_view : Definition → DefinitionView
 definition_view = fold-Definition DefinitionView (λ d. def d.name d.formals.items d.functionality
     (behaviour_view d.body) (definition_list_view d.inner.items))

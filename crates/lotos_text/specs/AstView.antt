@@ -4,12 +4,13 @@ use Rattle.lotos_text.specs.declared.ast.Placed.{Placed}
 use Rattle.lotos_text.specs.declared.ast.Action.{Action}
 use Rattle.lotos_text.specs.declared.ast.Functionality.{Functionality}
 
--- the gates on which both sides of a parallel expression synchronize: those of a list, or all
+-- the gates on which both sides of a parallel expression synchronize: those of a list, or all (ISO)
 pub data SyncView : Type 0 where
   gates : List Placed → SyncView
   all : SyncView
 
--- a behaviour expression; the number of an enabling is the offset of its operator
+-- a behaviour expression as a plain value, without boxes and allocators; the number of an enabling is the offset of its
+-- operator (ISO, behaviour expressions)
 pub data BehaviourView : Type 0 where
   stop : BehaviourView
   exit : BehaviourView
@@ -21,12 +22,13 @@ pub data BehaviourView : Type 0 where
   disable : BehaviourView → BehaviourView → BehaviourView
   call : Placed → List Placed → BehaviourView
 
--- a definition (its name, formal gates, declared functionality, body and the definitions of its `where`), and a list of
--- them
 mutual
+  -- a definition as a plain value: its name, formal gates, declared functionality, body, and the definitions of its
+  -- `where` (ISO, process definitions)
   pub data DefinitionView : Type 0 where
     def : Placed → List Placed → Functionality → BehaviourView → DefinitionListView → DefinitionView
 
+  -- a list of definitions as a plain value (ISO)
   pub data DefinitionListView : Type 0 where
     no_defs : DefinitionListView
     more_defs : DefinitionView → DefinitionListView → DefinitionListView

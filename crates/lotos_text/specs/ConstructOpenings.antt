@@ -37,7 +37,8 @@ opens_construct (of_sign sign) = sign_opens sign
 abbrev pub count_openings : List Token → ℕ
 count_openings = count_by (λ t. opens_construct t.kind)
 
--- a keyword of full LOTOS that this project's profile does not use
+-- a keyword of full LOTOS that this project's profile does not use: `accept`, `choice`, `let`, `par`, `library` or
+-- `type`
 abbrev pub is_full_lotos_word : Word → Bool
 is_full_lotos_word w.AcceptWord = true
 is_full_lotos_word w.ChoiceWord = true
@@ -47,7 +48,7 @@ is_full_lotos_word w.LibraryWord = true
 is_full_lotos_word w.TypeWord = true
 is_full_lotos_word _ = false
 
--- whether a token of the kind is such a keyword
+-- whether a token of the kind is a keyword of full LOTOS that this project's profile does not use
 abbrev pub is_full_lotos : TokenKind → Bool
 is_full_lotos Identifier = false
 is_full_lotos (Reserved word) = is_full_lotos_word word

@@ -18,25 +18,25 @@ use Rattle.lotos_text.specs.declared.ast.Functionality.TheVariants as f
 pub record IsOfKind (token : Token) (kind : TokenKind) : Type 0 where
   pub same : token.kind ≡ kind
 
--- the name that an identifier spells, with its offset
+-- the name that an identifier spells, in upper case, with its offset
 abbrev pub located_name : List ℕ → Token → Placed
 located_name text n = record { name = map to_ascii_uppercase (slice_range text n.at n.end); at = n.at }
 
--- one or more names, separated by commas
+-- one or more names, separated by commas (ISO)
 pub data Names (text : List ℕ) : List Token → List Placed → Type 0 where
   one_name : {n : Token} → IsOfKind n Identifier → Names text (n ∷ []) (located_name text n ∷ [])
   more_names : {n comma : Token} {ts : List Token} {names : List Placed} →
       IsOfKind n Identifier → IsOfKind comma (Sign s.Comma) → Names text ts names →
       Names text (n ∷ comma ∷ ts) (located_name text n ∷ names)
 
--- nothing, or names in brackets
+-- nothing, or names in brackets (ISO)
 pub data GateList (text : List ℕ) : List Token → List Placed → Type 0 where
   no_gates : GateList text [] []
   gates : {left right : Token} {ts : List Token} {names : List Placed} →
       IsOfKind left (Sign s.LeftBracket) → Names text ts names → IsOfKind right (Sign s.RightBracket) →
       GateList text (left ∷ ts ++ right ∷ []) names
 
--- the levels of behaviour expressions, from the loosest to the tightest
+-- the levels of behaviour expressions, from the loosest to the tightest: enabling, disabling, parallel, choice, prefix
 pub data Level : Type 0 where
   enabling : Level
   disabling : Level
@@ -65,7 +65,7 @@ apply disables x y = t.disable x y
 apply (synchronizes sync) x y = t.par x sync y
 apply chooses x y = t.choice x y
 
--- the tokens of an operator, and its level
+-- the tokens of an operator, and its level (ISO; the levels are own)
 pub data IsOperator (text : List ℕ) : Level → List Token → Operator → Type 0 where
   enable_sign : {o : Token} → IsOfKind o (Sign s.Enable) → IsOperator text enabling (o ∷ []) (enables o.at)
   disable_sign : {o : Token} → IsOfKind o (Sign s.Disable) → IsOperator text disabling (o ∷ []) disables
@@ -81,14 +81,15 @@ pub data IsOperator (text : List ℕ) : Level → List Token → Operator → Ty
       IsOperator text parallel (o ∷ ts ++ right ∷ bar ∷ []) (synchronizes (t.gates names))
   choice_sign : {o : Token} → IsOfKind o (Sign s.Choice) → IsOperator text choosing (o ∷ []) chooses
 
--- what a prefix does first: a gate or the internal action
+-- what a prefix does first: a gate or the internal action (ISO)
 pub data IsAction (text : List ℕ) : Token → Action → Type 0 where
   gate : {n : Token} → IsOfKind n Identifier → IsAction text n (Gate (located_name text n))
   internal : {n : Token} → IsOfKind n (Reserved w.IWord) → IsAction text n Internal
 
 -- the tokens spell the behaviour at the level; the flag says whether the spelling is open, the number is its nesting. A
 -- hide form is of every level and is open, as is what ends in one; a left operand is never open. A binary operator
--- groups to the right: its right operand is of its own level, its left one of the next tighter
+-- groups to the right: its right operand is of its own level, its left one of the next tighter (ISO; levels, grouping,
+-- openness and nesting are own)
 pub data Spells (text : List ℕ) : Level → Bool → ℕ → List Token → BehaviourView → Type 0 where
   stop : {n : Token} → IsOfKind n (Reserved w.StopWord) → Spells text prefixing false 0 (n ∷ []) t.stop
   exit : {n : Token} → IsOfKind n (Reserved w.ExitWord) → Spells text prefixing false 0 (n ∷ []) t.exit
@@ -113,33 +114,33 @@ pub data Spells (text : List ℕ) : Level → Bool → ℕ → List Token → Be
       Spells text enabling o n ts x →
       Spells text l true (n + 1) (word ∷ gates ++ within ∷ ts) (t.hide names x)
 
--- the declared functionality
+-- the functionality that a token declares (ISO)
 pub data IsFunctionality : Token → Functionality → Type 0 where
   exits : {n : Token} → IsOfKind n (Reserved w.ExitWord) → IsFunctionality n f.Exit
   never_exits : {n : Token} → IsOfKind n (Reserved w.NoexitWord) → IsFunctionality n f.NoExit
 
--- whether a definition is the specification or a process, which decides its keywords
+-- whether a definition is the specification or a process, which decides its keywords (ISO)
 pub data DefinitionKind : Type 0 where
   a_specification : DefinitionKind
   a_process : DefinitionKind
 
--- the keyword that it begins with
+-- the keyword that a definition begins with (ISO)
 abbrev pub opening_word : DefinitionKind → TokenKind
 opening_word a_specification = Reserved w.SpecificationWord
 opening_word a_process = Reserved w.ProcessWord
 
--- what introduces its body
+-- the token before the body of a definition (ISO)
 abbrev pub defining_sign : DefinitionKind → TokenKind
 defining_sign a_specification = Reserved w.BehaviourWord
 defining_sign a_process = Sign s.Define
 
--- the keyword that it ends with
+-- the keyword that a definition ends with (ISO)
 abbrev pub closing_word : DefinitionKind → TokenKind
 closing_word a_specification = Reserved w.EndspecWord
 closing_word a_process = Reserved w.EndprocWord
 
 mutual
-  -- the tokens define a specification or a process, with their nesting
+  -- the tokens define a specification or a process, with their nesting (ISO; the nesting is own)
   pub data SpellsDefinition (text : List ℕ) : DefinitionKind → ℕ → List Token → DefinitionView → Type 0 where
     definition : {what : DefinitionKind} {word name colon returns define end : Token} {gates body rest : List Token}
         {formals : List Placed} {func : Functionality} {o : Bool} {n m : ℕ} {x : BehaviourView}
@@ -153,13 +154,13 @@ mutual
         ∷ [])
         (t.def (located_name text name) formals func x inner)
 
-  -- nothing, or `where` and one or more definitions of processes
+  -- nothing, or `where` and one or more definitions of processes (ISO; the nesting is own)
   pub data SpellsWhere (text : List ℕ) : ℕ → List Token → DefinitionListView → Type 0 where
     nothing : SpellsWhere text 0 [] t.no_defs
     definitions : {word : Token} {n : ℕ} {ts : List Token} {ds : DefinitionListView} →
         IsOfKind word (Reserved w.WhereWord) → SpellsDefinitions text n ts ds → SpellsWhere text n (word ∷ ts) ds
 
-  -- one or more definitions of processes, each nested one deeper than by itself
+  -- one or more definitions of processes, each nested one deeper than by itself (ISO; the nesting is own)
   pub data SpellsDefinitions (text : List ℕ) : ℕ → List Token → DefinitionListView → Type 0 where
     last : {n : ℕ} {ts : List Token} {d : DefinitionView} → SpellsDefinition text a_process n ts d →
         SpellsDefinitions text (n + 1) ts (t.more_defs d t.no_defs)
@@ -167,7 +168,7 @@ mutual
         SpellsDefinition text a_process n first d → SpellsDefinitions text m others ds →
         SpellsDefinitions text (max (n + 1) m) (first ++ others) (t.more_defs d ds)
 
--- the tokens spell the specification, with this nesting
+-- the tokens spell the specification, with this nesting (ISO; the nesting is own)
 abbrev pub SpellsSpecification : List ℕ → ℕ → List Token → DefinitionView → Type 0
 SpellsSpecification text = SpellsDefinition text a_specification
 

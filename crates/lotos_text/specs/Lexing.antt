@@ -33,7 +33,7 @@ EndsWord (b ∷ bs) = is_word_byte b ≡ false
 abbrev pub equals_ignoring_case : List ℕ → List ℕ → Bool
 equals_ignoring_case word found = bytes_eq word (map to_ascii_lowercase found)
 
--- the keywords; every other word is an identifier
+-- the keywords, in any mix of cases; every other word is an identifier
 abbrev pub classify : List ℕ → TokenKind
 classify found =
     if equals_ignoring_case (codes "specification") found then Reserved w.SpecificationWord
@@ -79,24 +79,25 @@ sign_text s.Bar = codes "|"
 abbrev pub StartsWith : List ℕ → List ℕ → Type 0
 StartsWith front text = (rest : List ℕ) × (text ≡ front ++ rest)
 
--- the two bytes that open a comment
+-- `(*`, which opens a comment (ISO)
 abbrev pub comment_opening : List ℕ
 comment_opening = codes "(*"
 
--- the two bytes that close a comment
+-- `*)`, which closes a comment (ISO)
 abbrev pub comment_closing : List ℕ
 comment_closing = codes "*)"
 
--- an opening, any bytes, and a closing after them
+-- an opening, any bytes, and a closing after them (ISO)
 abbrev pub IsClosedComment : List ℕ → Type 0
 IsClosedComment piece = (body : List ℕ) × (piece ≡ comment_opening ++ body ++ comment_closing)
 
--- a comment: closed, and with no proper prefix that is
+-- a comment: `(*`, any bytes, and the first `*)` after the opening. No proper prefix is closed, so comments do not
+-- nest, and a second `(*` opens nothing (ISO)
 pub record IsComment (piece : List ℕ) : Type 0 where
   pub closed : IsClosedComment piece
   pub first : (front rest : List ℕ) → piece ≡ front ++ rest → IsClosedComment front → rest ≡ []
 
--- a comment opens at the start of the text, and no prefix of the text closes it
+-- a comment opens at the start of the text, and no prefix of the text closes it (ISO)
 pub record IsUnclosedComment (text : List ℕ) : Type 0 where
   pub opens : StartsWith comment_opening text
   pub never : (front : List ℕ) → StartsWith front text → IsClosedComment front → ⊥
@@ -111,7 +112,8 @@ pub record IsSignToken (sign : Sign) (rest : List ℕ) : Type 0 where
 abbrev pub token : ℕ → ℕ → TokenKind → Token
 token at len kind = record { at = at; end = at + len; kind = kind }
 
--- from the first offset to the second the text lexes to blanks, comments and these tokens, and the rest follows
+-- from the first offset to the second the text lexes to blanks (bytes 9 to 13 and 32), comments, complete words, and
+-- signs, and the rest follows; the tokens are the words and signs, with their offsets
 pub data LexesTo : ℕ → List ℕ → List Token → ℕ → List ℕ → Type 0 where
   nothing : {at : ℕ} {text : List ℕ} → LexesTo at text [] at text
   blank : {at end b : ℕ} {text rest : List ℕ} {ts : List Token} →
@@ -129,7 +131,7 @@ pub data LexesTo : ℕ → List ℕ → List Token → ℕ → List ℕ → Type
 abbrev pub Lexes : List ℕ → List Token → Type 0
 Lexes text ts = LexesTo 0 text ts (length text) []
 
--- no lexeme begins with the byte before this rest
+-- no lexeme begins with the byte before this rest: it is no blank and no letter, and no sign begins there
 pub record NoLexemeAt (b : ℕ) (rest : List ℕ) : Type 0 where
   pub no_blank : is_blank b ≡ false
   pub no_letter : is_ascii_alphabetic b ≡ false
@@ -150,7 +152,7 @@ pub record FailsAtComment (text : List ℕ) (at : ℕ) : Type 0 where
   pub lexes : LexesTo 0 text before at rest
   pub unclosed : IsUnclosedComment rest
 
--- lexing fails at the offset
+-- lexing fails at the offset: at a byte where no lexeme begins, or at a comment that is not closed
 pub data LexingFailsAt (text : List ℕ) (at : ℕ) : Type 0 where
   at_byte : FailsAtByte text at → LexingFailsAt text at
   at_comment : FailsAtComment text at → LexingFailsAt text at

@@ -83,7 +83,7 @@ module _ (q : AfterQuestion) where
   IsAfterStop bound Write None bytes = (whole : List ℕ) × AreNextLines whole × IsBeginningOf whole bytes
   IsAfterStop bound _ _ bytes = ⊥
 
--- with the request's bound
+-- what `after` may find for the request, and where it may stop, with the request's bound
 abbrev pub after_answering : AfterRequest → Answering Continuation (Option ℕ)
 after_answering request = record {
   Question = AfterQuestion;

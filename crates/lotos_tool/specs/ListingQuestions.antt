@@ -72,8 +72,8 @@ IsQuestionOf system (by_depth q) = depths.IsQuestionOf system q
 IsQuestionOf system (by_length q) = lengths.IsLengthQuestionOf system q
 IsQuestionOf system (by_cover q) = covers.IsCoverQuestionOf system q
 
--- the question has the bounds of the request: on the steps of a derivation or on the labels of a sequence, and on the
--- terms of a prefix
+-- the question has the bounds of the request: on the steps of a derivation or on the labels of a sequence, on the terms
+-- of a prefix, and by length whether runs are written
 abbrev pub HasBoundsOf : SearchRequest → ListingQuestion → Type 0
 HasBoundsOf request (by_depth q) = (request.extent ≡ extent.Depth q.depth) × (q.terms ≡ request.terms)
 HasBoundsOf request (by_length q) =
@@ -99,7 +99,8 @@ abbrev pub IsNamedRunOf : ListingQuestion → (run shown : List Label) → Type 
 IsNamedRunOf q run shown = MatchOption (matches_of q) ⊥
     (λ m. IsNamedRun m.names m.processes m.start (MayEndFor m kinds.Refuses) run shown)
 
--- the run is written of the sequence: its least run, with what makes its internal steps if that is wanted
+-- what is written of the run of a sequence: its least run, or texts with what makes the internal steps of a derivation
+-- by this run. Of the sequence A in `hide s, t in (s; a; stop [] t; stop)` it is `i A`, or `i(S) A`
 abbrev pub IsWrittenRunOf : Runs → ListingQuestion → (s written : List Label) → Type 0
 IsWrittenRunOf Omitted q s written = IsLeastRunOf q s written
 IsWrittenRunOf Labels q s written = IsLeastRunOf q s written
@@ -143,22 +144,25 @@ pub record ListingAsked : Type 0 where
 abbrev pub asked_by : ListingState → ListingAsked
 asked_by search = record { question = search.question; mark = search.cursor }
 
--- the states of the searches, as one
+-- the state of a search by depth, as that of a search for the items of a listing
 abbrev pub depth_state : SearchState → ListingState
 depth_state s = record { question = by_depth s.question; cursor = s.cursor; stage = s.stage }
 
+-- the state of a search by length, as that of a search for the items of a listing
 abbrev pub length_state : LengthState → ListingState
 length_state s = record { question = by_length s.question; cursor = s.cursor; stage = s.stage }
 
+-- the state of a search for the lines of a cover, as that of a search for the items of a listing
 abbrev pub cover_state : CoverState → ListingState
 cover_state s = record { question = by_cover s.question; cursor = s.cursor; stage = s.stage }
 
--- a halt of each search, as that of a search for the items of a listing
+-- a halt of the search by depth or by length, as that of a search for the items of a listing
 abbrev pub halt_of : Halt → ListingHalt
 halt_of (halt.OverTerms labels) = OverTerms labels
 halt_of halt.Memory = Memory
 halt_of halt.Failed = Failed
 
+-- a halt of the search for the lines of a cover, as that of a search for the items of a listing
 abbrev pub cover_halt_of : CoverHalt → ListingHalt
 cover_halt_of (cover_halt.OverTerms labels) = OverTerms labels
 cover_halt_of (cover_halt.OverStates labels) = OverStates

@@ -11,7 +11,7 @@ use Rattle.lotos_store.specs.declared.label.Label.TheVariants as l
 use Rattle.lotos_terms.specs.Steps.{Step}
 use Rattle.lotos_terms.specs.Numbered.{IsNumberedProcess, IsNumberedTerm}
 
--- a derivation leads from the first term to the second
+-- a derivation leads from the first term to the second (ISO)
 pub data IsDerived (system : List Process) (first : Term) : Term → Type 0 where
   no_step : IsDerived system first first
   one_more : {t u : Term} {k : Label} → IsDerived system first t → Step system t k u → IsDerived system first u

@@ -7,27 +7,27 @@ use Rattle.lotos_check.specs.NameLists.{Name, In}
 use Rattle.lotos_check.specs.Acceptance.{IsAccepted}
 use Rattle.lotos_check.specs.Flat.{Flat, FlatProcess, System, exit, prefix, choice, par, hide, enable, disable, call}
 
--- what a step does: it terminates successfully, is internal, or is an action of a gate
+-- what a first step does: it terminates successfully, is internal, or is an action of a gate, by name (ISO)
 pub data First : Type 0 where
   termination : First
   internal : First
   action : Name → First
 
--- both sides of a parallel composition do it together: termination, and the gates of the list, or all gates
+-- both sides of a parallel composition do it together: termination, and the gates of the list, or all gates (ISO)
 abbrev pub IsTogether : Option (List Name) → First → Type 0
 IsTogether gates termination = Unit {0}
 IsTogether gates internal = ⊥
 IsTogether None (action g) = Unit {0}
 IsTogether (Some gates) (action g) = In g gates
 
--- it is no action of a gate of the list
+-- it is no action of a gate of the list (ISO)
 abbrev pub IsShown : List Name → First → Type 0
 IsShown gates termination = Unit {0}
 IsShown gates internal = Unit {0}
 IsShown gates (action g) = In g gates → ⊥
 
 -- what is made of it by pairs of a formal gate and an actual one: an action of the actual gate of its gate's first
--- pair; all else stays
+-- pair; all else stays (ISO)
 pub data Becomes : List (Name × Name) → First → First → Type 0 where
   termination_stays : {pairs : List (Name × Name)} → Becomes pairs termination termination
   internal_stays : {pairs : List (Name × Name)} → Becomes pairs internal internal
@@ -36,7 +36,8 @@ pub data Becomes : List (Name × Name) → First → First → Type 0 where
   later : {g x h : Name} {y : First} {pairs : List (Name × Name)} → x ≢ g → Becomes pairs (action g) y →
       Becomes ((x, h) ∷ pairs) (action g) y
 
--- the behaviour can do this first
+-- by its text alone the behaviour can do this first: the inference rules for steps, with gates by name and without what
+-- comes after the step (ISO)
 pub data CanBegin (processes : List FlatProcess) : Flat → First → Type 0 where
   terminates : CanBegin processes exit termination
   acts : {g : Name} {b : Flat} → CanBegin processes (prefix (Some g) b) (action g)

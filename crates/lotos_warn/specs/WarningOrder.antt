@@ -11,7 +11,7 @@ use Rattle.lotos_warn.specs.declared.warning.Side.TheVariants.{Left, Right}
 use Rattle.lotos_warn.specs.declared.warning.Warning.{Warning}
 use Rattle.lotos_warn.specs.declared.warning.Warning.TheVariants.{UncalledProcess, UnreachedProcess, NeverExits, DeadStart, UnusedGate, UnofferedGate, UnusedHidden}
 
--- the offset of its process, its specification or its gate
+-- the offset of a warning: that of its process, its specification or its gate
 abbrev pub offset_of : Warning → ℕ
 offset_of (UncalledProcess process) = process.at
 offset_of (UnreachedProcess process) = process.at
@@ -21,7 +21,7 @@ offset_of (UnusedGate gate definition) = gate.at
 offset_of (UnofferedGate gate side) = gate.at
 offset_of (UnusedHidden gate) = gate.at
 
--- the left side is before the right one
+-- a number for each side: the left one is before the right one
 abbrev pub side_rank : Side → ℕ
 side_rank Left = 5
 side_rank Right = 6
@@ -36,7 +36,7 @@ rank_of (UnusedGate gate definition) = 4
 rank_of (UnofferedGate gate side) = side_rank side
 rank_of (UnusedHidden gate) = 7
 
--- the name of its process, its specification or its gate
+-- the name that a warning is about: that of its process, its specification or its gate
 abbrev pub subject_of : Warning → Name
 subject_of (UncalledProcess process) = process.name
 subject_of (UnreachedProcess process) = process.name
@@ -46,7 +46,7 @@ subject_of (UnusedGate gate definition) = gate.name
 subject_of (UnofferedGate gate side) = gate.name
 subject_of (UnusedHidden gate) = gate.name
 
--- the name of its definition as it is shown, or the same name again
+-- the name of a warning's definition as it is shown, or again the name that it is about
 abbrev pub context_of : Warning → Name
 context_of (UncalledProcess process) = process.name
 context_of (UnreachedProcess process) = process.name
@@ -56,7 +56,8 @@ context_of (UnusedGate gate definition) = definition
 context_of (UnofferedGate gate side) = gate.name
 context_of (UnusedHidden gate) = gate.name
 
--- the order
+-- the order of warnings: by their offsets, then by their kinds and sides, then by the names that they are about, then
+-- by those of their definitions
 abbrev pub warning_cmp : Warning → Warning → Ordering
 warning_cmp = then_cmp (on offset_of nat_cmp) (then_cmp (on rank_of nat_cmp)
     (then_cmp (on subject_of (slice_cmp nat_cmp)) (on context_of (slice_cmp nat_cmp))))

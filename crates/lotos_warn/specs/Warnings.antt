@@ -97,7 +97,7 @@ pub record IsNeverExit (whole : DefinitionView) (name : Placed) : Type 0 where
   pub declared : declared_of definition ≡ Exit
   pub never : MayTerminate whole scope (body_of definition) → ⊥
 
--- the gate is a formal one of a definition, whose body does not use it, and whose name is shown so
+-- the gate is a formal one of a definition, whose body has no free use of it, and whose name is shown so
 pub record IsUnusedGate (whole : DefinitionView) (gate : Placed) (name : Name) : Type 0 where
   pub scope : Scope
   pub definition : DefinitionView
@@ -138,7 +138,7 @@ pub record IsUnusedHidden (whole : DefinitionView) (gate : Placed) : Type 0 wher
   pub listed : In gate list
   pub unused : UsesFree body gate.name → ⊥
 
--- the specification has this warning
+-- the specification has this warning, which is of one of seven kinds
 abbrev pub IsWarning : DefinitionView → Warning → Type 0
 IsWarning whole (UncalledProcess process) = IsUncalledProcess whole process
 IsWarning whole (UnreachedProcess process) = IsUnreachedProcess whole process

@@ -21,11 +21,9 @@ pub record IsFaultPosition (text : List ℕ) (line column : ℕ) : Type 0 where
   pub located : accept_offset fault ≡ Some at
   pub place : IsPosition text at line column
 
--- what each verdict means
+-- what each verdict means: the text is accepted; or it is not, because it is too long; or it is not, and has a fault at
+-- this line and column
 abbrev pub IsVerdict : List ℕ → Verdict → Type 0
--- it spells a specification that meets the static rules
 IsVerdict text Accepted = IsAcceptedText text
--- it does not, because it is too long
 IsVerdict text TooLong = (max_text_length < length text) × (IsAcceptedText text → ⊥)
--- it does not, and has a fault here
 IsVerdict text (Faulty line column) = IsFaultPosition text line column × (IsAcceptedText text → ⊥)

@@ -40,7 +40,7 @@ module _ (table : TableView) (pattern : Pattern) (depth terms : ℕ) where
     pub question : IsSearchIn answer.0.question
     pub answers : RunningReturns answer.0.question mark (Ok answer.1) answer.0.cursor answer.0.stage
 
-  -- the same for the mark that is the sequence of the line
+  -- the first item after the sequence of the line, with its least run, and the search after it; or that there is none
   pub record IsItemAfter (line : Text) (answer : SearchState × Option Found) : Type 0 where
     pub mark : List Label
     pub read : MarkOf pattern.strong line mark
@@ -65,14 +65,15 @@ module _ (table : TableView) (pattern : Pattern) (depth terms : ℕ) where
   IsHaltOf mark Memory = Unit {0}
   IsHaltOf mark Failed = ⊥
 
-  -- the same for the mark that is the sequence of the line
+  -- why a search that begins after the sequence of the line was halted: at the first oversized prefix, with no item
+  -- between that sequence and it; running out of memory needs no reason
   abbrev pub IsHaltAfter : Text → Halt → Type 0
   IsHaltAfter line (OverTerms labels) = (mark : List Label) × MarkOf pattern.strong line mark
       × IsOversizedAfter (Some mark) labels.items
   IsHaltAfter line Memory = Unit {0}
   IsHaltAfter line Failed = ⊥
 
-  -- the line is not one of a listing; or the search halted
+  -- why no item after a line was returned: the line is not one of a listing; or the search halted
   abbrev pub IsItemFault : Text → ItemFault → Type 0
   IsItemFault line fault.Line = (mark : List Label) → MarkOf pattern.strong line mark → ⊥
   IsItemFault line (fault.Halt halt) = IsHaltAfter line halt

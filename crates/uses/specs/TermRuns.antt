@@ -6,6 +6,7 @@ use Rattle.lotos_terms.specs.TableView.{TableView, IsLabel}
 use Rattle.lotos_terms.specs.Steps.{Step}
 
 -- a step of the table from the term with the number `here`: its label, and the number of the term that it leads to
+-- (ISO, by number)
 pub record IsStep (table : TableView) (here : ℕ) (step : Label × ℕ) : Type 0 where
   pub label : IsLabel table step.0
   pub from : Term
@@ -14,7 +15,7 @@ pub record IsStep (table : TableView) (here : ℕ) (step : Label × ℕ) : Type 
   pub leads : slice_get table.terms step.1 ≡ Some to
   pub derived : Step table.processes from step.0 to
 
--- the term with the number `here` has no step at all
+-- the term with the number `here` has no step at all (ISO, by number)
 pub record IsDeadlock (table : TableView) (here : ℕ) : Type 0 where
   pub term : Term
   pub located : slice_get table.terms here ≡ Some term
