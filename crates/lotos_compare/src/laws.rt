@@ -1,8 +1,8 @@
 //! Laws of comparisons, each as the contract of an empty function.
 ghost use Rattle.std.specs.Prelude.{◌≡◌, ◌⊎◌, ◌↔◌, false, true};
 ghost use Rattle.lotos_sets.specs.Behaviours.{Behaviour};
-ghost use Rattle.lotos_compare.specs.Comparisons.{AreAlike, AreFailuresIncluded, AreLivelocksIncluded, IsFirstLineOf};
-ghost use Rattle.lotos_compare.specs.Comparisons.{IsLineOf, IsTraceIncluded};
+ghost use Rattle.lotos_compare.specs.Comparisons.{AreAlike, AreFailuresIncluded, AreLivelocksIncluded};
+ghost use Rattle.lotos_compare.specs.Comparisons.{IsFirstLineOf, IsLineOf, IsTraceIncluded};
 ghost use Rattle.lotos_compare.specs.Differences.{ComesBefore, ComparisonKind, Line};
 
 /// Without refusals, a comparison has no line exactly if no sequence can be observed of one of the two alone; if it asks

@@ -5,7 +5,10 @@ use Rattle.lotos_compare.proofs.laws.no_line_means_equal_failures.Goals as goal
 pub returns : goal.returns
 returns c = record {
   equal = λ b c. (
-    (λ none. (included_of b c (record { within = false; refusals = true }) refl none, included_back b c (record { within = false; refusals = true }) refl refl none)),
+    (λ none. (
+      included_of b c (record { within = false; refusals = true }) refl none,
+      included_back b c (record { within = false; refusals = true }) refl refl none,
+    )),
     (λ (there, back). no_difference b c (record { within = false; refusals = true }) there (λ asked. back)),
   );
   within = λ b c. (
