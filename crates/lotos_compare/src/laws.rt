@@ -9,7 +9,8 @@ ghost use Rattle.lotos_compare.specs.Differences.{ComesBefore, ComparisonKind, L
 /// for one direction, exactly if none can be observed of the first alone.
 pub fn no_line_means_equal_traces()
     ensures equal { (b c : Behaviour) →
-        AreAlike b c (record { within = false; refusals = false }) ↔ (IsTraceIncluded b c × IsTraceIncluded c b) }
+        AreAlike b c (record { within = false; refusals = false }) ↔
+        (IsTraceIncluded b c × IsTraceIncluded c b) }
     ensures within { (b c : Behaviour) →
         AreAlike b c (record { within = true; refusals = false }) ↔ IsTraceIncluded b c }
 {}
