@@ -1,0 +1,4 @@
+pub mod MachineRuns
+pub mod DistinctNumbers
+pub mod CutWords
+pub mod SuiteAgreement
