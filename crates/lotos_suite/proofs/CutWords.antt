@@ -83,13 +83,15 @@ module _ (m implementation : Machine) (parts : SuiteParts) where
   ]
 
   -- what passes a line that continues another one can do all labels of that one
-  can_before : (t : List Label) (other : Line) (l : Label) (y : List Label) → labels_of other ≡ t ++ l ∷ y → Passes implementation other → CanDo implementation t
+  can_before : (t : List Label) (other : Line) (l : Label) (y : List Label) → labels_of other ≡ t ++ l ∷ y → Passes implementation other →
+      CanDo implementation t
   can_before t (s.can r) l y same passes = can_front implementation 0 t (l ∷ y) (subst (CanDo implementation) same passes)
   can_before t (s.cannot r k) l y same passes =
       let (z, is) = front_of_last t r l k y same in can_front implementation 0 t z (subst (CanDo implementation) is passes.0)
 
   -- and the machine itself can do them
-  machine_before : (t : List Label) (u : List Label) (other : Line) (l : Label) (y : List Label) → labels_of other ≡ t ++ l ∷ y → IsLineOfWord m u other → CanDo m t
+  machine_before : (t : List Label) (u : List Label) (other : Line) (l : Label) (y : List Label) → labels_of other ≡ t ++ l ∷ y →
+      IsLineOfWord m u other → CanDo m t
   machine_before t u (s.can r) l y same (is, can) = can_front m 0 t (l ∷ y) (subst (CanDo m) same can)
   machine_before t u (s.cannot r k) l y same (is, can, not_next) =
       let (z, front) = front_of_last t r l k y same in can_front m 0 t z (subst (CanDo m) front can)
