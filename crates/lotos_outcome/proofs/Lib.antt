@@ -1,3 +1,4 @@
 pub mod Rejections
 pub mod Interfaces
 pub mod UnknownGates
+pub mod UnknownNames

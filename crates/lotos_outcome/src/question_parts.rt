@@ -10,7 +10,7 @@ ghost use Rattle.lotos_outcome.specs.UnknownGates.{HasNoUnknownGate};
 
 use crate::refusal::Refusal;
 use crate::rejection::Rejection;
-use crate::unknown_gates::first_unknown_gate_of;
+use crate::unknown_name::unknown_names;
 use lotos_check::Checked;
 use lotos_listing::Mark;
 use lotos_pattern::{EverPattern, Pattern};
@@ -78,10 +78,11 @@ pub fn refuse_unknown_gates(
     if !refuses {
         return Ok(());
     }
-    match first_unknown_gate_of(alloc, words, system)? {
-        Some(number) => Err(Rejection::Refused(Refusal::E49(number))),
-        None => Ok(()),
+    let names = unknown_names(alloc, words.as_slice(), system.gates())?;
+    if names.is_empty() {
+        return Ok(());
     }
+    Err(Rejection::Refused(Refusal::E49(names[0].word)))
 }
 
 /// The words as borrowed texts.
