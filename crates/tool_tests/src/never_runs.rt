@@ -34,6 +34,13 @@ const ROWS: &[(usize, Row)] = &[
     (1, Row { text: BUFFER, words: "ever '<refuses> A,B'",
         message: b"lotosseq: it happens at no depth; 1 state; at the start no state is as words 1 to 2 demand\n",
         ..NO_MATCH }),
+    // All terms are found first if the end is about what can come: `exit` and then `stop`; A, A B, B, none of the two.
+    (2, Row { text: b"specification S [a] : exit behaviour exit endspec", words: "ever <livelock>",
+        message: b"lotosseq: it happens at no depth; 2 states; at the start no state is as word 1 demands\n",
+        ..NO_MATCH }),
+    (4, Row { text: b"specification S [a,b] : noexit behaviour a; stop ||| b; stop endspec", words: "ever '<never> A'",
+        message: b"lotosseq: it happens at no depth; 4 states; at the start no state is as words 1 to 2 demand\n",
+        ..NO_MATCH }),
     // The word of a set belongs to its element, and `<until>` to the end.
     (4, Row { text: BUFFER, words: "ever '<while> <not> B A <until> <never> B'",
         message: b"lotosseq: it happens at no depth; 4 states; words 1 to 4 can be matched, and then nothing that word 5 wants\n",
