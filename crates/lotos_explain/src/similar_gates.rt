@@ -139,7 +139,12 @@ fn uses_gate_at(behaviour: &Behaviour, at: usize) -> bool
         Behaviour::Prefix { action, .. } => is_action_at(action, at),
         Behaviour::Par { sync, .. } => is_in_sync_at(sync, at),
         Behaviour::Call { gates, .. } => is_among_at(gates.as_slice(), at),
-        _ => false,
+        Behaviour::Stop
+        | Behaviour::Exit
+        | Behaviour::Choice { .. }
+        | Behaviour::Hide { .. }
+        | Behaviour::Enable { .. }
+        | Behaviour::Disable { .. } => false,
     }
 }
 

@@ -220,7 +220,13 @@ fn composition_of(nodes: &TermStore, term: Term) -> Option<Composition>
             left,
             right,
         }),
-        _ => None,
+        Node::Stop
+        | Node::Exit
+        | Node::Prefix { .. }
+        | Node::Choice { .. }
+        | Node::Hide { .. }
+        | Node::Call { .. }
+        | Node::Relabel { .. } => None,
     }
 }
 

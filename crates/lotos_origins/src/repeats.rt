@@ -91,6 +91,5 @@ pub(crate) fn do_alike(
     let Some(other) = followed.term_at(second) else {
         return Ok(false);
     };
-    let alike = are_alike(alloc, table, one, other)?;
-    Ok(alike)
+    are_alike(alloc, table, one, other)
 }

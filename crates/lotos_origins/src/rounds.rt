@@ -76,10 +76,7 @@ fn close_turns(
     let repeat = find_repeat(alloc, table, turns)?;
     match repeat {
         None => Ok(None),
-        Some(repeat) => {
-            let round = close_round(alloc, table, start, turns, repeat)?;
-            Ok(round)
-        }
+        Some(repeat) => close_round(alloc, table, start, turns, repeat),
     }
 }
 

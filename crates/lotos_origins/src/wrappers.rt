@@ -59,7 +59,14 @@ fn outermost(nodes: &TermStore, term: Term) -> Option<(Wrapper, Term)>
     match nodes.node(term) {
         Node::Relabel { pairs, body } => Some((Wrapper::Relabelling(pairs), body)),
         Node::Hide { gates, body } => Some((Wrapper::Hiding(gates), body)),
-        _ => None,
+        Node::Stop
+        | Node::Exit
+        | Node::Prefix { .. }
+        | Node::Choice { .. }
+        | Node::Par { .. }
+        | Node::Enable { .. }
+        | Node::Disable { .. }
+        | Node::Call { .. } => None,
     }
 }
 
