@@ -1,6 +1,6 @@
 //! Tests of searches through public items: tables of listings, marks, small specifications against two oracles, first
-//! matches, sets of normal forms, covers against a third oracle, matches against a fourth, what observers are told, and
-//! the examples of `uses`.
+//! matches, sets of normal forms, reduced graphs, covers against a third oracle, matches against a fourth, what observers
+//! are told, and the examples of `uses`.
 //!
 //! They are a crate of their own, because a crate with tests inside is proved twice, and one crate, because each that
 //! runs tests is linked with all libraries below.
@@ -60,6 +60,8 @@ mod oracle_comparison;
 mod pattern_matching_tests;
 #[cfg(test)]
 mod progress_tests;
+#[cfg(test)]
+mod reduction_tests;
 #[cfg(test)]
 mod regrouped_match_tests;
 #[cfg(test)]
