@@ -1,17 +1,17 @@
 //! Sequences that are followed, and what can come after them.
 ghost use Rattle.std.specs.Prelude.{◌≡◌, IfOk, List, map, string_bytes, true};
 ghost use Rattle.lotos_check.specs.NameLists.{In};
+ghost use Rattle.lotos_listing.specs.NamedLabels.{HasGate, HaveGates};
 ghost use Rattle.lotos_listing.specs.Order.{Label as Text};
 ghost use Rattle.lotos_listing.specs.Question.{ArePrinted};
-ghost use Rattle.lotos_after.specs.LabelWords.{HasGate, HaveGates};
 
 use crate::lines::{Line, print_rows, put, put_labels};
 use crate::match_calls::Row;
 use crate::retry_heap::{Heap, Stop};
 use crate::set_calls::{HIDDEN_LOOP, HIDDEN_STOP, SAME_PREFIX, sets_of};
-use lotos_after::{FollowFault, Followed, check_label_words, follow, labels_of_words};
-use lotos_listing::NoProgress;
-use lotos_sets::FormSets;
+use lotos_listing::{NoProgress, labels_of_words};
+use lotos_pattern::check_label_words;
+use lotos_sets::{FollowFault, Followed, FormSets, follow};
 use lotos_terms::Label;
 use lotos_text::Name;
 use std::alloc::{AllocError, Global};

@@ -1,7 +1,6 @@
 //! The heap, which retries calls that run out of memory, and why the program stops.
 ghost use Rattle.std.specs.Prelude.{◌≡◌};
 
-use lotos_after::FollowFault;
 use lotos_check::{AcceptFault, CheckFault};
 use lotos_command::CommandFault;
 use lotos_device::ReadFault;
@@ -9,7 +8,7 @@ use lotos_ends::EndsFault;
 use lotos_ever::Halt;
 use lotos_listing::MarkFault;
 use lotos_pattern::PatternFault;
-use lotos_sets::SetFault;
+use lotos_sets::{FollowFault, SetFault};
 use lotos_text::TextFault;
 use std::alloc::{AllocError, AllocFailed, Global};
 use std::cell::Cell;

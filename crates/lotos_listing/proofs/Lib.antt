@@ -18,6 +18,7 @@ pub mod LabelOrder
 pub mod GrownSteps
 pub mod Pigeonholes
 pub mod PrintedSequences
+pub mod NamedLabels
 pub mod ListingAnswers
 pub mod Completions
 pub mod KnownTexts

@@ -9,6 +9,7 @@ pub mod Lookups
 pub mod LaterLabels
 pub mod PrefixWalk
 pub mod Marks
+pub mod NamedLabels
 pub mod MarkErrors
 pub mod NumberedPlaces
 pub mod Remaining

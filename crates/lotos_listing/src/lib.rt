@@ -6,7 +6,7 @@
 //! [`Mark`] is a sequence after which a listing starts, since the order of sequences depends only on their labels.
 //! [`LabelFlags`] are sets of a system's labels, such as those of which the end of a sequence must have none.
 //! [`compile`] compiles a pattern against the labels of a system, and [`place_after`] follows it, label by label;
-//! [`is_observed`] tells which labels are observed.
+//! [`is_observed`] tells which labels are observed, and [`labels_of_words`] which labels words name.
 #![tactic(auto)]
 
 mod alphabet;
@@ -15,6 +15,7 @@ mod found;
 mod label_flags;
 pub mod laws;
 mod mark;
+mod named_labels;
 mod observed_label;
 mod order;
 mod place_step;
@@ -27,6 +28,7 @@ pub use fault::MarkFault;
 pub use found::{Found, Halt};
 pub use label_flags::{LabelFlags, has_step_with};
 pub use mark::{Mark, is_after_mark, side_of_mark};
+pub use named_labels::labels_of_words;
 pub use observed_label::is_observed;
 pub use order::compare;
 pub use place_step::place_after;

@@ -14,9 +14,9 @@ use Rattle.lotos_listing.specs.Order.{Label}
 use Rattle.lotos_listing.specs.Marks.{IsMarkFault}
 use Rattle.lotos_listing.specs.declared.fault.MarkFault.{MarkFault}
 use Rattle.lotos_listing.specs.declared.fault.MarkFault.TheVariants as mark_fault
-use Rattle.lotos_after.specs.LabelWords.{IsWordCause}
-use Rattle.lotos_after.specs.declared.label_words.WordFault.{WordFault}
-use Rattle.lotos_after.specs.declared.label_words.WordFault.TheVariants as word
+use Rattle.lotos_pattern.specs.LabelWords.{IsWordCause}
+use Rattle.lotos_pattern.specs.declared.label_words.WordFault.{WordFault}
+use Rattle.lotos_pattern.specs.declared.label_words.WordFault.TheVariants as word
 use Rattle.lotos_device.specs.DeviceStates.{SourceState}
 use Rattle.lotos_device.specs.TextInput.{ReadsAll, TakesWithin}
 use Rattle.lotos_outcome.specs.Outcomes.{is_unreadable}

@@ -31,8 +31,8 @@ use Rattle.lotos_command.specs.declared.command.CoverRequest.{CoverRequest}
 use Rattle.lotos_command.specs.declared.command.EverRequest.{EverRequest}
 use Rattle.lotos_command.specs.declared.command.Interface.{Interface}
 use Rattle.lotos_command.specs.declared.command.SearchRequest.{SearchRequest}
-use Rattle.lotos_after.specs.LabelWords.{IsWordCause}
-use Rattle.lotos_after.specs.declared.label_words.WordFault.TheVariants.{Internal, NoLabel}
+use Rattle.lotos_pattern.specs.LabelWords.{IsWordCause}
+use Rattle.lotos_pattern.specs.declared.label_words.WordFault.TheVariants.{Internal, NoLabel}
 use Rattle.lotos_outcome.specs.Interfaces.{IsFirstNoGate, names_given}
 use Rattle.lotos_outcome.specs.QuestionParts.{IsMarkOf, ReadsAccepted, ReadsAsked, ReadsQuestion, ever_words_of, words_of}
 use Rattle.lotos_outcome.specs.UnknownGates.{IsFirstUnknownGate}

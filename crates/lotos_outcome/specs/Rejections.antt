@@ -6,8 +6,8 @@ use Rattle.lotos_pattern.specs.declared.fault.PatternFault.{PatternFault}
 use Rattle.lotos_listing.specs.declared.fault.MarkFault.{MarkFault}
 use Rattle.lotos_listing.specs.declared.fault.MarkFault.TheVariants as mark_fault
 use Rattle.lotos_command.specs.declared.command.Interface.{Interface}
-use Rattle.lotos_after.specs.declared.label_words.WordFault.{WordFault}
-use Rattle.lotos_after.specs.declared.label_words.WordFault.TheVariants as word
+use Rattle.lotos_pattern.specs.declared.label_words.WordFault.{WordFault}
+use Rattle.lotos_pattern.specs.declared.label_words.WordFault.TheVariants as word
 use Rattle.lotos_outcome.specs.Outcomes.{is_unreadable}
 use Rattle.lotos_outcome.specs.declared.outcome.Ended.{Ended}
 use Rattle.lotos_outcome.specs.declared.outcome.Ended.TheVariants as ended

@@ -5,9 +5,8 @@ ghost use Rattle.lotos_outcome.specs.Rejections.{end_of};
 
 use crate::outcome::{Ended, Stop};
 use crate::refusal::Refusal;
-use lotos_after::WordFault;
 use lotos_listing::MarkFault;
-use lotos_pattern::PatternFault;
+use lotos_pattern::{PatternFault, WordFault};
 use std::alloc::AllocError;
 
 /// Why the words and the text of a command make no question: one of them is refused, or memory ran out.

@@ -7,7 +7,7 @@ use Rattle.std.proofs.lemmas.Bool.Decides.{nat_tests}
 use Rattle.std.proofs.lemmas.List.{length-replicate}
 use Rattle.std.proofs.lemmas.List.Elements.{All-cons, All-contains, All-contains_itself, All-head, All-nil, All-tail, All-weaker, Contains-append_left, Contains-push}
 use Rattle.std.proofs.lemmas.List.Splits.{length-slice_split, slice_split-cons_no}
-use Rattle.std.proofs.lemmas.Option.{slice_get_within}
+use Rattle.std.proofs.lemmas.Option.{same_Some}
 use Rattle.lotos_pattern.specs.PatternLabels.{Label, internal}
 use Rattle.lotos_pattern.specs.Patterns.{IsIn, IsObservable, LabelSet, others, these}
 use Rattle.lotos_pattern.specs.Spelling.{EqualsIgnoringCase, IsWord, Names, NamesEach, SetSpelling, Text, complement, named, parts_of}
@@ -60,13 +60,27 @@ names_more strong [] (m ∷ labels) name l h n = absurd h
 names_more strong (first ∷ names) [] name l h n = absurd h
 names_more strong (first ∷ names) (m ∷ labels) name l h n = (h.0, names_more strong names labels name l h.1 n)
 
+-- as many labels as names
+pub named_length : (strong : Bool) (names : List Text) (labels : List Label) → NamesEach strong names labels → length names ≡ length labels
+named_length strong [] [] h = refl
+named_length strong [] (l ∷ labels) h = absurd h
+named_length strong (name ∷ names) [] h = absurd h
+named_length strong (name ∷ names) (l ∷ labels) h = ap suc (named_length strong names labels h.1)
+
+-- the name at an index is that of the label there
+pub each_named : (strong : Bool) (names : List Text) (labels : List Label) → NamesEach strong names labels → (i : ℕ) (name : Text) →
+    slice_get names i ≡ Some name →
+    (l : Label) × Names strong name l × (slice_get labels i ≡ Some l)
+each_named strong [] [] h i name at = cc
+each_named strong [] (l ∷ labels) h i name at = absurd h
+each_named strong (first ∷ names) [] h i name at = absurd h
+each_named strong (first ∷ names) (l ∷ labels) h zero name at = (l, subst (λ w. Names strong w l) (same_Some first name at) h.0, refl)
+each_named strong (first ∷ names) (l ∷ labels) h (suc i) name at = each_named strong names labels h.1 i name at
+
 -- each name is a word
 pub each_is_word : (strong : Bool) (names : List Text) (labels : List Label) (i : ℕ) (name : Text) → slice_get names i ≡ Some name →
     NamesEach strong names labels → IsWord name
-each_is_word strong [] labels i name here h = absurd (let below = slice_get_within {A = Text} [] i name here in omega arith)
-each_is_word strong (first ∷ names) [] i name here h = absurd h
-each_is_word strong (first ∷ names) (l ∷ labels) zero name here h = let same : first ≡ name = cc in subst IsWord same h.0.spelled
-each_is_word strong (first ∷ names) (l ∷ labels) (suc i) name here h = each_is_word strong names labels i name here h.1
+each_is_word strong names labels i name here h = let (l, n, there) = each_named strong names labels h i name here in n.spelled
 
 -- only the internal action cannot be observed
 all_but_internal : (strong : Bool) (labels : List Label) → (Contains labels internal → ⊥) → All (IsObservable strong) labels

@@ -1,5 +1,6 @@
 pub mod Words
 pub mod LabelNames
+pub mod LabelWords
 pub mod SplitNames
 pub mod Segments
 pub mod PlaceTransitions

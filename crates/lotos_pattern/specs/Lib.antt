@@ -10,6 +10,7 @@ pub mod Transitions
 pub mod NfaTransitions
 pub mod PlaceTransitions
 pub mod WordKinds
+pub mod LabelWords
 pub mod CompiledPatterns
 pub mod StepRows
 pub mod PlaceNumbering

@@ -14,11 +14,11 @@ use Rattle.lotos_listing.specs.Order.{Label}
 use Rattle.lotos_terms.specs.TableView.{TableView}
 use Rattle.lotos_runs.specs.MatchQuestions.{IsMatchQuestionOf, match_question_of}
 use Rattle.lotos_sets.specs.FormSets.{FormSetsView}
-use Rattle.lotos_after.specs.Behaviours.{Behaviour, CanBeObserved, CanComeAfter, CanEndInDeadlock, IsBehaviourOf, IsFirstOversized}
-use Rattle.lotos_after.specs.Following.{IfTooMany, IsFollowed, behaviour_of}
-use Rattle.lotos_after.specs.declared.sequence.Followed.{Followed}
-use Rattle.lotos_after.specs.declared.follow_fault.FollowFault.{FollowFault}
-use Rattle.lotos_after.specs.declared.follow_fault.FollowFault.TheVariants as fault
+use Rattle.lotos_sets.specs.Behaviours.{Behaviour, CanBeObserved, CanComeAfter, CanEndInDeadlock, IsBehaviourOf, IsFirstOversized, behaviour_of}
+use Rattle.lotos_sets.specs.Following.{IfTooMany, IsFollowed}
+use Rattle.lotos_sets.specs.declared.following.Followed.{Followed}
+use Rattle.lotos_sets.specs.declared.follow_fault.FollowFault.{FollowFault}
+use Rattle.lotos_sets.specs.declared.follow_fault.FollowFault.TheVariants as fault
 use Rattle.lotos_outcome.specs.Calls.{Answered}
 use Rattle.lotos_outcome.specs.declared.outcome.Ended.{Ended}
 use Rattle.lotos_outcome.specs.declared.outcome.Ended.TheVariants.{Done, Stopped}

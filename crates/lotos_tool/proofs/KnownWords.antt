@@ -14,7 +14,7 @@ use Rattle.lotos_pattern.specs.PatternLabels.{Label}
 use Rattle.lotos_pattern.specs.Spelling.{IsWord, NamesEach, Text, is_word_byte, parts_of}
 use Rattle.lotos_pattern.proofs.LabelNames.{each_is_word}
 use Rattle.lotos_terms.specs.TableView.{IsTableOf, TableView}
-use Rattle.lotos_after.specs.LabelWords.{HaveGates}
+use Rattle.lotos_listing.specs.NamedLabels.{HaveGates}
 use Rattle.lotos_outcome.specs.UnknownGates.{HasNoUnknownGate}
 
 -- no letter is a comma

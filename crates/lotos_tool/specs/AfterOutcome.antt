@@ -5,8 +5,8 @@ use Rattle.std.specs.declared.alloc.Global.{Global}
 use Rattle.lotos_check.specs.Flat.{System}
 use Rattle.lotos_pattern.specs.Spelling.{NamesEach}
 use Rattle.lotos_listing.specs.Order.{Label}
-use Rattle.lotos_after.specs.Behaviours.{Behaviour, CanBeObserved, CanComeAfter, CanEndInDeadlock, IsBehaviourOf}
-use Rattle.lotos_after.specs.Behaviours.{IsFirstOversized, IsFollowedTo}
+use Rattle.lotos_sets.specs.Behaviours.{Behaviour, CanBeObserved, CanComeAfter, CanEndInDeadlock, IsBehaviourOf}
+use Rattle.lotos_sets.specs.Behaviours.{IsFirstOversized, IsFollowedTo}
 use Rattle.lotos_device.specs.ByteOutput.{IsBeginningOf}
 use Rattle.lotos_outcome.specs.Calls.{Answering, Meaning}
 use Rattle.lotos_outcome.specs.declared.outcome.Stop.{Stop}

@@ -4,10 +4,10 @@ use Rattle.lotos_check.specs.Flat.{System}
 use Rattle.lotos_check.specs.NameLists.{Name}
 use Rattle.lotos_listing.specs.Order.{Label}
 use Rattle.lotos_listing.specs.Question.{ArePrinted}
-use Rattle.lotos_after.specs.Behaviours.{IsFirstOversized}
-use Rattle.lotos_after.specs.declared.sequence.Followed.{Followed as Reached}
-use Rattle.lotos_after.specs.declared.follow_fault.FollowFault.{FollowFault}
-use Rattle.lotos_after.specs.declared.follow_fault.FollowFault.TheVariants as fault
+use Rattle.lotos_sets.specs.Behaviours.{IsFirstOversized}
+use Rattle.lotos_sets.specs.declared.following.Followed.{Followed as Reached}
+use Rattle.lotos_sets.specs.declared.follow_fault.FollowFault.{FollowFault}
+use Rattle.lotos_sets.specs.declared.follow_fault.FollowFault.TheVariants as fault
 use Rattle.lotos_output.specs.OutputLines.{IsTextOf, next_lines}
 use Rattle.lotos_tool.specs.AfterOutcome.{AfterQuestion, AreNextLines, CannotComeAt, IsAfterQuestionOf}
 use Rattle.lotos_command.specs.declared.command.AfterRequest.{AfterRequest}

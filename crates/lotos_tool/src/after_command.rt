@@ -1,12 +1,12 @@
 //! The command `after`, from the text to the lines of what can come after a sequence.
 ghost use Rattle.std.specs.Prelude.{◌≡◌, ◌+◌, ◌≤◌, Bool, IfErr, IfOk, List, map, string_bytes};
 ghost use Rattle.lotos_check.specs.CheckedView.{system_of};
+ghost use Rattle.lotos_listing.specs.NamedLabels.{HaveGates};
 ghost use Rattle.lotos_listing.specs.Order.{Label as Text};
 ghost use Rattle.lotos_listing.specs.Question.{ArePrinted};
 ghost use Rattle.lotos_pattern.specs.Spelling.{NamesEach};
-ghost use Rattle.lotos_after.specs.Behaviours.{IsFirstOversized};
-ghost use Rattle.lotos_after.specs.Following.{IfTooMany, behaviour_of};
-ghost use Rattle.lotos_after.specs.LabelWords.{HaveGates};
+ghost use Rattle.lotos_sets.specs.Behaviours.{IsFirstOversized, behaviour_of};
+ghost use Rattle.lotos_sets.specs.Following.{IfTooMany};
 ghost use Rattle.lotos_outcome.specs.declared.outcome.Ended.TheVariants.{Stopped};
 ghost use Rattle.lotos_tool.specs.AfterOutcome.{IsSequenceOf, after_meaning};
 ghost use Rattle.lotos_tool.specs.AfterParts.{HasAnswer, HasNoAnswer, IsAnswer, IsMadeOf};
@@ -14,19 +14,19 @@ ghost use Rattle.lotos_tool.specs.AfterParts.{HasAnswer, HasNoAnswer, IsAnswer, 
 use crate::command::Command;
 use crate::findings::Continuation;
 use crate::search_observer::Observed;
-use lotos_after::{FollowFault, Followed, check_label_words, follow, labels_of_words};
 use lotos_check::Checked;
 use lotos_command::AfterRequest;
 use lotos_device::{Sink, Source};
-use lotos_listing::{Progress, Searched};
+use lotos_listing::{Progress, Searched, labels_of_words};
 use lotos_normal::NormalTable;
 use lotos_outcome::{Ended, OutputProgress, Rejection, Stop, read_asked, refuse_unknown_gates};
 use lotos_output::{format_labels, format_next, write_whole};
+use lotos_pattern::check_label_words;
 use lotos_report::{
     AskedWords, Visited, WordCommand, report_end, report_label, report_too_many_terms,
 };
 use lotos_runs::laws::table_has_match_question;
-use lotos_sets::FormSets;
+use lotos_sets::{FollowFault, Followed, FormSets, follow};
 use lotos_text::Name;
 use std::alloc::{AllocError, Global};
 use std::io::Write;

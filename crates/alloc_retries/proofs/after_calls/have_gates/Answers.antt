@@ -4,7 +4,7 @@ use Rattle.std.proofs.lemmas.Bool.{cases_eq}
 use Rattle.std.proofs.lemmas.List.{length-map}
 use Rattle.std.proofs.lemmas.Option.{slice_get_within}
 use Rattle.lotos_check.proofs.ListIndices.{in_get, map_read, one_item}
-use Rattle.lotos_after.specs.LabelWords.{HasGate}
+use Rattle.lotos_listing.specs.NamedLabels.{HasGate}
 use Rattle.alloc_retries.proofs.after_calls.have_gates.Goals as goal
 
 pub loop-word-preserved : goal.loop-word-preserved

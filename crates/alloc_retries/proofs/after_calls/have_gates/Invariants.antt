@@ -1,6 +1,6 @@
 use Rattle.std.proofs.Common.{◌≡◌, ℕ, ◌<◌, List, Some, map, string_bytes}
 use Rattle.std.specs.Prelude.{slice_get}
-use Rattle.lotos_after.specs.LabelWords.{HasGate}
+use Rattle.lotos_listing.specs.NamedLabels.{HasGate}
 use Rattle.alloc_retries.proofs.after_calls.have_gates.Given as goal
 
 -- each word before the index names one of the gates, or no gate

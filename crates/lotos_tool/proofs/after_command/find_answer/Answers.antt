@@ -3,9 +3,9 @@ use Rattle.std.proofs.lemmas.Result.{IfOk-weaker}
 use Rattle.lotos_check.proofs.SameFault.{passed_on}
 use Rattle.lotos_check.specs.CheckedView.{system_of}
 use Rattle.lotos_pattern.specs.Patterns.{Pattern}
-use Rattle.lotos_after.specs.Behaviours.{IsFirstOversized}
-use Rattle.lotos_after.specs.Following.{IfTooMany, behaviour_of}
-use Rattle.lotos_after.specs.declared.follow_fault.FollowFault.TheVariants.{Memory}
+use Rattle.lotos_sets.specs.Behaviours.{IsFirstOversized, behaviour_of}
+use Rattle.lotos_sets.specs.Following.{IfTooMany}
+use Rattle.lotos_sets.specs.declared.follow_fault.FollowFault.TheVariants.{Memory}
 use Rattle.lotos_tool.specs.AfterOutcome.{IsAfterQuestionOf}
 use Rattle.lotos_tool.specs.AfterParts.{HasNoAnswer}
 use Rattle.lotos_outcome.specs.QuestionParts.{words_of}

@@ -2,10 +2,10 @@ use Rattle.std.proofs.Common.{◌≤◌, ◌∙◌, ap, subst, sym}
 use Rattle.lotos_check.proofs.SameFault.{passed_on}
 use Rattle.lotos_listing.specs.Question.{ArePrinted}
 use Rattle.lotos_terms.specs.TableView.{TableView}
-use Rattle.lotos_after.specs.Behaviours.{IsFirstOversized}
-use Rattle.lotos_after.specs.Following.{IfTooMany, behaviour_of}
-use Rattle.lotos_after.specs.declared.follow_fault.FollowFault.TheVariants.{Memory}
-use Rattle.lotos_after.proofs.TakenLabels.{printed_length}
+use Rattle.lotos_sets.specs.Behaviours.{IsFirstOversized, behaviour_of}
+use Rattle.lotos_sets.specs.Following.{IfTooMany}
+use Rattle.lotos_sets.specs.declared.follow_fault.FollowFault.TheVariants.{Memory}
+use Rattle.lotos_listing.proofs.PrintedSequences.{printed_length}
 use Rattle.lotos_tool.proofs.AfterAnswers.{answered, too_many_here}
 use Rattle.lotos_tool.proofs.after_command.follow_words.Goals as goal
 

@@ -1,4 +1,0 @@
-pub mod TakenLabels
-pub mod Positions
-pub mod FollowedSequences
-pub mod LabelWords

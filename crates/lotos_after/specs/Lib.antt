@@ -1,3 +1,0 @@
-pub mod Behaviours
-pub mod Following
-pub mod LabelWords
