@@ -8,6 +8,7 @@
 
 mod after_calls;
 mod ast_lines;
+mod automaton_calls;
 mod check_calls;
 mod compiled_calls;
 mod cover_calls;
@@ -61,6 +62,7 @@ fn all(rt: &impl Print, heap: &Heap) -> Result<(), Stop> {
     set_calls::rows(rt, heap)?;
     after_calls::rows(rt, heap)?;
     cover_calls::rows(rt, heap)?;
+    automaton_calls::rows(rt, heap)?;
     request_calls::rows(rt, heap)?;
     read_calls::rows(rt, heap)
 }
