@@ -189,7 +189,7 @@ fn add_sequence(
     Ok(spell(text, labels.as_slice())?)
 }
 
-fn label_texts<'a>(
+pub fn label_texts<'a>(
     alloc: Global,
     gates: &'a [Name],
     labels: &[Label],
@@ -202,7 +202,7 @@ fn label_texts<'a>(
 }
 
 /// The text of a label where the gates have these names.
-fn label_text(gates: &[Name], label: Label) -> Result<&str, Fail> {
+pub fn label_text(gates: &[Name], label: Label) -> Result<&str, Fail> {
     match label {
         Label::Gate(gate) => {
             let name = gates.get(gate.number()).ok_or("an unknown gate")?;

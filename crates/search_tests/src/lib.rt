@@ -1,6 +1,6 @@
 //! Tests of searches through public items: tables of listings, marks, small specifications against two oracles, first
-//! matches, sets of normal forms, reduced graphs, covers against a third oracle, matches against a fourth, what observers
-//! are told, and the examples of `uses`.
+//! matches, sets of normal forms, explorations of them, reduced graphs, covers against a third oracle, matches against a
+//! fourth, what observers are told, and the examples of `uses`.
 //!
 //! They are a crate of their own, because a crate with tests inside is proved twice, and one crate, because each that
 //! runs tests is linked with all libraries below.
@@ -28,6 +28,8 @@ mod ended_match_comparison;
 mod ended_match_run;
 #[cfg(test)]
 mod ended_match_tests;
+#[cfg(test)]
+mod exploration_tests;
 #[cfg(test)]
 mod fault_position_tests;
 #[cfg(test)]
