@@ -2,6 +2,7 @@
 ghost use Rattle.std.specs.Prelude.{◌≡◌};
 
 use lotos_after::FollowFault;
+use lotos_automaton::AutomatonFault;
 use lotos_check::{AcceptFault, CheckFault};
 use lotos_command::CommandFault;
 use lotos_device::ReadFault;
@@ -140,6 +141,12 @@ impl Fault for EndsFault {
 impl Fault for SetFault {
     fn is_memory(&self) -> bool {
         matches!(self, SetFault::Memory)
+    }
+}
+
+impl Fault for AutomatonFault {
+    fn is_memory(&self) -> bool {
+        matches!(self, AutomatonFault::Memory)
     }
 }
 

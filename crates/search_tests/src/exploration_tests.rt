@@ -51,10 +51,31 @@ const GRAPHS: &[Row] = &[
     (HIDDEN_LOOP, false, 2, 3, "A 1; A 1 B 2; -", UP_TO_TWO),
     (HIDDEN_LOOP, true, ALL, 3, "A 1; B 2 i 0; i 2", UP_TO_TWO),
     (SERVER, false, ALL, ALL, "REQ 1; NAK 0 RSP 0", UP_TO_ONE),
-    (MEETING, false, ALL, ALL, "A 1; B 2; C 3; exit 4; -", UP_TO_FOUR),
+    (
+        MEETING,
+        false,
+        ALL,
+        ALL,
+        "A 1; B 2; C 3; exit 4; -",
+        UP_TO_FOUR,
+    ),
     (BRANCHES, false, 2, ALL, "A 1 B 2; -; A 1", TWO_OF_ONE),
-    (TWO_WAYS, false, ALL, ALL, "A 1 B 1; C 2; A 3; -", UP_TO_THREE),
-    (LATE, false, ALL, ALL, "A 0 B 1; A 2; A 3 B 0; -", UP_TO_THREE),
+    (
+        TWO_WAYS,
+        false,
+        ALL,
+        ALL,
+        "A 1 B 1; C 2; A 3; -",
+        UP_TO_THREE,
+    ),
+    (
+        LATE,
+        false,
+        ALL,
+        ALL,
+        "A 0 B 1; A 2; A 3 B 0; -",
+        UP_TO_THREE,
+    ),
     (SAME_FUTURE, false, ALL, ALL, "A 1 B 2; -; -", TWO_OF_ONE),
     (
         LINK,
@@ -140,10 +161,20 @@ fn explored(
     match explore(alloc, sets, states, visits) {
         Ok(graph) => graph_text(alloc, sets.table().gates(), graph.as_slice()),
         Err(AutomatonFault::OverTerms(labels)) => {
-            stop_text(alloc, sets.table().gates(), "over terms ", labels.as_slice())
+            stop_text(
+                alloc,
+                sets.table().gates(),
+                "over terms ",
+                labels.as_slice(),
+            )
         }
         Err(AutomatonFault::OverStates(labels)) => {
-            stop_text(alloc, sets.table().gates(), "over states ", labels.as_slice())
+            stop_text(
+                alloc,
+                sets.table().gates(),
+                "over states ",
+                labels.as_slice(),
+            )
         }
         Err(AutomatonFault::Memory) => Err("memory is wanting")?,
     }
@@ -182,12 +213,7 @@ fn add_transitions(
 }
 
 /// These words and the sequence of these labels.
-fn stop_text(
-    alloc: Global,
-    gates: &[Name],
-    words: &str,
-    labels: &[Label],
-) -> Result<String, Fail> {
+fn stop_text(alloc: Global, gates: &[Name], words: &str, labels: &[Label]) -> Result<String, Fail> {
     let mut text = String::from_str(alloc, words)?;
     let labels = label_texts(alloc, gates, labels)?;
     spell(&mut text, labels.as_slice())?;
@@ -231,7 +257,11 @@ fn assert_stop(
     let mut visits = NONE;
     let mut sets = sets_of(alloc, text, false, terms)?;
     let found = explored(alloc, &mut sets, states, &mut visits)?;
-    assert_eq!(rt; found.as_str(), expected, "{text}, at most {terms} terms and {states} states");
+    assert_eq!(rt;
+        found.as_str(),
+        expected,
+        "{text}, at most {terms} terms and {states} states"
+    );
     Ok(())
 }
 
