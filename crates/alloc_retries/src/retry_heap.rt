@@ -1,6 +1,7 @@
 //! The heap, which retries calls that run out of memory, and why the program stops.
 ghost use Rattle.std.specs.Prelude.{◌≡◌};
 
+use lotos_automaton::AutomatonFault;
 use lotos_check::{AcceptFault, CheckFault};
 use lotos_command::CommandFault;
 use lotos_device::ReadFault;
@@ -139,6 +140,12 @@ impl Fault for EndsFault {
 impl Fault for SetFault {
     fn is_memory(&self) -> bool {
         matches!(self, SetFault::Memory)
+    }
+}
+
+impl Fault for AutomatonFault {
+    fn is_memory(&self) -> bool {
+        matches!(self, AutomatonFault::Memory)
     }
 }
 

@@ -1,10 +1,11 @@
-//! Explorations of all that can be observed, as graphs that were worked out by hand, and where they stop.
+//! Explorations of all that can be observed and automata of it, as graphs that were worked out by hand, and where they
+//! stop.
 use super::accepted_text::normal_table_of_text;
 use super::cover_run::{label_text, label_texts};
 use super::listing_run::spell;
 use super::progress_tests::{NONE, Visits};
 use super::set_texts::{HIDDEN_LOOP, LINK, MEETING, SERVER};
-use lotos_automaton::{AutomatonFault, Transition, explore};
+use lotos_automaton::{AutomatonFault, Transition, explore, find_automaton};
 use lotos_normal::NormalTable;
 use lotos_sets::FormSets;
 use lotos_terms::Label;
@@ -134,6 +135,24 @@ const UP_TO_FOUR: Visits = Visits {
     lengths: 10,
     longest: 4,
 };
+
+/// A specification, whether internal steps are observed, and its automaton with the states in order.
+const AUTOMATA: &[(&str, bool, &str)] = &[
+    (INACTION, false, "-"),
+    (INTERNAL_LOOP, false, "-"),
+    (INTERNAL_LOOP, true, "i 0"),
+    (TWO_ACTIONS, false, "A 1; B 2; -"),
+    (SERVER, false, "REQ 1; NAK 0 RSP 0"),
+    (BRANCHES, false, "A 1 B 2; -; A 1"),
+    (TWO_WAYS, false, "A 1 B 1; C 2; A 3; -"),
+    // After `a` and after `b` nothing more can be observed.
+    (SAME_FUTURE, false, "A 1 B 1; -"),
+    (
+        LINK,
+        false,
+        "PUT 1; GET 2; GET 3 PUT 1; GET 4 PUT 2; GET 4 PUT 3",
+    ),
+];
 
 /// The sets of a specification, none of which is made yet.
 fn sets_of(alloc: Global, text: &str, strong: bool, terms: usize) -> Result<Box<FormSets>, Fail> {
@@ -269,6 +288,35 @@ fn assert_stop(
 fn stops_at_the_first_sequence_beyond_a_bound(rt: HostRuntime) -> Result<(), Fail> {
     for row in STOPS {
         assert_stop(&rt, rt.alloc(), row)?;
+    }
+    Ok(())
+}
+
+fn assert_automaton(
+    rt: &impl Abort,
+    alloc: Global,
+    text: &str,
+    strong: bool,
+    expected: &str,
+) -> Result<(), Fail> {
+    let mut sets = sets_of(alloc, text, strong, ALL)?;
+    let mut visits = NONE;
+    let Ok(automaton) = find_automaton(alloc, &mut sets, ALL, &mut visits) else {
+        Err("the automaton is not found")?
+    };
+    let found = graph_text(alloc, sets.table().gates(), automaton.as_slice())?;
+    assert_eq!(rt;
+        found.as_str(),
+        expected,
+        "{text}, internal steps observed: {strong}"
+    );
+    Ok(())
+}
+
+#[test]
+fn finds_least_automata(rt: HostRuntime) -> Result<(), Fail> {
+    for (text, strong, expected) in AUTOMATA {
+        assert_automaton(&rt, rt.alloc(), text, *strong, expected)?;
     }
     Ok(())
 }
