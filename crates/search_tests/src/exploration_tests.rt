@@ -292,6 +292,15 @@ fn stops_at_the_first_sequence_beyond_a_bound(rt: HostRuntime) -> Result<(), Fai
     Ok(())
 }
 
+/// The automaton as text.
+fn automaton_text(alloc: Global, sets: &mut FormSets) -> Result<String, Fail> {
+    let mut visits = NONE;
+    match find_automaton(alloc, sets, ALL, &mut visits) {
+        Ok(automaton) => graph_text(alloc, sets.table().gates(), automaton.as_slice()),
+        Err(_) => Err("the automaton is not found")?,
+    }
+}
+
 fn assert_automaton(
     rt: &impl Abort,
     alloc: Global,
@@ -300,11 +309,7 @@ fn assert_automaton(
     expected: &str,
 ) -> Result<(), Fail> {
     let mut sets = sets_of(alloc, text, strong, ALL)?;
-    let mut visits = NONE;
-    let Ok(automaton) = find_automaton(alloc, &mut sets, ALL, &mut visits) else {
-        Err("the automaton is not found")?
-    };
-    let found = graph_text(alloc, sets.table().gates(), automaton.as_slice())?;
+    let found = automaton_text(alloc, &mut sets)?;
     assert_eq!(rt;
         found.as_str(),
         expected,
