@@ -1,119 +1,70 @@
-//! Classes of states with the same future, and reduced graphs.
+//! Automata of what can be observed.
 
-use crate::lines::{Line, print_rows, put};
+use crate::lines::{Line, print_rows, put, put_label, put_sequence};
 use crate::retry_heap::{Heap, Stop};
-use lotos_automaton::{Transition, classes, is_graph, reduce};
-use lotos_terms::{Gate, Label};
-use std::alloc::{AllocError, Global};
+use crate::set_calls::{HIDDEN_LOOP, SAME_PREFIX, sets_of};
+use lotos_automaton::{AutomatonFault, Transition, find_automaton};
+use lotos_listing::NoProgress;
+use lotos_text::Name;
 use std::fmt::Write;
 
-/// For each state its transitions: the letter of a label, and the state that it leads to. The letters are `a` and `b` for
-/// gates, `x` for termination, and `i`.
-type Row = &'static [&'static [(char, usize)]];
+/// A specification, whether internal steps are observed, the most terms of a set, and the most sets.
+type Row = (&'static str, bool, usize, usize);
 
 const ROWS: &[Row] = &[
-    &[],
-    &[
-        &[('a', 1)],
-        &[('b', 2)],
-        &[('a', 3)],
-        &[('b', 4)],
-        &[('a', 1)],
-    ],
-    &[
-        &[('a', 1), ('x', 2), ('i', 3)],
-        &[('i', 0)],
-        &[],
-        &[('i', 0)],
-    ],
-    // No graph, since its labels do not ascend.
-    &[&[('b', 0), ('a', 0)]],
+    (HIDDEN_LOOP, false, 9, 9),
+    // A bound that the sets reach, and the next one.
+    (HIDDEN_LOOP, true, 9, 3),
+    (HIDDEN_LOOP, false, 9, 2),
+    (SAME_PREFIX, false, 1, 9),
 ];
 
-/// The classes of a graph, and the reduced graph.
-#[derive(Drop)]
-struct Reduced {
-    classes: Vec<usize>,
-    graph: Vec<Vec<Transition>>,
-}
-
 pub fn rows(rt: &impl Print, heap: &Heap) -> Result<(), Stop> {
-    print_rows(rt, heap, "reduced:", ROWS, write_row)
+    print_rows(rt, heap, "automaton:", ROWS, write_row)
 }
 
-/// Writes the classes of the states, and the transitions of each class.
+/// Writes the automaton, or where its exploration stops.
 fn write_row(heap: &Heap, line: &mut Line, row: &Row) -> Result<(), Stop> {
-    match heap.retried(|| reduced_of(heap.alloc, row))? {
-        None => put(line, " no graph"),
-        Some(reduced) => write_reduced(line, &reduced),
+    let (text, strong, terms, states) = *row;
+    let mut sets = sets_of(heap, text, strong, terms)?;
+    let alloc = heap.alloc;
+    let found = heap.retried_on(&mut sets, |sets| {
+        find_automaton(alloc, sets, states, &mut NoProgress)
+    });
+    let gates = sets.table().gates();
+    match found {
+        Ok(graph) => write_graph(line, gates, graph.as_slice()),
+        Err(AutomatonFault::OverTerms(labels)) => {
+            write!(line, " more than {terms} terms at ")?;
+            put_sequence(line, gates, labels.as_slice())
+        }
+        Err(AutomatonFault::OverStates(labels)) => {
+            write!(line, " more than {states} states at ")?;
+            put_sequence(line, gates, labels.as_slice())
+        }
+        Err(AutomatonFault::Memory) => Err(Stop::Memory),
     }
 }
 
-fn write_reduced(line: &mut Line, reduced: &Reduced) -> Result<(), Stop> {
-    for class in &reduced.classes {
-        write!(line, " {class}")?;
-    }
-    for transitions in &reduced.graph {
-        put(line, ";")?;
-        write_transitions(line, transitions.as_slice())?;
+/// Writes the transitions of each state: their labels, and the states that they lead to.
+fn write_graph(line: &mut Line, gates: &[Name], graph: &[Vec<Transition>]) -> Result<(), Stop> {
+    for (number, transitions) in graph.iter().enumerate() {
+        if number > 0 {
+            put(line, ";")?;
+        }
+        write_transitions(line, gates, transitions.as_slice())?;
     }
     Ok(())
 }
 
-fn write_transitions(line: &mut Line, transitions: &[Transition]) -> Result<(), Stop> {
+fn write_transitions(
+    line: &mut Line,
+    gates: &[Name],
+    transitions: &[Transition],
+) -> Result<(), Stop> {
     for transition in transitions {
-        let letter = letter_of(transition.label);
-        write!(line, " {letter}{}", transition.state)?;
+        put_label(line, gates, transition.label)?;
+        write!(line, " {}", transition.state)?;
     }
     Ok(())
-}
-
-fn reduced_of(alloc: Global, row: &Row) -> Result<Option<Reduced>, AllocError> {
-    let graph = graph_of(alloc, row)?;
-    if !is_graph(graph.as_slice()) {
-        return Ok(None);
-    }
-    let numbers = classes(alloc, graph.as_slice())?;
-    let merged = reduce(alloc, graph.as_slice(), numbers.as_slice())?;
-    Ok(Some(Reduced {
-        classes: numbers,
-        graph: merged,
-    }))
-}
-
-fn graph_of(alloc: Global, row: &Row) -> Result<Vec<Vec<Transition>>, AllocError> {
-    let mut graph = Vec::new(alloc);
-    for list in *row {
-        graph.push(transitions_of(alloc, list)?)?;
-    }
-    Ok(graph)
-}
-
-fn transitions_of(alloc: Global, list: &[(char, usize)]) -> Result<Vec<Transition>, AllocError> {
-    let mut transitions = Vec::new(alloc);
-    for (letter, state) in list {
-        transitions.push(Transition {
-            label: label_of(*letter),
-            state: *state,
-        })?;
-    }
-    Ok(transitions)
-}
-
-fn label_of(letter: char) -> Label {
-    match letter {
-        'x' => Label::Exit,
-        'i' => Label::Internal,
-        'b' => Label::Gate(Gate::of_number(1)),
-        _ => Label::Gate(Gate::of_number(0)),
-    }
-}
-
-fn letter_of(label: Label) -> char {
-    match label {
-        Label::Exit => 'x',
-        Label::Internal => 'i',
-        Label::Gate(gate) if gate.number() == 0 => 'a',
-        Label::Gate(_) => 'b',
-    }
 }

@@ -14,7 +14,6 @@ mod compiled_calls;
 mod cover_calls;
 mod end_calls;
 mod explain_calls;
-mod exploration_calls;
 mod front_end;
 mod lexing_calls;
 mod lines;
@@ -62,9 +61,8 @@ fn all(rt: &impl Print, heap: &Heap) -> Result<(), Stop> {
     end_calls::rows(rt, heap)?;
     set_calls::rows(rt, heap)?;
     after_calls::rows(rt, heap)?;
-    exploration_calls::rows(rt, heap)?;
-    cover_calls::rows(rt, heap)?;
     automaton_calls::rows(rt, heap)?;
+    cover_calls::rows(rt, heap)?;
     request_calls::rows(rt, heap)?;
     read_calls::rows(rt, heap)
 }
