@@ -63,7 +63,8 @@ class AllAtOnce:
             output = self.launched(folder)
         # The last line counts the questions.
         answers = output[: output.rindex("\n", 0, -1) + 1]
-        found = [(m[3], int(m[2]), message_of(m[4] or "")) for m in self.ANSWER.finditer(answers)]
-        assert len(found) == len(self.questions)
-        for (_, _, then), answer in zip(self.questions, found):
-            then(answer)
+        # The launcher asks the files of a folder in an order of its own.
+        found = {int(m[1]): (m[3], int(m[2]), message_of(m[4] or "")) for m in self.ANSWER.finditer(answers)}
+        assert found.keys() == set(range(len(self.questions)))
+        for number, (_, _, then) in enumerate(self.questions):
+            then(found[number])

@@ -202,15 +202,22 @@ WORDS = [
     "after --progress A B A B A B",
     "after --only B B",
     "after --hide A,a --strong i B",
+    "compare",
+    "compare --within",
+    "compare --strong --within --states 3",
+    "compare --terms=2 --hide A,B",
+    "compare --only=a --progress",
+    "compare --hide B --strong --brief",
     "check",
     "search --help",
     "check --help",
     "after --help",
+    "compare --help",
     "help search",
     "--help",
 ]
 OTHERS = (
-    "search check after help --help -h --depth --length --limit --terms --after --explain --strong --known -- - --depth=1 --depth= 0 1 3 4 255 256 -1 "
+    "search check after compare help --within --states --help -h --depth --length --limit --terms --after --explain --strong --known -- - --depth=1 --depth= 0 1 3 4 255 256 -1 "
     "--hide --only --hide=A,B --only= "
     "+2 007 99999999999999999999 1e3 0x1 1000000 1000001 1000000000 1000000001 A B a exit EXIT i I <any> <until> <while> "
     "<deadlock> <refuses> <livelock> <forever> <never> <ANY> <empty> <foo> A-B A_1 1A _A <any <any>> <not> A,B A,A i,A A, ,A A,,B , A,<any> "
@@ -249,6 +256,11 @@ def damaged_words(rng):
             row = damaged_row(rng, row, row_of(rng.choice([OTHERS, ELEMENTS])), rng.choice([2, 5, 20, 300]))
     row = [word.replace(b"\0", b"") for word in kept + row]
     return damaged_words(rng) if may_take_long(row) else row
+
+
+def plain_pair_words(rng):
+    """A correct row for a text of two specifications."""
+    return row_of(rng.choice(["compare", "compare --within", "compare --strong"]).split(" ") + "--terms 50 --states 50".split(" "))
 
 
 def plain_words(rng):

@@ -10,7 +10,8 @@ HINT = (
     r"|\w+ is a formal gate of the process \w+, and stands for the gate that a call gives|word [0-9]+, [!-~]+, may be meant as <[a-z]+>"
     r"|word [0-9]+, [!-~]+, lacks a blank after <[a-z]+>"
     r"|the names of --hide and --only are joined by commas, one between two names and no blanks"
-    r"|a specification is read from standard input: lotosseq [a-z. ]+ <FILE)\n"
+    r"|a specification is read from standard input: lotosseq [a-z. ]+ <FILE"
+    r"|two specifications are read from standard input: cat FIRST SECOND \| lotosseq compare)\n"
 )
 
 

@@ -4,6 +4,8 @@ A term is a tuple that begins with the name of its form. A set of gates is a sor
 is made of relabellings and hidings (term_ends.py).
 """
 GATES = ["A", "B", "C"]
+# The forms of behaviours. Names of gates are in upper case, so no set of gates begins like one.
+FORMS = {"stop", "exit", "prefix", "choice", "par", "hide", "enable", "disable", "call"}
 
 
 class TooMany(Exception):
@@ -84,9 +86,9 @@ def shown(t):
             return f"P{process}[{','.join(gates)}]"
 
 
-def text_of(made):
+def text_of(made, gates=GATES):
     kind = lambda exits: "exit" if exits else "noexit"
-    text = f"specification S [{','.join(GATES)}] : {kind(made.exits)} behaviour {shown(made.start)}\n"
+    text = f"specification S [{','.join(gates)}] : {kind(made.exits)} behaviour {shown(made.start)}\n"
     if made.processes:
         text += "where\n"
     for number, p in enumerate(made.processes):

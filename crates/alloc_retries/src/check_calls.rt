@@ -1,7 +1,7 @@
 //! Texts of specifications: their ASTs, their systems, and the steps, the normal forms and the regrouping of their terms.
 
 use crate::ast_lines::write_definition;
-use crate::front_end::{accepted, hidden, normal_table_of, parsed};
+use crate::front_end::{accepted, accepted_pair, hidden, normal_table_of, parsed};
 use crate::lines::Line;
 use crate::retry_heap::{Heap, Stop};
 use crate::system_lines::{write_fault, write_system};
@@ -34,6 +34,12 @@ const HIDDEN: &[&str] = &[
     "specification S [a,b] : noexit behaviour P[a,b] where process P [x,y] : noexit := x; P[y,x] endproc endspec",
 ];
 
+/// Texts of two specifications.
+const PAIRS: &[&str] = &[
+    "specification S [a] : noexit behaviour a; stop endspec specification T [b] : exit behaviour b; exit endspec",
+    "specification S [a] : noexit behaviour a; stop endspec specification T [b] : noexit behaviour a; stop endspec",
+];
+
 /// What is asked of the first terms of a system, and what its line begins with. The steps to normal forms are first as the
 /// table keeps them, and then taken out of it.
 const ASKED: &[(&str, Asked)] = &[
@@ -53,6 +59,9 @@ pub fn rows(rt: &impl Print, heap: &Heap) -> Result<(), Stop> {
     for text in HIDDEN {
         let system = hidden(heap, text)?;
         write_checked(rt, "hidden", &system)?;
+    }
+    for text in PAIRS {
+        write_pair(rt, heap, text)?;
     }
     Ok(())
 }
@@ -80,6 +89,19 @@ fn write_answer(rt: &impl Print, heap: &Heap, text: &str) -> Result<(), Stop> {
         Ok(system) => {
             write_checked(rt, "system", &system)?;
             follow(rt, heap, text)
+        }
+        Err(AcceptFault::Text(_)) => Ok(()),
+        Err(AcceptFault::Check(fault)) => write_broken(rt, &fault),
+        Err(AcceptFault::Memory) => Err(Stop::Memory),
+    }
+}
+
+/// Writes the systems of a text of two specifications, or the static rule that one of them breaks.
+fn write_pair(rt: &impl Print, heap: &Heap, text: &str) -> Result<(), Stop> {
+    match accepted_pair(heap, text) {
+        Ok((first, second)) => {
+            write_checked(rt, "first", &first.system)?;
+            write_checked(rt, "second", &second.system)
         }
         Err(AcceptFault::Text(_)) => Ok(()),
         Err(AcceptFault::Check(fault)) => write_broken(rt, &fault),

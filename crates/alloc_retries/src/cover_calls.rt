@@ -6,7 +6,8 @@ use crate::mark_calls::mark_after;
 use crate::resumed_search::{NextResult, Resumable, write_end, write_items};
 use crate::retry_heap::{Heap, Stop};
 use crate::set_calls::{HIDDEN_LOOP, SAME_PREFIX};
-use lotos_cover::{CoverHalt, CoverSearch};
+use lotos_automaton::AutomatonFault;
+use lotos_suite::{CoverHalt, CoverSearch};
 use lotos_terms::Label;
 use lotos_text::Name;
 use std::fmt::Write;
@@ -71,13 +72,13 @@ impl Resumable for Cover {
         match next {
             Ok(Some(found)) => write_line(gates, found.sequence.as_slice(), line, last),
             Ok(None) => write_end(line),
-            Err(CoverHalt::OverTerms(labels)) => {
+            Err(CoverHalt::Fault(AutomatonFault::OverTerms(labels))) => {
                 write_halt(gates, labels.as_slice(), terms, "terms", line)
             }
-            Err(CoverHalt::OverStates(labels)) => {
+            Err(CoverHalt::Fault(AutomatonFault::OverStates(labels))) => {
                 write_halt(gates, labels.as_slice(), states, "states", line)
             }
-            Err(CoverHalt::Memory) => Ok(NextResult::Refusal),
+            Err(CoverHalt::Fault(AutomatonFault::Memory)) => Ok(NextResult::Refusal),
             Err(CoverHalt::Failed) => Err(Stop::Row),
         }
     }

@@ -5,7 +5,7 @@ ghost use Rattle.lotos_check.specs.Acceptance.{IsAccepted};
 ghost use Rattle.lotos_check.specs.CheckedView.{system_of};
 
 use crate::retry_heap::{Heap, Stop};
-use lotos_check::{AcceptFault, CheckFault, Checked, accept, check};
+use lotos_check::{AcceptFault, AcceptedText, CheckFault, Checked, accept, accept_pair, check};
 use lotos_normal::NormalTable;
 use lotos_terms::Table;
 use lotos_text::{Specification, TextFault, parse};
@@ -26,6 +26,11 @@ pub fn checked(heap: &Heap, specification: &Specification) -> Result<Checked, Ch
 /// The checked specification of a text.
 pub fn accepted(heap: &Heap, text: &str) -> Result<Checked, AcceptFault> {
     Ok(heap.retried(|| accept(heap.alloc, text.as_bytes()))?.system)
+}
+
+/// The two specifications of a text, parsed and checked.
+pub fn accepted_pair(heap: &Heap, text: &str) -> Result<(AcceptedText, AcceptedText), AcceptFault> {
+    heap.retried(|| accept_pair(heap.alloc, text.as_bytes()))
 }
 
 /// The checked specification of a text with its first gate hidden.

@@ -10,6 +10,7 @@ mod after_calls;
 mod ast_lines;
 mod automaton_calls;
 mod check_calls;
+mod compare_calls;
 mod compiled_calls;
 mod cover_calls;
 mod end_calls;
@@ -63,6 +64,7 @@ fn all(rt: &impl Print, heap: &Heap) -> Result<(), Stop> {
     after_calls::rows(rt, heap)?;
     automaton_calls::rows(rt, heap)?;
     cover_calls::rows(rt, heap)?;
+    compare_calls::rows(rt, heap)?;
     request_calls::rows(rt, heap)?;
     read_calls::rows(rt, heap)
 }

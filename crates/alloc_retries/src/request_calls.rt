@@ -23,6 +23,11 @@ const ROWS: &[&[&str]] = &[
     &["lotosseq", "ever", "--only", "A,b", "A"],
     &["lotosseq", "after", "--strong", "A  B", "i"],
     &["lotosseq", "cover", "--after=A B", "--limit", "3"],
+    &["lotosseq", "graph", "--terms=7", "--hide", "A,B"],
+    &["lotosseq", "suite", "--extra", "2", "--after=- A B"],
+    &[
+        "lotosseq", "compare", "--within", "--only=A", "--states", "5",
+    ],
     &["lotosseq", "search", "--depth", "256"],
     &["lotosseq", "check", "-h"],
 ];

@@ -4,6 +4,7 @@ ghost use Rattle.std.specs.Prelude.{◌≡◌};
 use lotos_automaton::AutomatonFault;
 use lotos_check::{AcceptFault, CheckFault};
 use lotos_command::CommandFault;
+use lotos_compare::CompareFault;
 use lotos_device::ReadFault;
 use lotos_ends::EndsFault;
 use lotos_ever::Halt;
@@ -146,6 +147,12 @@ impl Fault for SetFault {
 impl Fault for AutomatonFault {
     fn is_memory(&self) -> bool {
         matches!(self, AutomatonFault::Memory)
+    }
+}
+
+impl Fault for CompareFault {
+    fn is_memory(&self) -> bool {
+        matches!(self, CompareFault::Memory)
     }
 }
 

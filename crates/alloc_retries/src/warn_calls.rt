@@ -11,6 +11,7 @@ const ROWS: &[&str] = &[
     "specification S [a] : noexit behaviour a; stop endspec",
     "specification S [a, b] : noexit behaviour P[a] |[a]| stop where process P [x] : noexit := x; (stop |[x]| x; stop) endproc process Q [y] : noexit := stop endproc endspec",
     "specification S : exit behaviour exit where process P : exit := i; P endproc endspec",
+    "specification S [a] : noexit behaviour hide b in (a; b; stop ||| b; stop) endspec",
     // A name of 65 bytes, of which a warning shows 64.
     "specification p0123456789012345678901234567890123456789012345678901234567891234 [a] : noexit behaviour stop endspec",
 ];

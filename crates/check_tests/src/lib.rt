@@ -26,6 +26,8 @@ mod mistakes;
 #[cfg(test)]
 mod names;
 #[cfg(test)]
+mod pair_tests;
+#[cfg(test)]
 mod places;
 #[cfg(test)]
 mod table_texts;

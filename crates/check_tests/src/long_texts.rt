@@ -24,7 +24,7 @@ const ROWS: &[Row] = &[
         0,
         LIMIT,
         UNUSED_EXIT,
-        b"  specification S [a] : exit\n                ^\n  it is `noexit` because of a `stop`\n  Declare it `noexit`, or end the behaviour with `exit`; a call has what its process declares.\n",
+        b"  specification S [a] : exit\n                ^\n  it is `noexit` because of the `stop` at 2:35\n  Declare it `noexit`, or end the behaviour with `exit`; a call has what its process declares.\n",
     ),
     (
         "a functionality in a longer text",
@@ -52,14 +52,14 @@ const ROWS: &[Row] = &[
         LIMIT - 46,
         0,
         PARENTHESIS,
-        b"  behaviour a; stop)\n                   ^\n  `)` is a sign\n  could be here, among others: `[]` `|[` `||` `|||` `[>` `>>` `where` `endspec`\n  Put what is missing before it, or remove it.\n",
+        b"  behaviour a; stop)\n                   ^\n  `)` is a sign\n  could be here, among others: `[]` `|[` `||` `|||` `[>` `>>` `where` `endspec`\n  Remove it, or put `(` where the group begins: no `(` is open here.\n",
     ),
     (
         "a token at a later offset",
         LIMIT - 45,
         0,
         PARENTHESIS,
-        b"  behaviour a; stop)\n                   ^\n  `)` is a sign\n  Put what is missing before it, or remove it.\n",
+        b"  behaviour a; stop)\n                   ^\n  `)` is a sign\n  Remove it, or put `(` where the group begins: no `(` is open here.\n",
     ),
 ];
 

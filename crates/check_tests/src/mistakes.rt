@@ -28,12 +28,12 @@ const MISSING: &[Row] = &[
     (
         "no operator after a call with gates",
         b"specification S [a] : noexit\nbehaviour P[a] stop\nendspec\n",
-        b"  behaviour P[a] stop\n                 ^\n  `stop` is a reserved word\n  could be here, among others: `[]` `|[` `||` `|||` `[>` `>>` `where` `endspec`\n  Put what is missing before it, or remove it.\n",
+        b"  behaviour P[a] stop\n                 ^\n  `stop` is a reserved word\n  could be here, among others: `[]` `|[` `||` `|||` `[>` `>>` `where` `endspec`\n  Put an operator before it: `[]` for a choice, `|||` for both side by side, `>>` for one after the other.\n",
     ),
     (
         "no semicolon after the internal action",
         b"specification S : noexit\nbehaviour i stop\nendspec\n",
-        b"  behaviour i stop\n              ^\n  `stop` is a reserved word\n  could be here, among others: `;`\n  Put what is missing before it, or remove it.\n",
+        b"  behaviour i stop\n              ^\n  `stop` is a reserved word\n  could be here, among others: `;`\n  Put `;` before it.\n",
     ),
     (
         "an equals sign for a definition",
@@ -68,7 +68,7 @@ const MISSING: &[Row] = &[
     (
         "an endproc too many",
         b"specification S [a] : noexit\nbehaviour a; stop\nendproc\nendspec\n",
-        b"  endproc\n  ^\n  `endproc` is a reserved word\n  could be here, among others: `[]` `|[` `||` `|||` `[>` `>>` `where` `endspec`\n  Put what is missing before it, or remove it.\n",
+        b"  endproc\n  ^\n  `endproc` is a reserved word\n  could be here, among others: `[]` `|[` `||` `|||` `[>` `>>` `where` `endspec`\n  Remove it: no process is open here.\n",
     ),
     (
         "no endspec",
@@ -118,7 +118,7 @@ const MISSING: &[Row] = &[
     (
         "no functionality",
         b"specification S [a]\nbehaviour a; stop endspec",
-        b"  behaviour a; stop endspec\n  ^\n  `behaviour` is a reserved word\n  could be here, among others: `:`\n  Put what is missing before it, or remove it.\n",
+        b"  behaviour a; stop endspec\n  ^\n  `behaviour` is a reserved word\n  could be here, among others: `:`\n  Put `: noexit` before it, or `: exit` if the behaviour can end with `exit`.\n",
     ),
     (
         "a semicolon after exit",
@@ -128,12 +128,12 @@ const MISSING: &[Row] = &[
     (
         "no comma between gates",
         b"specification S [a b] : noexit behaviour stop endspec",
-        b"  specification S [a b] : noexit behaviour stop endspec\n                     ^\n  `b` is an identifier\n  could be here, among others: `,` `]`\n  Correct it if it is misspelt, or put what is missing before it.\n",
+        b"  specification S [a b] : noexit behaviour stop endspec\n                     ^\n  `b` is an identifier\n  a `,` may be missing between `a` and it\n  Put `,` between the gates of a list.\n",
     ),
     (
         "an empty list of gates",
         b"specification S [] : noexit behaviour stop endspec",
-        b"  specification S [] : noexit behaviour stop endspec\n                  ^\n  `[]` is a sign\n  could be here, among others: `:` `[`\n  Put what is missing before it, or remove it.\n",
+        b"  specification S [] : noexit behaviour stop endspec\n                  ^\n  `[]` is a sign\n  could be here, among others: `:` `[`\n  Remove it: a list without gates is left out.\n",
     ),
     (
         "a parenthesis that is not closed",
@@ -148,7 +148,102 @@ const MISSING: &[Row] = &[
     (
         "a parenthesis too many",
         b"specification S [a] : noexit\nbehaviour a; stop)\nendspec",
-        b"  behaviour a; stop)\n                   ^\n  `)` is a sign\n  could be here, among others: `[]` `|[` `||` `|||` `[>` `>>` `where` `endspec`\n  Put what is missing before it, or remove it.\n",
+        b"  behaviour a; stop)\n                   ^\n  `)` is a sign\n  could be here, among others: `[]` `|[` `||` `|||` `[>` `>>` `where` `endspec`\n  Remove it, or put `(` where the group begins: no `(` is open here.\n",
+    ),
+    (
+        "no comma in the list of a hiding",
+        b"specification S [a, b] : noexit\nbehaviour hide c d in c; d; stop\nendspec",
+        b"  behaviour hide c d in c; d; stop\n                   ^\n  `d` is an identifier\n  a `,` may be missing between `c` and it\n  Put `,` between the gates of a list.\n",
+    ),
+    (
+        "no comma in the list of a parallel composition",
+        b"specification S [a, b] : noexit\nbehaviour a; stop |[a b]| b; stop\nendspec",
+        b"  behaviour a; stop |[a b]| b; stop\n                        ^\n  `b` is an identifier\n  a `,` may be missing between `a` and it\n  Put `,` between the gates of a list.\n",
+    ),
+    (
+        "no operator after exit",
+        b"specification S [a, b] : noexit\nbehaviour a; exit b; stop\nendspec",
+        b"  behaviour a; exit b; stop\n                    ^\n  `b` is an identifier\n  could be here, among others: `[]` `|[` `||` `|||` `[>` `>>` `where` `endspec`\n  Put an operator before it: `[]` for a choice, `|||` for both side by side, `>>` for one after the other.\n",
+    ),
+    (
+        "no operator after a parenthesis",
+        b"specification S [a, b] : noexit\nbehaviour (a; stop) (b; stop)\nendspec",
+        b"  behaviour (a; stop) (b; stop)\n                      ^\n  `(` is a sign\n  could be here, among others: `[]` `|[` `||` `|||` `[>` `>>` `where` `endspec`\n  Put an operator before it: `[]` for a choice, `|||` for both side by side, `>>` for one after the other.\n",
+    ),
+    (
+        "no operator before a call",
+        b"specification S [a, b] : noexit\nbehaviour a; stop P[b]\nwhere process P [x] : noexit := x; stop endproc\nendspec",
+        b"  behaviour a; stop P[b]\n                    ^\n  `P` is an identifier\n  could be here, among others: `[]` `|[` `||` `|||` `[>` `>>` `where` `endspec`\n  Put an operator before it: `[]` for a choice, `|||` for both side by side, `>>` for one after the other.\n",
+    ),
+    (
+        "no functionality after a colon",
+        b"specification S [a] :\nbehaviour a; stop endspec",
+        b"  behaviour a; stop endspec\n  ^\n  `behaviour` is a reserved word\n  could be here, among others: `exit` `noexit`\n  Put `noexit` before it, or `exit` if the behaviour can end with `exit`.\n",
+    ),
+    (
+        "no functionality of a process",
+        b"specification S [a, b] : noexit\nbehaviour P[a]\nwhere process P [x] := x; stop endproc\nendspec",
+        b"  where process P [x] := x; stop endproc\n                      ^\n  `:=` is a sign\n  could be here, among others: `:`\n  Put `: noexit` before it, or `: exit` if the behaviour can end with `exit`.\n",
+    ),
+    (
+        "a list of gates in parentheses",
+        b"specification S [a, b] : noexit\nbehaviour P[a]\nwhere process P (x) : noexit := x; stop endproc\nendspec",
+        b"  where process P (x) : noexit := x; stop endproc\n                  ^\n  `(` is a sign\n  could be here, among others: `:` `[`\n  Write the gates between `[` and `]`, with `,` between them.\n",
+    ),
+    (
+        "a list of gates without brackets",
+        b"specification S [a, b] : noexit\nbehaviour P[a]\nwhere process P x : noexit := x; stop endproc\nendspec",
+        b"  where process P x : noexit := x; stop endproc\n                  ^\n  `x` is an identifier\n  could be here, among others: `:` `[`\n  Write the gates between `[` and `]`, with `,` between them.\n",
+    ),
+    (
+        "the gates of a call in parentheses",
+        b"specification S [a, b] : noexit\nbehaviour P(a)\nwhere process P [x] : noexit := x; stop endproc\nendspec",
+        b"  behaviour P(a)\n             ^\n  `(` is a sign\n  a `;` may be missing between `P` and it\n  Put `;` after `P` if it is a gate; write the gates of a process between `[` and `]`.\n",
+    ),
+    (
+        "an empty list of gates in a call",
+        b"specification S [a, b] : noexit\nbehaviour P[]\nwhere process P : noexit := stop endproc\nendspec",
+        b"  where process P : noexit := stop endproc\n  ^\n  `where` is a reserved word\n  could be here, among others: a name `stop` `exit` `i` `hide` `(`\n  Remove `[]` before it if it is meant as a list without gates: such a call is a name alone. `[]` is a choice.\n",
+    ),
+    (
+        "brackets around the gates of a hiding",
+        b"specification S [a, b] : noexit\nbehaviour hide [c] in c; stop\nendspec",
+        b"  behaviour hide [c] in c; stop\n                 ^\n  `[` is a sign\n  could be here, among others: a name\n  Write the gates of `hide` without brackets, as in `hide a, b in`.\n",
+    ),
+    (
+        "a word after the end",
+        b"specification S [a, b] : noexit\nbehaviour a; stop\nendspec endspec",
+        b"  endspec endspec\n          ^\n  `endspec` is a reserved word\n  Remove it: the specification has ended before it.\n",
+    ),
+    (
+        "no behaviour after an operator",
+        b"specification S [a, b] : noexit\nbehaviour a; stop []\nendspec",
+        b"  endspec\n  ^\n  `endspec` is a reserved word\n  could be here, among others: a name `stop` `exit` `i` `hide` `(`\n  Put a behaviour before it, as `stop`, `a; stop` or the call of a process.\n",
+    ),
+    (
+        "no behaviour in parentheses",
+        b"specification S [a, b] : noexit\nbehaviour a; ()\nendspec",
+        b"  behaviour a; ()\n                ^\n  `)` is a sign\n  could be here, among others: a name `stop` `exit` `i` `hide` `(`\n  Put a behaviour before it, as `stop`, `a; stop` or the call of a process.\n",
+    ),
+    (
+        "two operators",
+        b"specification S [a, b] : noexit\nbehaviour a; stop ||| [] b; stop\nendspec",
+        b"  behaviour a; stop ||| [] b; stop\n                        ^\n  `[]` is a sign\n  could be here, among others: a name `stop` `exit` `i` `hide` `(`\n  Remove it, or put a behaviour before it: an operator is between two.\n",
+    ),
+    (
+        "four bars",
+        b"specification S [a, b] : noexit\nbehaviour a; stop |||| b; stop\nendspec",
+        b"  behaviour a; stop |||| b; stop\n                       ^\n  `|` is a sign\n  could be here, among others: a name `stop` `exit` `i` `hide` `(`\n  Remove it, or put a behaviour before it: an operator is between two.\n",
+    ),
+    (
+        "no bracket after the gates of a call",
+        b"specification S [a, b] : noexit\nbehaviour P[a where process P [x] : noexit := x; stop endproc\nendspec",
+        b"  behaviour P[a where process P [x] : noexit := x; stop endproc\n                ^\n  `where` is a reserved word\n  could be here, among others: `,` `]`\n  Put `]` before it, after the last gate of the list.\n",
+    ),
+    (
+        "a second where",
+        b"specification S [a, b] : noexit\nbehaviour P[a]\nwhere process P [x] : noexit := x; stop endproc\nwhere process Q : noexit := stop endproc\nendspec",
+        b"  where process Q : noexit := stop endproc\n  ^\n  `where` is a reserved word\n  could be here, among others: `process` `endspec`\n  Remove it: one `where` has all the processes.\n",
     ),
 ];
 
@@ -237,17 +332,67 @@ const SPELLINGS: &[Row] = &[
     (
         "no where",
         b"specification S [a] : noexit\nbehaviour P[a]\nprocess P [x] : noexit := x; stop endproc\nendspec",
-        b"  process P [x] : noexit := x; stop endproc\n  ^\n  `process` is a reserved word\n  could be here, among others: `[]` `|[` `||` `|||` `[>` `>>` `where` `endspec`\n  Put what is missing before it, or remove it.\n",
+        b"  process P [x] : noexit := x; stop endproc\n  ^\n  `process` is a reserved word\n  could be here, among others: `[]` `|[` `||` `|||` `[>` `>>` `where` `endspec`\n  Put `where` before the first process.\n",
     ),
     (
         "no bar after the gates of a parallel composition",
         b"specification S [a] : noexit\nbehaviour a; stop |[a] a; stop\nendspec",
-        b"  behaviour a; stop |[a] a; stop\n                         ^\n  `a` is an identifier\n  could be here, among others: `|`\n  Correct it if it is misspelt, or put what is missing before it.\n",
+        b"  behaviour a; stop |[a] a; stop\n                         ^\n  `a` is an identifier\n  could be here, among others: `|`\n  Put `|` before it.\n",
     ),
     (
         "one sign of enabling",
         b"specification S [a,b] : noexit\nbehaviour a; exit > b; stop\nendspec",
         b"  behaviour a; exit > b; stop\n                    ^\n  `>` begins no word and no sign\n  could be here, among others: `[]` `|[` `||` `|||` `[>` `>>` `where` `endspec`\n  Write `>>` for enabling, or `[>` for disabling.\n",
+    ),
+    (
+        "bars around a gate",
+        b"specification S [a, b] : noexit\nbehaviour a; stop |a| b; stop\nendspec",
+        b"  behaviour a; stop |a| b; stop\n                    ^\n  `|` is a sign\n  could be here, among others: `[]` `|[` `||` `|||` `[>` `>>` `where` `endspec`\n  Write the gates at which both sides meet between `|[` and `]|`, as in `|[a, b]|`, or `|||` if there are none.\n",
+    ),
+    (
+        "a list of gates without bars",
+        b"specification S [a, b] : noexit\nbehaviour a; stop [a] a; b; stop\nendspec",
+        b"  behaviour a; stop [a] a; b; stop\n                    ^\n  `[` is a sign\n  could be here, among others: `[]` `|[` `||` `|||` `[>` `>>` `where` `endspec`\n  Write the gates at which both sides meet between `|[` and `]|`, as in `|[a, b]|`, or `|||` if there are none.\n",
+    ),
+    (
+        "a list of gates after bars",
+        b"specification S [a, b] : noexit\nbehaviour a; stop |||[a] a; b; stop\nendspec",
+        b"  behaviour a; stop |||[a] a; b; stop\n                       ^\n  `[` is a sign\n  could be here, among others: a name `stop` `exit` `i` `hide` `(`\n  Write the gates at which both sides meet between `|[` and `]|`, as in `|[a, b]|`, or `|||` if there are none.\n",
+    ),
+    (
+        "a blank in the sign of a choice",
+        b"specification S [a, b] : noexit\nbehaviour a; stop [ ] b; stop\nendspec",
+        b"  behaviour a; stop [ ] b; stop\n                    ^\n  `[` is a sign\n  could be here, among others: `[]` `|[` `||` `|||` `[>` `>>` `where` `endspec`\n  Write `[]` for a choice, with nothing between its two signs.\n",
+    ),
+    (
+        "two bars after the gates of a parallel composition",
+        b"specification S [a, b] : noexit\nbehaviour a; stop |[a]|| a; stop\nendspec",
+        b"  behaviour a; stop |[a]|| a; stop\n                        ^\n  `||` is a sign\n  could be here, among others: `|`\n  Write one `|` after the list of gates, as in `|[a]|`.\n",
+    ),
+    (
+        "a plus sign for a choice",
+        b"specification S [a, b] : noexit\nbehaviour a; stop + b; stop\nendspec",
+        b"  behaviour a; stop + b; stop\n                    ^\n  `+` begins no word and no sign\n  could be here, among others: `[]` `|[` `||` `|||` `[>` `>>` `where` `endspec`\n  Write `[]` for a choice.\n",
+    ),
+    (
+        "an ampersand",
+        b"specification S [a, b] : noexit\nbehaviour a; stop & b; stop\nendspec",
+        b"  behaviour a; stop & b; stop\n                    ^\n  `&` begins no word and no sign\n  could be here, among others: `[]` `|[` `||` `|||` `[>` `>>` `where` `endspec`\n  Write `|||` for both side by side, or `|[a]|` for two that meet at the gate `a`.\n",
+    ),
+    (
+        "an arrow after a gate",
+        b"specification S [a, b] : noexit\nbehaviour a -> stop\nendspec",
+        b"  behaviour a -> stop\n              ^\n  `-` begins no word and no sign\n  could be here, among others: `;` `[` `[]` `|[` `||` `|||` `[>` `>>` `where` `endspec`\n  Write `;` after a gate, as in `a; stop`.\n",
+    ),
+    (
+        "a comma between alternatives",
+        b"specification S [a, b] : noexit\nbehaviour a, b; stop\nendspec",
+        b"  behaviour a, b; stop\n             ^\n  `,` is a sign\n  could be here, among others: `;` `[` `[]` `|[` `||` `|||` `[>` `>>` `where` `endspec`\n  Write `;` after a gate that is an action; `,` is for lists of gates.\n",
+    ),
+    (
+        "behaviour in a process",
+        b"specification S [a, b] : noexit\nbehaviour P[a]\nwhere process P [x] : noexit behaviour x; stop endproc\nendspec",
+        b"  where process P [x] : noexit behaviour x; stop endproc\n                               ^\n  `behaviour` is a reserved word\n  could be here, among others: `:=`\n  Write `:=` in a process; `behaviour` is for the specification.\n",
     ),
 ];
 
@@ -306,6 +451,21 @@ const RULES: &[Row] = &[
         "a misspelt gate without a semicolon",
         b"specification S [frame] : noexit\nbehaviour fram\nendspec",
         b"  behaviour fram\n            ^\n  Correct the name, or define the process in a `where` around the call; if it is a gate, put `;` after it.\n",
+    ),
+    (
+        "a process inside another",
+        b"specification S [a] : noexit\nbehaviour P[a] ||| Q[a]\nwhere process P [x] : noexit := x; Q[x] where\nprocess Q [y] : noexit := y; stop endproc endproc\nendspec",
+        b"  behaviour P[a] ||| Q[a]\n                     ^\n  Q is defined at 4:9, in the `where` of P, and is not visible here\n  Move its definition out, into a `where` that is around the call too, or give the call its right name.\n",
+    ),
+    (
+        "a process inside another one, which is inside a third",
+        b"specification S [a] : noexit\nbehaviour P[a]\nwhere process P [x] : noexit := R[x] where\nprocess Q [y] : noexit := R[y] where\nprocess R [z] : noexit := z; stop endproc endproc endproc\nendspec",
+        b"  where process P [x] : noexit := R[x] where\n                                  ^\n  R is defined at 5:9, in the `where` of Q, and is not visible here\n  Move its definition out, into a `where` that is around the call too, or give the call its right name.\n",
+    ),
+    (
+        "the specification called",
+        b"specification S [a] : noexit\nbehaviour a; S[a]\nendspec",
+        b"  behaviour a; S[a]\n               ^\n  It is the name of the specification, which is not called: make a process of its behaviour.\n",
     ),
     (
         "a call with too few gates",
@@ -448,7 +608,7 @@ const FUNCTIONALITIES: &[Row] = &[
     (
         "a right side of a parallel composition that never exits",
         b"specification S [a,b] : exit\nbehaviour a; exit ||| b; stop\nendspec",
-        b"  specification S [a,b] : exit\n                ^\n  it is `noexit` because of a `stop`\n  Declare it `noexit`, or end the behaviour with `exit`; a call has what its process declares.\n",
+        b"  specification S [a,b] : exit\n                ^\n  it is `noexit` because of the `stop` at 2:26\n  Declare it `noexit`, or end the behaviour with `exit`; a call has what its process declares.\n",
     ),
     (
         "a left side of a parallel composition that never exits",
@@ -458,7 +618,7 @@ const FUNCTIONALITIES: &[Row] = &[
     (
         "a choice that may exit",
         b"specification S [a,b] : noexit\nbehaviour b; stop [] a; exit\nendspec",
-        b"  specification S [a,b] : noexit\n                ^\n  it is `exit` because of an `exit`\n  Declare it `exit`, or end the behaviour with `stop`; a call has what its process declares.\n",
+        b"  specification S [a,b] : noexit\n                ^\n  it is `exit` because of the `exit` at 2:25\n  Declare it `exit`, or end the behaviour with `stop`; a call has what its process declares.\n",
     ),
     (
         "a call of an inner process that makes it exit",
@@ -468,7 +628,27 @@ const FUNCTIONALITIES: &[Row] = &[
     (
         "an enabling with a right side that never exits",
         b"specification S [a] : exit\nbehaviour hide b in b; exit >> a; stop\nendspec",
-        b"  specification S [a] : exit\n                ^\n  it is `noexit` because of a `stop`\n  Declare it `noexit`, or end the behaviour with `exit`; a call has what its process declares.\n",
+        b"  specification S [a] : exit\n                ^\n  it is `noexit` because of the `stop` at 2:35\n  Declare it `noexit`, or end the behaviour with `exit`; a call has what its process declares.\n",
+    ),
+    (
+        "one exit of several",
+        b"specification S [a,b] : noexit\nbehaviour P[a]\nwhere process P [x] : noexit := x; stop [] (x; exit >> stop) [] x;\nexit [] x; exit where\nprocess Q : exit := exit endproc endproc endspec",
+        b"  where process P [x] : noexit := x; stop [] (x; exit >> stop) [] x;\n                ^\n  it is `exit` because of the `exit` at 4:1\n  Declare it `exit`, or end the behaviour with `stop`; a call has what its process declares.\n",
+    ),
+    (
+        "an exit after a call",
+        b"specification S [a,b] : noexit\nbehaviour P[a]\nwhere process P [x] : noexit := Q\n[] x; stop [] x; exit where\nprocess Q : noexit := stop endproc endproc endspec",
+        b"  where process P [x] : noexit := Q\n                ^\n  it is `exit` because of the `exit` at 4:18\n  Declare it `exit`, or end the behaviour with `stop`; a call has what its process declares.\n",
+    ),
+    (
+        "an exit in both operands",
+        b"specification S [a,b] : noexit\nbehaviour P[a]\nwhere process P [x] : noexit := x; exit ||| (x; x;\n exit)\nendproc endspec",
+        b"  where process P [x] : noexit := x; exit ||| (x; x;\n                ^\n  it is `exit` because of the `exit` at 4:2\n  Declare it `exit`, or end the behaviour with `stop`; a call has what its process declares.\n",
+    ),
+    (
+        "an exit in a disabling under a hiding",
+        b"specification S [a,b] : noexit\nbehaviour P[a]\nwhere process P [x] : noexit := hide y in y; stop [>\nx; exit endproc endspec",
+        b"  where process P [x] : noexit := hide y in y; stop [>\n                ^\n  it is `exit` because of the `exit` at 4:4\n  Declare it `exit`, or end the behaviour with `stop`; a call has what its process declares.\n",
     ),
 ];
 

@@ -95,6 +95,134 @@ const HIDDEN_GATES: &[Row] = &[
     ),
 ];
 
+/// Hidden gates that both sides of a composition offer.
+const APART_GATES: &[Row] = &[
+    (
+        "both sides of an interleaving offer it",
+        "specification S [a] : noexit behaviour hide b in (a; b; stop ||| b; stop) endspec",
+        "44 gate B of `hide` is offered on both sides of a parallel composition, which do not synchronize on it\n",
+    ),
+    (
+        "it is missing in the list",
+        "specification S [a] : noexit behaviour hide b, c in (a; b; c; stop |[b]| b; c; stop) endspec",
+        "47 gate C of `hide` is offered on both sides of a parallel composition, which do not synchronize on it\n",
+    ),
+    (
+        "it is in the list",
+        "specification S [a] : noexit behaviour hide b, c in (a; b; c; stop |[c, b]| b; c; stop) endspec",
+        "",
+    ),
+    (
+        "full synchronization",
+        "specification S [a] : noexit behaviour hide b in (b; a; stop || b; a; stop) endspec",
+        "",
+    ),
+    (
+        "one side alone offers it",
+        "specification S [a] : noexit behaviour hide b in (a; stop ||| b; stop) endspec",
+        "",
+    ),
+    (
+        "both sides pass it on",
+        "specification S [a] : noexit behaviour hide b in (P [a, b] ||| P [a, b]) where process P [x, y] : noexit := x; y; stop endproc endspec",
+        "44 gate B of `hide` is offered on both sides of a parallel composition, which do not synchronize on it\n",
+    ),
+    (
+        "a gate that is not hidden",
+        "specification S [a] : noexit behaviour a; stop ||| a; stop endspec",
+        "",
+    ),
+    (
+        "all gates of a hide, in their order",
+        "specification S [a] : noexit behaviour hide c, a, b in (a; b; c; stop ||| b; c; i; a; stop) endspec",
+        "17 gate A of S is not used\n44 gate C of `hide` is offered on both sides of a parallel composition, which do not synchronize on it\n47 gate A of `hide` is offered on both sides of a parallel composition, which do not synchronize on it\n50 gate B of `hide` is offered on both sides of a parallel composition, which do not synchronize on it\n",
+    ),
+    (
+        "a name twice in the list of the hide",
+        "specification S [a] : noexit behaviour hide b, b in (b; a; stop ||| b; stop) endspec",
+        "44 gate B of `hide` is offered on both sides of a parallel composition, which do not synchronize on it\n47 gate B of `hide` is offered on both sides of a parallel composition, which do not synchronize on it\n",
+    ),
+    (
+        "one of two sides hides it itself",
+        "specification S [a] : noexit behaviour hide b in (b; a; stop ||| (hide b in b; stop)) endspec",
+        "",
+    ),
+    (
+        "a gate of a list alone",
+        "specification S [a] : noexit behaviour hide b in ((a; stop |[b]| a; stop) ||| b; stop) endspec",
+        "61 gate B of `|[..]|` is never offered on the left\n61 gate B of `|[..]|` is never offered on the right\n",
+    ),
+];
+
+/// The same among other operators.
+const APART_GATES_OF_PARTS: &[Row] = &[
+    (
+        "two that meet a third",
+        "specification S [a] : noexit behaviour hide b in ((b; a; stop ||| b; stop) |[b]| b; b; stop) endspec",
+        "",
+    ),
+    (
+        "the third on the left, with full synchronization",
+        "specification S [a] : noexit behaviour hide b in (b; a; b; stop || (b; a; stop ||| b; stop)) endspec",
+        "",
+    ),
+    (
+        "a composition around that does not synchronize on it",
+        "specification S [a] : noexit behaviour hide b in ((b; a; stop ||| b; stop) |[a]| a; stop) endspec",
+        "44 gate B of `hide` is offered on both sides of a parallel composition, which do not synchronize on it\n",
+    ),
+    (
+        "the same on the right",
+        "specification S [a] : noexit behaviour hide b in (a; stop |[a]| (b; a; stop ||| b; stop)) endspec",
+        "44 gate B of `hide` is offered on both sides of a parallel composition, which do not synchronize on it\n",
+    ),
+    (
+        "two pairs that meet",
+        "specification S [a] : noexit behaviour hide b in ((b; a; stop |[b]| b; stop) ||| (b; stop |[b]| b; stop)) endspec",
+        "44 gate B of `hide` is offered on both sides of a parallel composition, which do not synchronize on it\n",
+    ),
+    (
+        "three sides, one warning",
+        "specification S [a] : noexit behaviour hide b in (b; a; stop ||| b; stop ||| b; stop) endspec",
+        "44 gate B of `hide` is offered on both sides of a parallel composition, which do not synchronize on it\n",
+    ),
+    (
+        "after an action, and on either side of a choice",
+        "specification S [a] : noexit behaviour hide b, c in a; ((b; stop ||| b; stop) [] (c; stop ||| c; stop)) endspec",
+        "44 gate B of `hide` is offered on both sides of a parallel composition, which do not synchronize on it\n47 gate C of `hide` is offered on both sides of a parallel composition, which do not synchronize on it\n",
+    ),
+    (
+        "on either side of enabling and disabling",
+        "specification S [a] : noexit behaviour hide b, c, d in ((b; exit ||| b; exit) >> (c; stop ||| c; a; stop)) [> (d; stop ||| d; stop) endspec",
+        "44 gate B of `hide` is offered on both sides of a parallel composition, which do not synchronize on it\n47 gate C of `hide` is offered on both sides of a parallel composition, which do not synchronize on it\n50 gate D of `hide` is offered on both sides of a parallel composition, which do not synchronize on it\n",
+    ),
+    (
+        "in the left operand of disabling and in the right one of enabling",
+        "specification S [a] : noexit behaviour hide b in ((b; stop ||| b; stop) [> a; stop) endspec",
+        "44 gate B of `hide` is offered on both sides of a parallel composition, which do not synchronize on it\n",
+    ),
+    (
+        "a hide between",
+        "specification S [a] : noexit behaviour hide b in (b; stop [] (hide b in (b; a; stop ||| b; stop))) endspec",
+        "67 gate B of `hide` is offered on both sides of a parallel composition, which do not synchronize on it\n",
+    ),
+    (
+        "a hide of another gate between",
+        "specification S [a] : noexit behaviour hide b in (hide c in (b; c; a; stop ||| b; stop)) endspec",
+        "44 gate B of `hide` is offered on both sides of a parallel composition, which do not synchronize on it\n",
+    ),
+    (
+        "a hide in a process",
+        "specification S [a] : noexit behaviour P [a] where process P [x] : noexit := hide b in (b; x; stop ||| b; stop) endproc endspec",
+        "82 gate B of `hide` is offered on both sides of a parallel composition, which do not synchronize on it\n",
+    ),
+    (
+        "a composition inside a process, and the hide outside",
+        "specification S [a] : noexit behaviour hide b in P [a, b] where process P [x, y] : noexit := x; y; stop ||| y; stop endproc endspec",
+        "",
+    ),
+];
+
 /// Gates that a side of a composition offers, or does not.
 const OFFERED_GATES: &[Row] = &[
     (
@@ -486,6 +614,16 @@ fn warns_about_gates_that_are_not_used(rt: HostRuntime) -> Result<(), Fail> {
 #[test]
 fn warns_about_hidden_gates_that_are_not_used(rt: HostRuntime) -> Result<(), Fail> {
     Ok(assert_rows(&rt, rt.alloc(), HIDDEN_GATES)?)
+}
+
+#[test]
+fn warns_about_hidden_gates_that_both_sides_offer(rt: HostRuntime) -> Result<(), Fail> {
+    Ok(assert_rows(&rt, rt.alloc(), APART_GATES)?)
+}
+
+#[test]
+fn warns_about_hidden_gates_of_parts(rt: HostRuntime) -> Result<(), Fail> {
+    Ok(assert_rows(&rt, rt.alloc(), APART_GATES_OF_PARTS)?)
 }
 
 #[test]

@@ -49,6 +49,21 @@ const GIVEN: &[Row] = &[
         &["lotosseq", "cover", "--progress", "--only", "A,C"],
         "Only(\"A,C\") []",
     ),
+    (
+        "an automaton without some gates",
+        &["lotosseq", "graph", "--hide=a,C", "--terms=3"],
+        "Hide(\"a,C\") []",
+    ),
+    (
+        "a suite of some gates",
+        &["lotosseq", "suite", "--only=a", "--extra=1"],
+        "Only(\"a\") []",
+    ),
+    (
+        "a comparison of some gates",
+        &["lotosseq", "compare", "--within", "--only", "A,c"],
+        "Only(\"A,c\") []",
+    ),
 ];
 
 /// Names are not looked up, and a value may be any text.
@@ -120,6 +135,9 @@ fn question(alloc: Global, words: &[&str]) -> Result<String, AllocError> {
         Ok(Request::Ever(asked)) => shown(alloc, &asked.interface, &asked.words),
         Ok(Request::After(asked)) => shown(alloc, &asked.interface, &asked.words),
         Ok(Request::Cover(asked)) => shown(alloc, &asked.interface, &[]),
+        Ok(Request::Graph(asked)) => shown(alloc, &asked.interface, &[]),
+        Ok(Request::Suite(asked)) => shown(alloc, &asked.interface, &[]),
+        Ok(Request::Compare(asked)) => shown(alloc, &asked.interface, &[]),
         _ => format!(in alloc; "no question"),
     }
 }
@@ -163,6 +181,8 @@ const REFUSED: &[&[&str]] = &[
     &["lotosseq", "cover", "--only=A", "--only=B"],
     &["lotosseq", "ever", "--hide"],
     &["lotosseq", "cover", "--only"],
+    &["lotosseq", "graph", "--hide=A", "--hide=B"],
+    &["lotosseq", "suite", "--only=A", "--only=B"],
     &["lotosseq", "ever", "--hide", "--strong", "A"],
     &["lotosseq", "ever", "--only", "--", "A"],
     &["lotosseq", "check", "--hide=A"],
@@ -204,6 +224,24 @@ For more information, try '--help'.
         "error: the argument '--hide <GATES>' cannot be used with '--only <GATES>'
 
 Usage: lotosseq after [OPTIONS] [LABEL]...
+
+For more information, try '--help'.
+",
+    ),
+    (
+        &["lotosseq", "graph", "--hide=A", "--only=A"],
+        "error: the argument '--hide <GATES>' cannot be used with '--only <GATES>'
+
+Usage: lotosseq graph [OPTIONS]
+
+For more information, try '--help'.
+",
+    ),
+    (
+        &["lotosseq", "suite", "--hide=A", "--only=A"],
+        "error: the argument '--hide <GATES>' cannot be used with '--only <GATES>'
+
+Usage: lotosseq suite [OPTIONS]
 
 For more information, try '--help'.
 ",

@@ -1,4 +1,4 @@
-//! Which numbers `--limit`, `--terms` and `--states` take, and what is said of others.
+//! Which numbers `--limit`, `--terms`, `--states` and `--extra` take, and what is said of others.
 
 use super::request_tests::{answer, wrong_text};
 use std::test::Fail;
@@ -14,7 +14,7 @@ const TAKEN: &[(&str, &[&str], &str)] = &[
             "--terms=008",
             "--states=009",
         ],
-        "Cover(CoverRequest { limit: Some(7), after: None, terms: 8, states: 9, interface: Whole, strong: false, progress: false })",
+        "Cover(CoverRequest { limit: Some(7), after: None, terms: 8, states: 9, interface: Whole, strong: false, progress: false, brief: false })",
     ),
     (
         "a plus sign",
@@ -25,7 +25,7 @@ const TAKEN: &[(&str, &[&str], &str)] = &[
             "--terms=+2",
             "--states=+3",
         ],
-        "Cover(CoverRequest { limit: Some(1), after: None, terms: 2, states: 3, interface: Whole, strong: false, progress: false })",
+        "Cover(CoverRequest { limit: Some(1), after: None, terms: 2, states: 3, interface: Whole, strong: false, progress: false, brief: false })",
     ),
     (
         "a plus sign and zeros, more digits than the greatest number has",
@@ -36,7 +36,12 @@ const TAKEN: &[(&str, &[&str], &str)] = &[
             "--terms=+0000000000000000000000000005",
             "--states=+0000000000000000000000000006",
         ],
-        "Cover(CoverRequest { limit: Some(4), after: None, terms: 5, states: 6, interface: Whole, strong: false, progress: false })",
+        "Cover(CoverRequest { limit: Some(4), after: None, terms: 5, states: 6, interface: Whole, strong: false, progress: false, brief: false })",
+    ),
+    (
+        "no extra states, written with a sign",
+        &["lotosseq", "suite", "--extra=+00"],
+        "Suite(SuiteRequest { extra: 0, limit: None, after: None, terms: 100000, states: 1000000, interface: Whole, strong: false, progress: false, brief: false })",
     ),
     (
         "the greatest numbers",
@@ -47,7 +52,7 @@ const TAKEN: &[(&str, &[&str], &str)] = &[
             "--terms=1000000",
             "--states=100000000",
         ],
-        "Cover(CoverRequest { limit: Some(1000000000), after: None, terms: 1000000, states: 100000000, interface: Whole, strong: false, progress: false })",
+        "Cover(CoverRequest { limit: Some(1000000000), after: None, terms: 1000000, states: 100000000, interface: Whole, strong: false, progress: false, brief: false })",
     ),
 ];
 
@@ -90,6 +95,14 @@ const OUT_OF_RANGE: &[(&[&str], &str)] = &[
         &["lotosseq", "ever", "--states=4294967296"],
         "error: invalid value '4294967296' for '--states <N>': 4294967296 is not in 1..=100000000\n\nFor more information, try '--help'.\n",
     ),
+    (
+        &["lotosseq", "suite", "--extra=4"],
+        "error: invalid value '4' for '--extra <K>': 4 is not in 0..=3\n\nFor more information, try '--help'.\n",
+    ),
+    (
+        &["lotosseq", "suite", "--extra=-1"],
+        "error: invalid value '-1' for '--extra <K>': -1 is not in 0..=3\n\nFor more information, try '--help'.\n",
+    ),
 ];
 
 #[test]
@@ -119,6 +132,8 @@ const NO_NUMERALS: &[&[&str]] = &[
     &["lotosseq", "ever", "--states=0x10"],
     &["lotosseq", "ever", "--states=99999999999999999999"],
     &["lotosseq", "ever", "--states=-99999999999999999999"],
+    &["lotosseq", "suite", "--extra="],
+    &["lotosseq", "suite", "--extra=one"],
 ];
 
 #[test]

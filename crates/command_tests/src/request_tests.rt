@@ -9,17 +9,57 @@ const REQUESTS: &[(&str, &[&str], &str)] = &[
     (
         "a check that explains a fault",
         &["lotosseq", "check", "--explain"],
-        "Diagnose(DiagnoseRequest { explain: true, warn: false })",
+        "Diagnose(DiagnoseRequest { explain: true, warn: false, brief: false })",
     ),
     (
         "a check that warns",
         &["lotosseq", "check", "--warn"],
-        "Diagnose(DiagnoseRequest { explain: false, warn: true })",
+        "Diagnose(DiagnoseRequest { explain: false, warn: true, brief: false })",
     ),
     (
         "a check with all diagnostics",
         &["lotosseq", "check", "--warn", "--explain"],
-        "Diagnose(DiagnoseRequest { explain: true, warn: true })",
+        "Diagnose(DiagnoseRequest { explain: true, warn: true, brief: false })",
+    ),
+    (
+        "a check that says no more at a terminal than elsewhere",
+        &["lotosseq", "check", "--brief"],
+        "Diagnose(DiagnoseRequest { explain: false, warn: false, brief: true })",
+    ),
+    (
+        "a check that explains and says no more at a terminal than elsewhere",
+        &["lotosseq", "check", "--brief", "--explain"],
+        "Diagnose(DiagnoseRequest { explain: true, warn: false, brief: true })",
+    ),
+    (
+        "a search that says no more at a terminal than elsewhere",
+        &["lotosseq", "search", "--brief", "--length=1"],
+        "Search(SearchRequest { extent: Length(1), limit: None, terms: 100000, after: None, runs: Omitted, interface: Whole, strong: false, known: false, progress: false, brief: true, words: [] })",
+    ),
+    (
+        "a question that says no more at a terminal than elsewhere",
+        &["lotosseq", "ever", "A", "--brief"],
+        "Ever(EverRequest { states: 1000000, runs: Omitted, interface: Whole, strong: false, progress: false, brief: true, words: [\"A\"] })",
+    ),
+    (
+        "a sequence of which no more is said at a terminal than elsewhere",
+        &["lotosseq", "after", "--brief", "--", "--brief"],
+        "After(AfterRequest { terms: 100000, interface: Whole, strong: false, progress: false, brief: true, words: [\"--brief\"] })",
+    ),
+    (
+        "a cover of which no more is said at a terminal than elsewhere",
+        &["lotosseq", "cover", "--brief"],
+        "Cover(CoverRequest { limit: None, after: None, terms: 100000, states: 1000000, interface: Whole, strong: false, progress: false, brief: true })",
+    ),
+    (
+        "an automaton of which no more is said at a terminal than elsewhere",
+        &["lotosseq", "graph", "--brief"],
+        "Graph(GraphRequest { terms: 100000, states: 1000000, interface: Whole, strong: false, progress: false, brief: true })",
+    ),
+    (
+        "a suite of which no more is said at a terminal than elsewhere",
+        &["lotosseq", "suite", "--brief"],
+        "Suite(SuiteRequest { extra: 0, limit: None, after: None, terms: 100000, states: 1000000, interface: Whole, strong: false, progress: false, brief: true })",
     ),
     (
         "a search with all that it may have but a run",
@@ -38,17 +78,17 @@ const REQUESTS: &[(&str, &[&str], &str)] = &[
             "-x",
             "A",
         ],
-        "Search(SearchRequest { extent: Depth(7), limit: Some(3), terms: 100000, after: Some(\"A : i A\"), runs: Omitted, interface: Whole, strong: true, known: true, progress: true, words: [\"-x\", \"A\"] })",
+        "Search(SearchRequest { extent: Depth(7), limit: Some(3), terms: 100000, after: Some(\"A : i A\"), runs: Omitted, interface: Whole, strong: true, known: true, progress: true, brief: false, words: [\"-x\", \"A\"] })",
     ),
     (
         "flags that are not given",
         &["lotosseq", "search", "--depth", "0", "--", "--known"],
-        "Search(SearchRequest { extent: Depth(0), limit: None, terms: 100000, after: None, runs: Omitted, interface: Whole, strong: false, known: false, progress: false, words: [\"--known\"] })",
+        "Search(SearchRequest { extent: Depth(0), limit: None, terms: 100000, after: None, runs: Omitted, interface: Whole, strong: false, known: false, progress: false, brief: false, words: [\"--known\"] })",
     ),
     (
         "runs",
         &["lotosseq", "search", "--explain", "--depth", "2", "A"],
-        "Search(SearchRequest { extent: Depth(2), limit: None, terms: 100000, after: None, runs: Labels, interface: Whole, strong: false, known: false, progress: false, words: [\"A\"] })",
+        "Search(SearchRequest { extent: Depth(2), limit: None, terms: 100000, after: None, runs: Labels, interface: Whole, strong: false, known: false, progress: false, brief: false, words: [\"A\"] })",
     ),
     (
         "runs that have what makes their internal steps",
@@ -60,47 +100,47 @@ const REQUESTS: &[(&str, &[&str], &str)] = &[
             "--explain",
             "--hidden",
         ],
-        "Search(SearchRequest { extent: Length(2), limit: None, terms: 100000, after: None, runs: Origins, interface: Whole, strong: false, known: false, progress: false, words: [\"A\"] })",
+        "Search(SearchRequest { extent: Length(2), limit: None, terms: 100000, after: None, runs: Origins, interface: Whole, strong: false, known: false, progress: false, brief: false, words: [\"A\"] })",
     ),
     (
         "a length in place of a depth",
         &["lotosseq", "search", "A", "--length", "255"],
-        "Search(SearchRequest { extent: Length(255), limit: None, terms: 100000, after: None, runs: Omitted, interface: Whole, strong: false, known: false, progress: false, words: [\"A\"] })",
+        "Search(SearchRequest { extent: Length(255), limit: None, terms: 100000, after: None, runs: Omitted, interface: Whole, strong: false, known: false, progress: false, brief: false, words: [\"A\"] })",
     ),
     (
         "a question with options among its words",
         &["lotosseq", "ever", "A", "--states", "7", "--explain", "B"],
-        "Ever(EverRequest { states: 7, runs: Labels, interface: Whole, strong: false, progress: false, words: [\"A\", \"B\"] })",
+        "Ever(EverRequest { states: 7, runs: Labels, interface: Whole, strong: false, progress: false, brief: false, words: [\"A\", \"B\"] })",
     ),
     (
         "a question that has what makes the internal steps",
         &["lotosseq", "ever", "--hidden", "A"],
-        "Ever(EverRequest { states: 1000000, runs: Origins, interface: Whole, strong: false, progress: false, words: [\"A\"] })",
+        "Ever(EverRequest { states: 1000000, runs: Origins, interface: Whole, strong: false, progress: false, brief: false, words: [\"A\"] })",
     ),
     (
         "a question with both options about the run",
         &["lotosseq", "ever", "--hidden", "--explain", "A"],
-        "Ever(EverRequest { states: 1000000, runs: Origins, interface: Whole, strong: false, progress: false, words: [\"A\"] })",
+        "Ever(EverRequest { states: 1000000, runs: Origins, interface: Whole, strong: false, progress: false, brief: false, words: [\"A\"] })",
     ),
     (
         "a question that tells how far it is",
         &["lotosseq", "ever", "--progress", "A"],
-        "Ever(EverRequest { states: 1000000, runs: Omitted, interface: Whole, strong: false, progress: true, words: [\"A\"] })",
+        "Ever(EverRequest { states: 1000000, runs: Omitted, interface: Whole, strong: false, progress: true, brief: false, words: [\"A\"] })",
     ),
     (
         "a question without words",
         &["lotosseq", "ever"],
-        "Ever(EverRequest { states: 1000000, runs: Omitted, interface: Whole, strong: false, progress: false, words: [] })",
+        "Ever(EverRequest { states: 1000000, runs: Omitted, interface: Whole, strong: false, progress: false, brief: false, words: [] })",
     ),
     (
         "a sequence without labels",
         &["lotosseq", "after"],
-        "After(AfterRequest { terms: 100000, interface: Whole, strong: false, progress: false, words: [] })",
+        "After(AfterRequest { terms: 100000, interface: Whole, strong: false, progress: false, brief: false, words: [] })",
     ),
     (
         "a sequence with options among its labels",
         &["lotosseq", "after", "put", "--strong", "i", "--terms", "1"],
-        "After(AfterRequest { terms: 1, interface: Whole, strong: true, progress: false, words: [\"put\", \"i\"] })",
+        "After(AfterRequest { terms: 1, interface: Whole, strong: true, progress: false, brief: false, words: [\"put\", \"i\"] })",
     ),
     (
         "a sequence with the greatest number of terms, that tells how far it is",
@@ -112,12 +152,12 @@ const REQUESTS: &[(&str, &[&str], &str)] = &[
             "--",
             "A",
         ],
-        "After(AfterRequest { terms: 1000000, interface: Whole, strong: false, progress: true, words: [\"A\"] })",
+        "After(AfterRequest { terms: 1000000, interface: Whole, strong: false, progress: true, brief: false, words: [\"A\"] })",
     ),
     (
         "a cover without options",
         &["lotosseq", "cover"],
-        "Cover(CoverRequest { limit: None, after: None, terms: 100000, states: 1000000, interface: Whole, strong: false, progress: false })",
+        "Cover(CoverRequest { limit: None, after: None, terms: 100000, states: 1000000, interface: Whole, strong: false, progress: false, brief: false })",
     ),
     (
         "a cover with all that it may have",
@@ -134,7 +174,7 @@ const REQUESTS: &[(&str, &[&str], &str)] = &[
             "--terms",
             "2",
         ],
-        "Cover(CoverRequest { limit: Some(1), after: Some(\"A B\"), terms: 2, states: 7, interface: Whole, strong: true, progress: true })",
+        "Cover(CoverRequest { limit: Some(1), after: Some(\"A B\"), terms: 2, states: 7, interface: Whole, strong: true, progress: true, brief: false })",
     ),
     (
         "a cover with the greatest numbers",
@@ -145,7 +185,71 @@ const REQUESTS: &[(&str, &[&str], &str)] = &[
             "--terms=1000000",
             "--states=100000000",
         ],
-        "Cover(CoverRequest { limit: Some(1000000000), after: None, terms: 1000000, states: 100000000, interface: Whole, strong: false, progress: false })",
+        "Cover(CoverRequest { limit: Some(1000000000), after: None, terms: 1000000, states: 100000000, interface: Whole, strong: false, progress: false, brief: false })",
+    ),
+    (
+        "an automaton without options",
+        &["lotosseq", "graph"],
+        "Graph(GraphRequest { terms: 100000, states: 1000000, interface: Whole, strong: false, progress: false, brief: false })",
+    ),
+    (
+        "an automaton with all that it may have",
+        &[
+            "lotosseq",
+            "graph",
+            "--states=+7",
+            "--progress",
+            "--only",
+            "A,b",
+            "--strong",
+            "--terms",
+            "2",
+        ],
+        "Graph(GraphRequest { terms: 2, states: 7, interface: Only(\"A,b\"), strong: true, progress: true, brief: false })",
+    ),
+    (
+        "a suite without options",
+        &["lotosseq", "suite"],
+        "Suite(SuiteRequest { extra: 0, limit: None, after: None, terms: 100000, states: 1000000, interface: Whole, strong: false, progress: false, brief: false })",
+    ),
+    (
+        "a suite with all that it may have",
+        &[
+            "lotosseq",
+            "suite",
+            "--after=- A b",
+            "--states=+7",
+            "--progress",
+            "--extra",
+            "3",
+            "--hide",
+            "A,b",
+            "--strong",
+            "--limit=4",
+            "--terms",
+            "2",
+        ],
+        "Suite(SuiteRequest { extra: 3, limit: Some(4), after: Some(\"- A b\"), terms: 2, states: 7, interface: Hide(\"A,b\"), strong: true, progress: true, brief: false })",
+    ),
+    (
+        "a comparison without options",
+        &["lotosseq", "compare"],
+        "Compare(CompareRequest { within: false, terms: 100000, states: 1000000, interface: Whole, strong: false, progress: false, brief: false })",
+    ),
+    (
+        "a comparison with all that it may have",
+        &[
+            "lotosseq",
+            "compare",
+            "--states=8",
+            "--within",
+            "--hide=a,B",
+            "--progress",
+            "--strong",
+            "--terms=+3",
+            "--brief",
+        ],
+        "Compare(CompareRequest { within: true, terms: 3, states: 8, interface: Hide(\"a,B\"), strong: true, progress: true, brief: true })",
     ),
 ];
 
@@ -292,12 +396,78 @@ const COVERS: &[(&[&str], &str)] = &[
     (&["lotosseq", "cover", "--after=A", "--after=A"], "wrong"),
     (&["lotosseq", "cover", "--strong", "--strong"], "wrong"),
     (&["lotosseq", "cover", "--progress", "--progress"], "wrong"),
+    (&["lotosseq", "cover", "--brief", "--brief"], "wrong"),
+    (&["lotosseq", "cover", "--brief=true"], "wrong"),
     (&["lotosseq", "cover", "--after"], "wrong"),
     (&["lotosseq", "cover", "--explain"], "wrong"),
     (&["lotosseq", "cover", "--hidden"], "wrong"),
     (&["lotosseq", "cover", "--known"], "wrong"),
     (&["lotosseq", "cover", "--depth", "3"], "wrong"),
     (&["lotosseq", "cover", "--length", "3"], "wrong"),
+];
+
+/// Words of `graph`, and whether they ask for help, or fit no command.
+const GRAPHS: &[(&[&str], &str)] = &[
+    (&["lotosseq", "graph", "--help"], "help"),
+    (&["lotosseq", "help", "graph"], "help"),
+    (&["lotosseq", "graph", "--strong", "-h"], "help"),
+    (&["lotosseq", "graph", "-V"], "wrong"),
+    (&["lotosseq", "graph", "A"], "wrong"),
+    (&["lotosseq", "graph", "--", "--strong"], "wrong"),
+    (&["lotosseq", "graph", "--terms", "0"], "wrong"),
+    (&["lotosseq", "graph", "--terms", "1000001"], "wrong"),
+    (&["lotosseq", "graph", "--states", "0"], "wrong"),
+    (&["lotosseq", "graph", "--states", "100000001"], "wrong"),
+    (&["lotosseq", "graph", "--terms=1", "--terms=1"], "wrong"),
+    (&["lotosseq", "graph", "--strong", "--strong"], "wrong"),
+    (&["lotosseq", "graph", "--limit", "3"], "wrong"),
+    (&["lotosseq", "graph", "--after", "A"], "wrong"),
+    (&["lotosseq", "graph", "--explain"], "wrong"),
+    (&["lotosseq", "graph", "--known"], "wrong"),
+    (&["lotosseq", "graph", "--length", "3"], "wrong"),
+];
+
+/// Words of `suite`, and whether they ask for help, or fit no command.
+const SUITES: &[(&[&str], &str)] = &[
+    (&["lotosseq", "suite", "--help"], "help"),
+    (&["lotosseq", "help", "suite"], "help"),
+    (&["lotosseq", "suite", "--extra=1", "-h"], "help"),
+    (&["lotosseq", "suite", "-V"], "wrong"),
+    (&["lotosseq", "suite", "A"], "wrong"),
+    (&["lotosseq", "suite", "--", "--strong"], "wrong"),
+    (&["lotosseq", "suite", "--extra", "4"], "wrong"),
+    (&["lotosseq", "suite", "--extra=1", "--extra=1"], "wrong"),
+    (&["lotosseq", "suite", "--limit", "0"], "wrong"),
+    (&["lotosseq", "suite", "--terms", "0"], "wrong"),
+    (&["lotosseq", "suite", "--states", "100000001"], "wrong"),
+    (&["lotosseq", "suite", "--after", "- A"], "wrong"),
+    (&["lotosseq", "suite", "--explain"], "wrong"),
+    (&["lotosseq", "suite", "--known"], "wrong"),
+    (&["lotosseq", "suite", "--length", "3"], "wrong"),
+    (&["lotosseq", "cover", "--extra", "1"], "wrong"),
+];
+
+/// Words of `compare`, and whether they ask for help, or fit no command.
+const COMPARISONS: &[(&[&str], &str)] = &[
+    (&["lotosseq", "compare", "--help"], "help"),
+    (&["lotosseq", "help", "compare"], "help"),
+    (&["lotosseq", "compare", "--within", "-h"], "help"),
+    (&["lotosseq", "compare", "-V"], "wrong"),
+    (&["lotosseq", "compare", "A"], "wrong"),
+    (&["lotosseq", "compare", "--", "--within"], "wrong"),
+    (&["lotosseq", "compare", "--terms", "0"], "wrong"),
+    (&["lotosseq", "compare", "--terms", "1000001"], "wrong"),
+    (&["lotosseq", "compare", "--states", "0"], "wrong"),
+    (&["lotosseq", "compare", "--states", "100000001"], "wrong"),
+    (
+        &["lotosseq", "compare", "--states=1", "--states=1"],
+        "wrong",
+    ),
+    (&["lotosseq", "compare", "--within", "--within"], "wrong"),
+    (&["lotosseq", "compare", "--within=true"], "wrong"),
+    (&["lotosseq", "compare", "--limit", "3"], "wrong"),
+    (&["lotosseq", "compare", "--known"], "wrong"),
+    (&["lotosseq", "graph", "--within"], "wrong"),
 ];
 
 /// Words, and whether they ask for help or for the version, or fit no command.
@@ -370,6 +540,33 @@ fn distinguishes_help_from_faults_of_after(rt: HostRuntime) -> Result<(), Fail> 
 #[test]
 fn distinguishes_help_from_faults_of_cover(rt: HostRuntime) -> Result<(), Fail> {
     for (words, expected) in COVERS {
+        let found = answer(rt.alloc(), words)?;
+        assert_eq!(rt; found.as_str(), *expected, "{:?}", words);
+    }
+    Ok(())
+}
+
+#[test]
+fn distinguishes_help_from_faults_of_compare(rt: HostRuntime) -> Result<(), Fail> {
+    for (words, expected) in COMPARISONS {
+        let found = answer(rt.alloc(), words)?;
+        assert_eq!(rt; found.as_str(), *expected, "{:?}", words);
+    }
+    Ok(())
+}
+
+#[test]
+fn distinguishes_help_from_faults_of_graph(rt: HostRuntime) -> Result<(), Fail> {
+    for (words, expected) in GRAPHS {
+        let found = answer(rt.alloc(), words)?;
+        assert_eq!(rt; found.as_str(), *expected, "{:?}", words);
+    }
+    Ok(())
+}
+
+#[test]
+fn distinguishes_help_from_faults_of_suite(rt: HostRuntime) -> Result<(), Fail> {
+    for (words, expected) in SUITES {
         let found = answer(rt.alloc(), words)?;
         assert_eq!(rt; found.as_str(), *expected, "{:?}", words);
     }

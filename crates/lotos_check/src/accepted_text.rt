@@ -1,18 +1,17 @@
 //! The way from a text to a checked specification.
 ghost use Rattle.std.specs.Prelude.{◌≡◌, ◌≤◌, IfErr, IfOk, IfSome, length};
-ghost use Rattle.lotos_text.specs.AstOf.{definition_view};
-ghost use Rattle.lotos_text.specs.OffsetsInside.{IsFaultInside};
-ghost use Rattle.lotos_text.specs.Spelled.{Spelled};
-ghost use Rattle.lotos_text.specs.TextFaults.{IsFaultOfText, SpellsNoSpecification};
-ghost use Rattle.lotos_check.specs.AcceptedText.{Accepted, IsParsed, IsRejectedFor, IsStaticFaultOf, accept_offset, is_memory_fault};
+ghost use Rattle.lotos_text.specs.AstOf.{definition_view, specifications_view};
+ghost use Rattle.lotos_text.specs.Spelled.{Spelled, SpelledPair};
+ghost use Rattle.lotos_check.specs.AcceptedText.{Accepted, AcceptedPair, AreAccepted, ArePairParsed, IsParsed, IsRejectedFor};
+ghost use Rattle.lotos_check.specs.AcceptedText.{IsRejectedForPair, accept_offset, for_check_fault, for_text_fault};
+ghost use Rattle.lotos_check.specs.AcceptedText.{is_memory_fault};
 ghost use Rattle.lotos_check.specs.Acceptance.{AreRanks, IsAccepted};
 ghost use Rattle.lotos_check.specs.CheckedView.{ranks_of, system_of};
-ghost use Rattle.lotos_check.specs.FaultOffsets.{IsOffsetWithin};
 
 use crate::checked::Checked;
 use crate::fault::CheckFault;
 use crate::static_check::check;
-use lotos_text::{Specification, TextFault, parse};
+use lotos_text::{Specification, TextFault, parse, parse_pair};
 use std::alloc::Global;
 use thiserror::Error;
 
@@ -88,7 +87,7 @@ pub fn parse_text(alloc: Global, text: &[u8]) -> Result<Specification, AcceptFau
 {
     match parse(alloc, text) {
         Ok(specification) => Ok(specification),
-        Err(fault) => Err(text_rejection(text, fault)),
+        Err(fault) => Err(text_rejection(fault)),
     }
 }
 
@@ -112,17 +111,70 @@ pub fn check_parsed(
 {
     match check(alloc, specification) {
         Ok(system) => Ok(system),
-        Err(fault) => Err(check_rejection(text, fault)),
+        Err(fault) => Err(check_rejection(fault)),
     }
 }
 
-/// The fault of the text, for a fault of its parse.
-fn text_rejection(text: &[u8], fault: TextFault) -> AcceptFault
-    requires refused { IsFaultOfText text.now fault }
-    requires nothing { SpellsNoSpecification text.now fault }
-    requires inside { IsFaultInside (length text.now) fault }
-    ensures rejected { IsRejectedFor text.now result }
-    ensures inside { IfSome (accept_offset result) (λ at. at ≤ length text.now) }
+/// Parses a text and checks the two specifications that it spells, one after the other: first the first.
+///
+/// # Errors
+///
+/// The fault of [`parse_pair`], else that of [`check`] for the first specification, else for the second one;
+/// [`AcceptFault::Memory`] if an allocation fails.
+pub fn accept_pair(alloc: Global, text: &[u8]) -> Result<(AcceptedText, AcceptedText), AcceptFault>
+    ensures spelled { IfOk result (λ found.
+        SpelledPair text.now (specifications_view (found.0.specification, found.1.specification))) }
+    ensures checked { IfOk result (λ found.
+        AreAccepted (specifications_view (found.0.specification, found.1.specification))
+        (system_of found.0.system, system_of found.1.system)) }
+    ensures accepted { IfOk result (λ found.
+        AcceptedPair text.now (system_of found.0.system, system_of found.1.system)) }
+    ensures first_ranks { IfOk result (λ found.
+        AreRanks (system_of found.0.system).processes (ranks_of found.0.system)) }
+    ensures second_ranks { IfOk result (λ found.
+        AreRanks (system_of found.1.system).processes (ranks_of found.1.system)) }
+    ensures rejected { IfErr result (IsRejectedForPair text.now) }
+    ensures inside { IfErr result (λ fault. IfSome (accept_offset fault) (λ at. at ≤ length text.now)) }
+{
+    let (first, second) = parse_pair_text(alloc, text)?;
+    let first_system = match check(alloc, &first) {
+        Ok(system) => system,
+        Err(fault) => return Err(check_rejection(fault)),
+    };
+    let second_system = match check(alloc, &second) {
+        Ok(system) => system,
+        Err(fault) => return Err(check_rejection(fault)),
+    };
+    Ok((
+        AcceptedText {
+            specification: first,
+            system: first_system,
+        },
+        AcceptedText {
+            specification: second,
+            system: second_system,
+        },
+    ))
+}
+
+/// The ASTs of the two specifications that a text spells.
+fn parse_pair_text(
+    alloc: Global,
+    text: &[u8],
+) -> Result<(Specification, Specification), AcceptFault>
+    ensures parsed { IfOk result (λ found. ArePairParsed text.now (specifications_view found)) }
+    ensures rejected { IfErr result (IsRejectedForPair text.now) }
+    ensures inside { IfErr result (λ fault. IfSome (accept_offset fault) (λ at. at ≤ length text.now)) }
+{
+    match parse_pair(alloc, text) {
+        Ok(specifications) => Ok(specifications),
+        Err(fault) => Err(text_rejection(fault)),
+    }
+}
+
+/// The fault of a text, for a fault of its parse.
+fn text_rejection(fault: TextFault) -> AcceptFault
+    ensures { result ≡ for_text_fault fault }
 {
     if is_memory_fault(&fault) {
         return AcceptFault::Memory;
@@ -136,12 +188,9 @@ fn is_memory_fault(fault: &TextFault) -> bool
     matches!(fault, TextFault::E99(_))
 }
 
-/// The fault of the text, for a fault of its static check.
-fn check_rejection(text: &[u8], fault: CheckFault) -> AcceptFault
-    requires broken { IsStaticFaultOf text.now fault }
-    requires inside { IsOffsetWithin (length text.now) fault }
-    ensures rejected { IsRejectedFor text.now result }
-    ensures inside { IfSome (accept_offset result) (λ at. at ≤ length text.now) }
+/// The fault of a text, for a fault of its static check.
+fn check_rejection(fault: CheckFault) -> AcceptFault
+    ensures { result ≡ for_check_fault fault }
 {
     if fault.at().is_none() {
         return AcceptFault::Memory;

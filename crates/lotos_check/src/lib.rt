@@ -2,6 +2,7 @@
 //!
 //! Basic LOTOS is the part of ISO 8807:1989 without data types. [`accept`] takes a text, parses it and checks it, and
 //! returns the AST beside the [`Checked`] specification; [`parse_text`] and [`check_parsed`] are its two halves.
+//! [`accept_pair`] takes a text of two specifications.
 //!
 //! [`check`] takes the AST of a specification that `lotos_text` parsed. It returns a [`Checked`] specification, with its
 //! processes numbered and its calls by number, or the first [`CheckFault`]: a name that is declared twice; a name that is
@@ -29,7 +30,7 @@ mod resolved;
 mod resolved_body;
 mod static_check;
 
-pub use accepted_text::{AcceptFault, AcceptedText, accept, check_parsed, parse_text};
+pub use accepted_text::{AcceptFault, AcceptedText, accept, accept_pair, check_parsed, parse_text};
 pub use checked::Checked;
 pub use definition_order::add_definitions;
 pub use fault::CheckFault;

@@ -5,7 +5,7 @@ use Rattle.clap.specs.declared.error.kind.ErrorKind.TheVariants.{DisplayVersion,
 use Rattle.clap.proofs.OnLiterals.{clap_on_literals}
 use Rattle.lotos_command.specs.CommandFaults.{MakeNoRequest}
 use Rattle.lotos_command.specs.CommandRules.{lotosseq}
-use Rattle.lotos_command.specs.Request.{RequestOf, after, check, cover, diagnose, ever, hide, only, search, whole}
+use Rattle.lotos_command.specs.Request.{RequestOf, after, check, cover, diagnose, ever, hide, only, search, suite, whole}
 use Rattle.lotos_command.specs.declared.command.Extent.TheVariants.{Depth, Length}
 use Rattle.lotos_command.specs.declared.command.Runs.TheVariants.{Labels, Omitted, Origins}
 
@@ -36,6 +36,7 @@ row_asks : RequestOf row (search (record {
   strong = false;
   known = false;
   progress = false;
+  brief = false;
   words = codes "A" ∷ codes "exit" ∷ [];
 }))
 unfolding clap_on_literals
@@ -55,6 +56,7 @@ hyphen_asks : RequestOf hyphen_row (search (record {
   strong = false;
   known = false;
   progress = false;
+  brief = false;
   words = codes "-x" ∷ [];
 }))
 unfolding clap_on_literals
@@ -76,6 +78,7 @@ full_asks : RequestOf full_row (search (record {
   strong = true;
   known = true;
   progress = true;
+  brief = false;
   words = codes "<until>" ∷ codes "B" ∷ [];
 }))
 unfolding clap_on_literals
@@ -95,6 +98,7 @@ length_asks : RequestOf length_row (search (record {
   strong = false;
   known = false;
   progress = false;
+  brief = false;
   words = [];
 }))
 unfolding clap_on_literals
@@ -125,6 +129,7 @@ seen_asks : RequestOf seen_row (search (record {
   strong = false;
   known = false;
   progress = false;
+  brief = false;
   words = codes "A" ∷ [];
 }))
 unfolding clap_on_literals
@@ -141,14 +146,19 @@ unfolding clap_on_literals
 check_row_asks = record { faultless = refl; reads = refl }
 
 -- `check --warn` makes the check that warns and does not explain
-warn_row_asks : RequestOf (codes "lotosseq" ∷ codes "check" ∷ codes "--warn" ∷ []) (diagnose (record { explain = false; warn = true }))
+warn_row_asks : RequestOf (codes "lotosseq" ∷ codes "check" ∷ codes "--warn" ∷ []) (diagnose (record { explain = false; warn = true; brief = false }))
 unfolding clap_on_literals
 warn_row_asks = record { faultless = refl; reads = refl }
 
 -- `check --explain` makes the check that explains and does not warn
-explain_row_asks : RequestOf (codes "lotosseq" ∷ codes "check" ∷ codes "--explain" ∷ []) (diagnose (record { explain = true; warn = false }))
+explain_row_asks : RequestOf (codes "lotosseq" ∷ codes "check" ∷ codes "--explain" ∷ []) (diagnose (record { explain = true; warn = false; brief = false }))
 unfolding clap_on_literals
 explain_row_asks = record { faultless = refl; reads = refl }
+
+-- `check --brief` makes the check that says no more at a terminal than elsewhere
+brief_row_asks : RequestOf (codes "lotosseq" ∷ codes "check" ∷ codes "--brief" ∷ []) (diagnose (record { explain = false; warn = false; brief = true }))
+unfolding clap_on_literals
+brief_row_asks = record { faultless = refl; reads = refl }
 
 -- `--version` asks for the version
 version_shown : fault_of lotosseq (codes "lotosseq" ∷ codes "--version" ∷ []) ≡ DisplayVersion ∷ []
@@ -197,14 +207,14 @@ too_many_terms = refl
 
 -- `ever` makes the search for a match with at most 1,000,000 states and without words
 bare_ever_asks : RequestOf (codes "lotosseq" ∷ codes "ever" ∷ [])
-    (ever (record { states = 1000000; runs = Omitted; interface = whole; strong = false; progress = false; words = [] }))
+    (ever (record { states = 1000000; runs = Omitted; interface = whole; strong = false; progress = false; brief = false; words = [] }))
 unfolding clap_on_literals
 bare_ever_asks = record { faultless = refl; reads = refl }
 
 abbrev ever_row : List Text
 ever_row =
     codes "lotosseq" ∷ codes "ever" ∷ codes "--strong" ∷ codes "A" ∷ codes "--states=100000000" ∷ codes "--explain" ∷ codes "--progress"
-    ∷ codes "<deadlock>" ∷ []
+    ∷ codes "<deadlock>" ∷ codes "--brief" ∷ []
 
 -- `ever_row` makes the search for a match of `A <deadlock>` with the values of its options
 ever_asks : RequestOf ever_row (ever (record {
@@ -213,6 +223,7 @@ ever_asks : RequestOf ever_row (ever (record {
   interface = whole;
   strong = true;
   progress = true;
+  brief = true;
   words = codes "A" ∷ codes "<deadlock>" ∷ [];
 }))
 unfolding clap_on_literals
@@ -220,13 +231,21 @@ ever_asks = record { faultless = refl; reads = refl }
 
 -- `ever --explain A --hidden` makes the search for a match of `A` that writes the origins of internal steps
 hidden_ever_asks : RequestOf (codes "lotosseq" ∷ codes "ever" ∷ codes "--explain" ∷ codes "A" ∷ codes "--hidden" ∷ [])
-    (ever (record { states = 1000000; runs = Origins; interface = whole; strong = false; progress = false; words = codes "A" ∷ [] }))
+    (ever (record { states = 1000000; runs = Origins; interface = whole; strong = false; progress = false; brief = false; words = codes "A" ∷ [] }))
 unfolding clap_on_literals
 hidden_ever_asks = record { faultless = refl; reads = refl }
 
 -- `ever --only=A,C "A C"` makes the search for a match of `A C` that hides all gates but `A,C`
 ever_of_gates_asks : RequestOf (codes "lotosseq" ∷ codes "ever" ∷ codes "--only=A,C" ∷ codes "A C" ∷ [])
-    (ever (record { states = 1000000; runs = Omitted; interface = only (codes "A,C"); strong = false; progress = false; words = codes "A" ∷ codes "C" ∷ [] }))
+    (ever (record {
+      states = 1000000;
+      runs = Omitted;
+      interface = only (codes "A,C");
+      strong = false;
+      progress = false;
+      brief = false;
+      words = codes "A" ∷ codes "C" ∷ [];
+    }))
 unfolding clap_on_literals
 ever_of_gates_asks = record { faultless = refl; reads = refl }
 
@@ -262,13 +281,13 @@ ever_has_no_known = refl
 
 -- `after` makes the request for what can come after the empty sequence, with at most 100,000 terms
 bare_after_asks : RequestOf (codes "lotosseq" ∷ codes "after" ∷ [])
-    (after (record { terms = 100000; interface = whole; strong = false; progress = false; words = [] }))
+    (after (record { terms = 100000; interface = whole; strong = false; progress = false; brief = false; words = [] }))
 unfolding clap_on_literals
 bare_after_asks = record { faultless = refl; reads = refl }
 
 -- `after "PUT GET" --strong i --terms=1 --progress` makes the request with these values for `PUT GET i`
 after_asks : RequestOf (codes "lotosseq" ∷ codes "after" ∷ codes "PUT GET" ∷ codes "--strong" ∷ codes "i" ∷ codes "--terms=1" ∷ codes "--progress" ∷ [])
-    (after (record { terms = 1; interface = whole; strong = true; progress = true; words = codes "PUT" ∷ codes "GET" ∷ codes "i" ∷ [] }))
+    (after (record { terms = 1; interface = whole; strong = true; progress = true; brief = false; words = codes "PUT" ∷ codes "GET" ∷ codes "i" ∷ [] }))
 unfolding clap_on_literals
 after_asks = record { faultless = refl; reads = refl }
 
@@ -284,7 +303,7 @@ after_needs_a_term = refl
 
 -- `cover` makes the request for a cover with at most 100,000 terms and 1,000,000 states
 bare_cover_asks : RequestOf (codes "lotosseq" ∷ codes "cover" ∷ [])
-    (cover (record { limit = None; after = None; terms = 100000; states = 1000000; interface = whole; strong = false; progress = false }))
+    (cover (record { limit = None; after = None; terms = 100000; states = 1000000; interface = whole; strong = false; progress = false; brief = false }))
 unfolding clap_on_literals
 bare_cover_asks = record { faultless = refl; reads = refl }
 
@@ -302,6 +321,7 @@ cover_asks : RequestOf cover_row (cover (record {
   interface = whole;
   strong = true;
   progress = true;
+  brief = false;
 }))
 unfolding clap_on_literals
 cover_asks = record { faultless = refl; reads = refl }
@@ -315,3 +335,48 @@ cover_takes_no_word = refl
 cover_needs_a_set : fault_of lotosseq (codes "lotosseq" ∷ codes "cover" ∷ codes "--states=0" ∷ []) ≡ ValueValidation ∷ []
 unfolding clap_on_literals
 cover_needs_a_set = refl
+
+-- `suite` makes the request for a suite for implementations without extra states
+bare_suite_asks : RequestOf (codes "lotosseq" ∷ codes "suite" ∷ []) (suite (record {
+  extra = 0;
+  limit = None;
+  after = None;
+  terms = 100000;
+  states = 1000000;
+  interface = whole;
+  strong = false;
+  progress = false;
+  brief = false;
+}))
+unfolding clap_on_literals
+bare_suite_asks = record { faultless = refl; reads = refl }
+
+abbrev suite_row : List Text
+suite_row =
+    codes "lotosseq" ∷ codes "suite" ∷ codes "--after=- A B" ∷ codes "--limit=4" ∷ codes "--strong" ∷ codes "--extra" ∷ codes "3"
+    ∷ codes "--brief" ∷ codes "--states=5" ∷ codes "--hide" ∷ codes "C" ∷ []
+
+-- `suite_row` makes the request for a suite with the values of its options
+suite_asks : RequestOf suite_row (suite (record {
+  extra = 3;
+  limit = Some 4;
+  after = Some (codes "- A B");
+  terms = 100000;
+  states = 5;
+  interface = hide (codes "C");
+  strong = true;
+  progress = false;
+  brief = true;
+}))
+unfolding clap_on_literals
+suite_asks = record { faultless = refl; reads = refl }
+
+-- 4 is no valid value of `suite --extra`
+too_many_extra_states : fault_of lotosseq (codes "lotosseq" ∷ codes "suite" ∷ codes "--extra=4" ∷ []) ≡ ValueValidation ∷ []
+unfolding clap_on_literals
+too_many_extra_states = refl
+
+-- a line that begins with `-` is no word of `suite --after`
+sign_is_a_flag : fault_of lotosseq (codes "lotosseq" ∷ codes "suite" ∷ codes "--after" ∷ codes "- A" ∷ []) ≡ UnknownArgument ∷ []
+unfolding clap_on_literals
+sign_is_a_flag = refl

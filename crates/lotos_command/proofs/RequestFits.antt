@@ -1,4 +1,4 @@
--- Words without a fault name `search`, `check`, `ever`, `after` or `cover`, with entries that can be read.
+-- Words without a fault name one of the subcommands, with entries that can be read.
 use Rattle.std.proofs.Common.{◌≡◌, ◌∙◌, ◌≤◌, ◌||◌, ◌==◌, ℕ, Bool, cond, true, false, refl, sym, ap, subst, arith, List, [], ◌∷◌, ◌++◌, get_or, Option, Some, None, codes, drop, find, is_some, inl, inr, map}
 use Rattle.std.specs.Prelude.{IfSome, slice_get, pos, unwrap_or}
 use Rattle.std.specs.Option.{option_map, option_map_or, option_and_then}
@@ -146,8 +146,17 @@ after_shape = nth 3
 abbrev cover_shape : Shape
 cover_shape = nth 4
 
+abbrev graph_shape : Shape
+graph_shape = nth 5
+
+abbrev suite_shape : Shape
+suite_shape = nth 6
+
+abbrev compare_shape : Shape
+compare_shape = nth 7
+
 abbrev help_shape : Shape
-help_shape = nth 5
+help_shape = nth 8
 
 -- arguments that are each the first with their id, and do not count their uses, are ordinary
 each_ordinary : (rules more : List Rule) → map (λ a. arg_by_id rules a.id) more ≡ map Some more
@@ -165,7 +174,7 @@ top_is_ordinary = each_ordinary whole.top.rules whole.top.rules refl refl
 -- ---- the arguments of all subcommands together
 
 abbrev all_rules : List Rule
-all_rules = search_shape.rules ++ (ever_shape.rules ++ check_shape.rules)
+all_rules = search_shape.rules ++ (ever_shape.rules ++ (check_shape.rules ++ (suite_shape.rules ++ compare_shape.rules)))
 
 -- each argument is the one that has its id among those of all subcommands
 abbrev AreShared : List Rule → Type 0
@@ -232,12 +241,15 @@ module _ (rows : List Row) (all : Each (IsReady all_rules) rows) where
     limit = number_fits (codes "limit") 1 1000000000 _ refl refl;
     terms = number_fits (codes "terms") 1 1000000 _ refl refl;
     states = number_fits (codes "states") 1 100000000 _ refl refl;
+    extra = number_fits (codes "extra") 0 3 _ refl refl;
     explain = flag_fits (codes "explain") _ refl refl;
     hidden = flag_fits (codes "hidden") _ refl refl;
     strong = flag_fits (codes "strong") _ refl refl;
     known = flag_fits (codes "known") _ refl refl;
     progress = flag_fits (codes "progress") _ refl refl;
     warn = flag_fits (codes "warn") _ refl refl;
+    within = flag_fits (codes "within") _ refl refl;
+    brief = flag_fits (codes "brief") _ refl refl;
   }
 
 -- a subcommand with ordinary and shared arguments, entered without a fault, has entries that can be read
@@ -248,14 +260,18 @@ subcommand_fits s words own once shared e =
     let left = level_leaves s [] (each_ordinary s.rules s.rules own once) words false [] e in
     entries_fit _ (shared_ready s.rules _ shared left.ready)
 
--- the subcommand that a word names, given whether it is `search`, `check`, `ever`, `after`, `cover` or `help`
-abbrev named : Bool → Bool → Bool → Bool → Bool → Bool → Option Shape
-named is_search is_check is_ever is_after is_cover is_help =
+-- the subcommand that a word names, given whether it is `search`, `check`, `ever`, `after`, `cover`, `graph`, `suite`,
+-- `compare` or `help`
+abbrev named : Bool → Bool → Bool → Bool → Bool → Bool → Bool → Bool → Bool → Option Shape
+named is_search is_check is_ever is_after is_cover is_graph is_suite is_compare is_help =
     cond (is_search || false) (Some search_shape)
     (cond (is_check || false) (Some check_shape)
     (cond (is_ever || false) (Some ever_shape)
     (cond (is_after || false) (Some after_shape)
-    (cond (is_cover || false) (Some cover_shape) (cond (is_help || false) (Some help_shape) None)))))
+    (cond (is_cover || false) (Some cover_shape)
+    (cond (is_graph || false) (Some graph_shape)
+    (cond (is_suite || false) (Some suite_shape)
+    (cond (is_compare || false) (Some compare_shape) (cond (is_help || false) (Some help_shape) None))))))))
 
 -- if the words stop at no `help`, and neither the subcommand nor the last checks have a fault, a subcommand was given
 -- and its entries can be read
@@ -264,22 +280,37 @@ stop_fits : (rows : List Row) (stop : Option (Text × List Text)) → StopsWell 
 stop_fits rows None well below check = absurd (not_empty _ _ check)
 stop_fits rows (Some p) well below check =
     go (bytes_eq (codes "search") p.0) (bytes_eq (codes "check") p.0) (bytes_eq (codes "ever") p.0) (bytes_eq (codes "after") p.0)
-    (bytes_eq (codes "cover") p.0) (bytes_eq (codes "help") p.0) refl below check
+    (bytes_eq (codes "cover") p.0) (bytes_eq (codes "graph") p.0) (bytes_eq (codes "suite") p.0)
+    (bytes_eq (codes "compare") p.0) (bytes_eq (codes "help") p.0) refl below check
   where
-    go : (is_search is_check is_ever is_after is_cover is_help : Bool) → bytes_eq (codes "help") p.0 ≡ is_help
-        → option_map_or (λ s. level_fault s [] nothing_held p.1 false []) (named is_search is_check is_ever is_after is_cover is_help) [] ≡ []
-        → check_fault whole.top rows (is_some (option_map (λ s. rows_at s p.1) (named is_search is_check is_ever is_after is_cover is_help))) ≡ []
-        → FitsRequest (option_map (λ s. rows_at s p.1) (named is_search is_check is_ever is_after is_cover is_help))
-    go true is_check is_ever is_after is_cover is_help e under check = (inl refl, subcommand_fits search_shape p.1 refl refl refl under)
-    go false true is_ever is_after is_cover is_help e under check = (inr (inl refl), subcommand_fits check_shape p.1 refl refl refl under)
-    go false false true is_after is_cover is_help e under check = (inr (inr (inl refl)), subcommand_fits ever_shape p.1 refl refl refl under)
-    go false false false true is_cover is_help e under check = (inr (inr (inr (inl refl))), subcommand_fits after_shape p.1 refl refl refl under)
-    go false false false false true is_help e under check = (inr (inr (inr (inr refl))), subcommand_fits cover_shape p.1 refl refl refl under)
-    go false false false false false true e under check =
+    go : (is_search is_check is_ever is_after is_cover is_graph is_suite is_compare is_help : Bool) → bytes_eq (codes "help") p.0 ≡ is_help
+        → option_map_or (λ s. level_fault s [] nothing_held p.1 false [])
+        (named is_search is_check is_ever is_after is_cover is_graph is_suite is_compare is_help) [] ≡ []
+        → check_fault whole.top rows
+        (is_some (option_map (λ s. rows_at s p.1)
+        (named is_search is_check is_ever is_after is_cover is_graph is_suite is_compare is_help))) ≡ []
+        → FitsRequest (option_map (λ s. rows_at s p.1) (named is_search is_check is_ever is_after is_cover is_graph is_suite is_compare is_help))
+    go true is_check is_ever is_after is_cover is_graph is_suite is_compare is_help e under check =
+        (inl refl, subcommand_fits search_shape p.1 refl refl refl under)
+    go false true is_ever is_after is_cover is_graph is_suite is_compare is_help e under check =
+        (inr (inl refl), subcommand_fits check_shape p.1 refl refl refl under)
+    go false false true is_after is_cover is_graph is_suite is_compare is_help e under check =
+        (inr (inr (inl refl)), subcommand_fits ever_shape p.1 refl refl refl under)
+    go false false false true is_cover is_graph is_suite is_compare is_help e under check =
+        (inr (inr (inr (inl refl))), subcommand_fits after_shape p.1 refl refl refl under)
+    go false false false false true is_graph is_suite is_compare is_help e under check =
+        (inr (inr (inr (inr (inl refl)))), subcommand_fits cover_shape p.1 refl refl refl under)
+    go false false false false false true is_suite is_compare is_help e under check =
+        (inr (inr (inr (inr (inr (inl refl))))), subcommand_fits graph_shape p.1 refl refl refl under)
+    go false false false false false false true is_compare is_help e under check =
+        (inr (inr (inr (inr (inr (inr (inl refl)))))), subcommand_fits suite_shape p.1 refl refl refl under)
+    go false false false false false false false true is_help e under check =
+        (inr (inr (inr (inr (inr (inr (inr refl)))))), subcommand_fits compare_shape p.1 refl refl refl under)
+    go false false false false false false false false true e under check =
         let name : codes "help" ≡ p.0 = (bytes_eq-Decides (codes "help") p.0).0 e in
         let bad : true ≡ false = subst (AsksNoHelp whole.top (names_of whole) top_is_ordinary) (sym name) well in
         cc
-    go false false false false false false e under check = absurd (not_empty _ _ check)
+    go false false false false false false false false false e under check = absurd (not_empty _ _ check)
 
 -- words without a fault give a subcommand, and its entries can be read
 pub request_fits : (words : List Text) → fault_of lotosseq words ≡ [] → FitsRequest (subcommand_of lotosseq words)

@@ -32,6 +32,13 @@ terms_rule = record (number_rule (codes "terms") 1000000) { defaults = codes "10
 abbrev pub states_rule : Rule
 states_rule = record (number_rule (codes "states") 100000000) { defaults = codes "1000000" ∷ [] }
 
+-- `--extra K`, with a number from 0 to 3; 0 if it is not given
+abbrev pub extra_rule : Rule
+extra_rule = record (option_rule (codes "extra")) {
+  parser = Some (Signed (pos 0) (pos 3));
+  defaults = codes "0" ∷ [];
+}
+
 -- `--NAME`, which takes no value
 abbrev pub flag_rule : Text → Rule
 flag_rule name = record (new_rule name) {
@@ -53,40 +60,63 @@ with_rules app [] = app
 with_rules app (rule ∷ rules) = with_rules (with_rule app rule) rules
 
 -- the arguments of `search [--depth N] [--length N] [--limit N] [--terms N] [--after LINE] [--explain] [--hidden]
--- [--hide GATES] [--only GATES] [--strong] [--known] [--progress] [WORD ..]`; just one of the depth and the length, and
--- at most one of `--hide` and `--only`, make a request
+-- [--hide GATES] [--only GATES] [--strong] [--known] [--progress] [--brief] [WORD ..]`; just one of the depth and the
+-- length, and at most one of `--hide` and `--only`, make a request
 abbrev pub search_rules : List Rule
 search_rules =
     extent_rule (codes "depth") ∷ extent_rule (codes "length") ∷ number_rule (codes "limit") 1000000000 ∷ terms_rule
     ∷ option_rule (codes "after") ∷ flag_rule (codes "explain") ∷ flag_rule (codes "hidden")
     ∷ option_rule (codes "hide") ∷ option_rule (codes "only") ∷ flag_rule (codes "strong") ∷ flag_rule (codes "known")
-    ∷ flag_rule (codes "progress") ∷ words_rule ∷ []
+    ∷ flag_rule (codes "progress") ∷ flag_rule (codes "brief") ∷ words_rule ∷ []
 
--- the arguments of `check [--explain] [--warn]`
+-- the arguments of `check [--explain] [--warn] [--brief]`
 abbrev pub check_rules : List Rule
-check_rules = flag_rule (codes "explain") ∷ flag_rule (codes "warn") ∷ []
+check_rules = flag_rule (codes "explain") ∷ flag_rule (codes "warn") ∷ flag_rule (codes "brief") ∷ []
 
 -- the arguments of `ever [--states N] [--explain] [--hidden] [--hide GATES] [--only GATES] [--strong] [--progress]
--- [WORD ..]`; at most one of `--hide` and `--only` makes a request
+-- [--brief] [WORD ..]`; at most one of `--hide` and `--only` makes a request
 abbrev pub ever_rules : List Rule
 ever_rules =
     states_rule ∷ flag_rule (codes "explain") ∷ flag_rule (codes "hidden") ∷ option_rule (codes "hide")
-    ∷ option_rule (codes "only") ∷ flag_rule (codes "strong") ∷ flag_rule (codes "progress") ∷ words_rule ∷ []
+    ∷ option_rule (codes "only") ∷ flag_rule (codes "strong") ∷ flag_rule (codes "progress") ∷ flag_rule (codes "brief")
+    ∷ words_rule ∷ []
 
--- the arguments of `after [--terms N] [--hide GATES] [--only GATES] [--strong] [--progress] [LABEL ..]`; at most one of
--- `--hide` and `--only` makes a request
+-- the arguments of `after [--terms N] [--hide GATES] [--only GATES] [--strong] [--progress] [--brief] [LABEL ..]`; at
+-- most one of `--hide` and `--only` makes a request
 abbrev pub after_rules : List Rule
 after_rules =
     terms_rule ∷ option_rule (codes "hide") ∷ option_rule (codes "only") ∷ flag_rule (codes "strong")
-    ∷ flag_rule (codes "progress") ∷ words_rule ∷ []
+    ∷ flag_rule (codes "progress") ∷ flag_rule (codes "brief") ∷ words_rule ∷ []
 
 -- the arguments of `cover [--limit N] [--terms N] [--states N] [--after LINE] [--hide GATES] [--only GATES] [--strong]
--- [--progress]`; at most one of `--hide` and `--only` makes a request
+-- [--progress] [--brief]`; at most one of `--hide` and `--only` makes a request
 abbrev pub cover_rules : List Rule
 cover_rules =
     number_rule (codes "limit") 1000000000 ∷ terms_rule ∷ states_rule ∷ option_rule (codes "after")
     ∷ option_rule (codes "hide") ∷ option_rule (codes "only") ∷ flag_rule (codes "strong")
-    ∷ flag_rule (codes "progress") ∷ []
+    ∷ flag_rule (codes "progress") ∷ flag_rule (codes "brief") ∷ []
+
+-- the arguments of `graph [--terms N] [--states N] [--hide GATES] [--only GATES] [--strong] [--progress] [--brief]`; at
+-- most one of `--hide` and `--only` makes a request
+abbrev pub graph_rules : List Rule
+graph_rules =
+    terms_rule ∷ states_rule ∷ option_rule (codes "hide") ∷ option_rule (codes "only") ∷ flag_rule (codes "strong")
+    ∷ flag_rule (codes "progress") ∷ flag_rule (codes "brief") ∷ []
+
+-- the arguments of `suite [--extra K] [--limit N] [--terms N] [--states N] [--after LINE] [--hide GATES] [--only GATES]
+-- [--strong] [--progress] [--brief]`; at most one of `--hide` and `--only` makes a request
+abbrev pub suite_rules : List Rule
+suite_rules =
+    extra_rule ∷ number_rule (codes "limit") 1000000000 ∷ terms_rule ∷ states_rule ∷ option_rule (codes "after")
+    ∷ option_rule (codes "hide") ∷ option_rule (codes "only") ∷ flag_rule (codes "strong")
+    ∷ flag_rule (codes "progress") ∷ flag_rule (codes "brief") ∷ []
+
+-- the arguments of `compare [--within] [--terms N] [--states N] [--hide GATES] [--only GATES] [--strong]
+-- [--progress] [--brief]`; at most one of `--hide` and `--only` makes a request
+abbrev pub compare_rules : List Rule
+compare_rules =
+    flag_rule (codes "within") ∷ terms_rule ∷ states_rule ∷ option_rule (codes "hide") ∷ option_rule (codes "only")
+    ∷ flag_rule (codes "strong") ∷ flag_rule (codes "progress") ∷ flag_rule (codes "brief") ∷ []
 
 -- the subcommand with this name and these arguments, which are in the order of its help
 abbrev pub subcommand_app : Text → List Rule → App
@@ -102,7 +132,8 @@ abbrev pub subcommand_apps : List App
 subcommand_apps =
     subcommand_app (codes "search") search_rules ∷ subcommand_app (codes "check") check_rules
     ∷ subcommand_app (codes "ever") ever_rules ∷ subcommand_app (codes "after") after_rules
-    ∷ subcommand_app (codes "cover") cover_rules ∷ []
+    ∷ subcommand_app (codes "cover") cover_rules ∷ subcommand_app (codes "graph") graph_rules
+    ∷ subcommand_app (codes "suite") suite_rules ∷ subcommand_app (codes "compare") compare_rules ∷ []
 
 -- `lotosseq`, the command line as clap reads it: it has a version and needs one of its subcommands
 abbrev pub lotosseq : App

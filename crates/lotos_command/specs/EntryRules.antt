@@ -22,18 +22,26 @@ pub record AreReadable (rows : List Row) : Type 0 where
   pub limit : IfSome (one_of (codes "limit") rows) (IsNumberIn 1 1000000000)
   pub terms : IfSome (one_of (codes "terms") rows) (IsNumberIn 1 1000000)
   pub states : IfSome (one_of (codes "states") rows) (IsNumberIn 1 100000000)
+  pub extra : IfSome (one_of (codes "extra") rows) (IsNumberIn 0 3)
   pub explain : IfSome (one_of (codes "explain") rows) IsTruthText
   pub hidden : IfSome (one_of (codes "hidden") rows) IsTruthText
   pub strong : IfSome (one_of (codes "strong") rows) IsTruthText
   pub known : IfSome (one_of (codes "known") rows) IsTruthText
   pub progress : IfSome (one_of (codes "progress") rows) IsTruthText
   pub warn : IfSome (one_of (codes "warn") rows) IsTruthText
+  pub within : IfSome (one_of (codes "within") rows) IsTruthText
+  pub brief : IfSome (one_of (codes "brief") rows) IsTruthText
+
+-- the name of one of the subcommands that have no pattern
+abbrev pub IsOtherSubcommand : Text → Type 0
+IsOtherSubcommand name =
+    (name ≡ codes "after") ⊎ ((name ≡ codes "cover") ⊎ ((name ≡ codes "graph") ⊎ ((name ≡ codes "suite")
+    ⊎ (name ≡ codes "compare"))))
 
 -- the name of one of the subcommands
 abbrev pub IsSubcommand : Text → Type 0
 IsSubcommand name =
-    (name ≡ codes "search") ⊎ ((name ≡ codes "check") ⊎ ((name ≡ codes "ever") ⊎ ((name ≡ codes "after")
-    ⊎ (name ≡ codes "cover"))))
+    (name ≡ codes "search") ⊎ ((name ≡ codes "check") ⊎ ((name ≡ codes "ever") ⊎ IsOtherSubcommand name))
 
 -- a subcommand was given, and its entries can be read
 abbrev pub FitsRequest : Option (Text × List Row) → Type 0

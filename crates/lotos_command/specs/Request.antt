@@ -19,6 +19,9 @@ use Rattle.lotos_command.specs.declared.command.SearchRequest.{SearchRequest}
 use Rattle.lotos_command.specs.declared.command.EverRequest.{EverRequest}
 use Rattle.lotos_command.specs.declared.command.AfterRequest.{AfterRequest}
 use Rattle.lotos_command.specs.declared.command.CoverRequest.{CoverRequest}
+use Rattle.lotos_command.specs.declared.command.GraphRequest.{GraphRequest}
+use Rattle.lotos_command.specs.declared.command.SuiteRequest.{SuiteRequest}
+use Rattle.lotos_command.specs.declared.command.CompareRequest.{CompareRequest}
 
 -- which gates a question is about, with texts for strings: all, all but these, or these
 pub data InterfaceView : Type 0 where
@@ -37,6 +40,7 @@ pub record SearchView : Type 0 where
   pub strong : Bool
   pub known : Bool
   pub progress : Bool
+  pub brief : Bool
   pub words : List Text
 
 -- the view of a search for a match of any length: texts for strings
@@ -46,6 +50,7 @@ pub record EverView : Type 0 where
   pub interface : InterfaceView
   pub strong : Bool
   pub progress : Bool
+  pub brief : Bool
   pub words : List Text
 
 -- the view of a request for what can come after a sequence: texts for strings
@@ -54,6 +59,7 @@ pub record AfterView : Type 0 where
   pub interface : InterfaceView
   pub strong : Bool
   pub progress : Bool
+  pub brief : Bool
   pub words : List Text
 
 -- the view of a request for sequences that together show all that can be observed: texts for strings
@@ -65,6 +71,38 @@ pub record CoverView : Type 0 where
   pub interface : InterfaceView
   pub strong : Bool
   pub progress : Bool
+  pub brief : Bool
+
+-- the view of a request for all that can be observed: texts for strings
+pub record GraphView : Type 0 where
+  pub terms : ℕ
+  pub states : ℕ
+  pub interface : InterfaceView
+  pub strong : Bool
+  pub progress : Bool
+  pub brief : Bool
+
+-- the view of a request for a test suite: texts for strings
+pub record SuiteView : Type 0 where
+  pub extra : ℕ
+  pub limit : Option ℕ
+  pub after : Option Text
+  pub terms : ℕ
+  pub states : ℕ
+  pub interface : InterfaceView
+  pub strong : Bool
+  pub progress : Bool
+  pub brief : Bool
+
+-- the view of a request for the first difference of two specifications: texts for strings
+pub record CompareView : Type 0 where
+  pub within : Bool
+  pub terms : ℕ
+  pub states : ℕ
+  pub interface : InterfaceView
+  pub strong : Bool
+  pub progress : Bool
+  pub brief : Bool
 
 -- the view of a request: texts for strings
 pub data RequestView : Type 0 where
@@ -74,6 +112,9 @@ pub data RequestView : Type 0 where
   ever : EverView → RequestView
   after : AfterView → RequestView
   cover : CoverView → RequestView
+  graph : GraphView → RequestView
+  suite : SuiteView → RequestView
+  compare : CompareView → RequestView
 
 -- the view of the program's interface
 abbrev pub interface_view : Interface → InterfaceView
@@ -93,6 +134,7 @@ search_view request = record {
   strong = request.strong;
   known = request.known;
   progress = request.progress;
+  brief = request.brief;
   words = map string_bytes request.words.items;
 }
 
@@ -104,6 +146,7 @@ ever_view request = record {
   interface = interface_view request.interface;
   strong = request.strong;
   progress = request.progress;
+  brief = request.brief;
   words = map string_bytes request.words.items;
 }
 
@@ -114,6 +157,7 @@ after_view request = record {
   interface = interface_view request.interface;
   strong = request.strong;
   progress = request.progress;
+  brief = request.brief;
   words = map string_bytes request.words.items;
 }
 
@@ -127,6 +171,44 @@ cover_view request = record {
   interface = interface_view request.interface;
   strong = request.strong;
   progress = request.progress;
+  brief = request.brief;
+}
+
+-- the view of the program's request for all that can be observed
+abbrev pub graph_view : GraphRequest → GraphView
+graph_view request = record {
+  terms = request.terms;
+  states = request.states;
+  interface = interface_view request.interface;
+  strong = request.strong;
+  progress = request.progress;
+  brief = request.brief;
+}
+
+-- the view of the program's request for a test suite
+abbrev pub suite_view : SuiteRequest → SuiteView
+suite_view request = record {
+  extra = request.extra;
+  limit = request.limit;
+  after = option_map string_bytes request.after;
+  terms = request.terms;
+  states = request.states;
+  interface = interface_view request.interface;
+  strong = request.strong;
+  progress = request.progress;
+  brief = request.brief;
+}
+
+-- the view of the program's request for the first difference of two specifications
+abbrev pub compare_view : CompareRequest → CompareView
+compare_view request = record {
+  within = request.within;
+  terms = request.terms;
+  states = request.states;
+  interface = interface_view request.interface;
+  strong = request.strong;
+  progress = request.progress;
+  brief = request.brief;
 }
 
 -- the view of the program's request
@@ -137,6 +219,9 @@ request_view (request.Search request) = search (search_view request)
 request_view (request.Ever request) = ever (ever_view request)
 request_view (request.After request) = after (after_view request)
 request_view (request.Cover request) = cover (cover_view request)
+request_view (request.Graph request) = graph (graph_view request)
+request_view (request.Suite request) = suite (suite_view request)
+request_view (request.Compare request) = compare (compare_view request)
 
 -- the number of a decimal numeral, perhaps after a plus sign
 abbrev pub number : Text → ℕ
@@ -190,6 +275,7 @@ search_with rows extent interface = record {
   strong = flag (codes "strong") rows;
   known = flag (codes "known") rows;
   progress = flag (codes "progress") rows;
+  brief = flag (codes "brief") rows;
   words = pattern_words (unwrap_or (all_of (codes "words") rows) []);
 }
 
@@ -206,6 +292,7 @@ ever_from rows = option_map (λ interface. record {
   interface = interface;
   strong = flag (codes "strong") rows;
   progress = flag (codes "progress") rows;
+  brief = flag (codes "brief") rows;
   words = pattern_words (unwrap_or (all_of (codes "words") rows) []);
 }) (interface_from rows)
 
@@ -217,6 +304,7 @@ after_from rows = option_map (λ interface. record {
   interface = interface;
   strong = flag (codes "strong") rows;
   progress = flag (codes "progress") rows;
+  brief = flag (codes "brief") rows;
   words = pattern_words (unwrap_or (all_of (codes "words") rows) []);
 }) (interface_from rows)
 
@@ -231,15 +319,58 @@ cover_from rows = option_map (λ interface. record {
   interface = interface;
   strong = flag (codes "strong") rows;
   progress = flag (codes "progress") rows;
+  brief = flag (codes "brief") rows;
 }) (interface_from rows)
 
--- the check with these diagnostics, or the plain one if it has none
+-- the request for all that can be observed that the entries of the subcommand `graph` make, if they give an interface
+abbrev pub graph_from : List Row → Option GraphView
+graph_from rows = option_map (λ interface. record {
+  terms = option_map_or number (one_of (codes "terms") rows) 100000;
+  states = option_map_or number (one_of (codes "states") rows) 1000000;
+  interface = interface;
+  strong = flag (codes "strong") rows;
+  progress = flag (codes "progress") rows;
+  brief = flag (codes "brief") rows;
+}) (interface_from rows)
+
+-- the request for a test suite that the entries of the subcommand `suite` make, if they give an interface
+abbrev pub suite_from : List Row → Option SuiteView
+suite_from rows = option_map (λ interface. record {
+  extra = option_map_or number (one_of (codes "extra") rows) 0;
+  limit = option_map number (one_of (codes "limit") rows);
+  after = first_of (codes "after") rows;
+  terms = option_map_or number (one_of (codes "terms") rows) 100000;
+  states = option_map_or number (one_of (codes "states") rows) 1000000;
+  interface = interface;
+  strong = flag (codes "strong") rows;
+  progress = flag (codes "progress") rows;
+  brief = flag (codes "brief") rows;
+}) (interface_from rows)
+
+-- the request for the first difference of two specifications that the entries of the subcommand `compare` make, if they
+-- give an interface
+abbrev pub compare_from : List Row → Option CompareView
+compare_from rows = option_map (λ interface. record {
+  within = flag (codes "within") rows;
+  terms = option_map_or number (one_of (codes "terms") rows) 100000;
+  states = option_map_or number (one_of (codes "states") rows) 1000000;
+  interface = interface;
+  strong = flag (codes "strong") rows;
+  progress = flag (codes "progress") rows;
+  brief = flag (codes "brief") rows;
+}) (interface_from rows)
+
+-- the check with these options, or the plain one if it has none
 abbrev pub check_with : DiagnoseRequest → RequestView
-check_with request = if request.explain || request.warn then diagnose request else check
+check_with request = if (request.explain || request.warn) || request.brief then diagnose request else check
 
 -- the check that the entries of the subcommand `check` make
 abbrev pub check_from : List Row → RequestView
-check_from rows = check_with (record { explain = flag (codes "explain") rows; warn = flag (codes "warn") rows })
+check_from rows = check_with (record {
+  explain = flag (codes "explain") rows;
+  warn = flag (codes "warn") rows;
+  brief = flag (codes "brief") rows;
+})
 
 -- the request that a subcommand of this name with these entries makes, if it makes one
 abbrev pub request_named : Text → List Row → Option RequestView
@@ -248,7 +379,10 @@ request_named name rows =
     else (if bytes_eq name (codes "check") then Some (check_from rows)
     else (if bytes_eq name (codes "ever") then option_map ever (ever_from rows)
     else (if bytes_eq name (codes "after") then option_map after (after_from rows)
-    else (if bytes_eq name (codes "cover") then option_map cover (cover_from rows) else None))))
+    else (if bytes_eq name (codes "cover") then option_map cover (cover_from rows)
+    else (if bytes_eq name (codes "graph") then option_map graph (graph_from rows)
+    else (if bytes_eq name (codes "suite") then option_map suite (suite_from rows)
+    else (if bytes_eq name (codes "compare") then option_map compare (compare_from rows) else None)))))))
 
 -- the request that the given subcommand with its entries makes, if one was given
 abbrev pub request_from : Option (Text × List Row) → Option RequestView
@@ -276,9 +410,28 @@ pub record HasCoverBounds (request : CoverRequest) : Type 0 where
   pub states : 1 ≤ request.states
   pub limit : IfSome request.limit (λ n. 1 ≤ n)
 
+-- the bounds on the normal forms that a sequence reaches and on the sets of these are at least 1
+pub record HasGraphBounds (request : GraphRequest) : Type 0 where
+  pub terms : 1 ≤ request.terms
+  pub states : 1 ≤ request.states
+
+-- an implementation may have at most three extra states; the bounds on the normal forms that a sequence reaches and on
+-- the sets of these are at least 1, and so is the limit, if one is given
+pub record HasSuiteBounds (request : SuiteRequest) : Type 0 where
+  pub extra : request.extra ≤ 3
+  pub terms : 1 ≤ request.terms
+  pub states : 1 ≤ request.states
+  pub limit : IfSome request.limit (λ n. 1 ≤ n)
+
+-- the bounds on the normal forms that a sequence reaches and on the pairs of sets of these are at least 1
+pub record HasCompareBounds (request : CompareRequest) : Type 0 where
+  pub terms : 1 ≤ request.terms
+  pub states : 1 ≤ request.states
+
 -- the bounds of a search, if the request is one; at least one state, if it is a search for a match of any length; at
--- least one normal form, if it is for what can come after a sequence; and the bounds of a cover, if it is for sequences
--- that show all that can be observed
+-- least one normal form, if it is for what can come after a sequence; the bounds of a cover, if it is for sequences
+-- that show all that can be observed; those of a graph, if it is for an automaton; those of a suite, if it is for a
+-- test suite; and those of a comparison, if it is for a difference
 abbrev pub HasBounds : Request → Type 0
 HasBounds request.Check = ⊤
 HasBounds (request.Diagnose request) = ⊤
@@ -286,3 +439,6 @@ HasBounds (request.Search request) = HasSearchBounds request
 HasBounds (request.Ever request) = 1 ≤ request.states
 HasBounds (request.After request) = 1 ≤ request.terms
 HasBounds (request.Cover request) = HasCoverBounds request
+HasBounds (request.Graph request) = HasGraphBounds request
+HasBounds (request.Suite request) = HasSuiteBounds request
+HasBounds (request.Compare request) = HasCompareBounds request

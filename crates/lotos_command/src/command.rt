@@ -7,7 +7,7 @@ use std::alloc::AllocError;
 pub enum Request {
     /// Check a specification and list its processes.
     Check,
-    /// The same, with diagnostics on standard error.
+    /// The same, with options about what standard error has.
     Diagnose(DiagnoseRequest),
     /// List the sequences that match a pattern.
     Search(SearchRequest),
@@ -17,15 +17,23 @@ pub enum Request {
     After(AfterRequest),
     /// List sequences that together show all that can be observed.
     Cover(CoverRequest),
+    /// Write all that can be observed as an automaton.
+    Graph(GraphRequest),
+    /// List the lines of a test suite that misses nothing.
+    Suite(SuiteRequest),
+    /// Find the first difference in what can be observed of two specifications.
+    Compare(CompareRequest),
 }
 
-/// A request for a check with diagnostics, at least one of them. They change neither output nor status.
+/// A request for a check with options, at least one of them. They change neither output nor status.
 #[derive(Debug, Drop)]
 pub struct DiagnoseRequest {
     /// Whether a fault is explained.
     pub explain: bool,
     /// Whether warnings of an accepted specification are written.
     pub warn: bool,
+    /// Whether a terminal is told no more than another stream.
+    pub brief: bool,
 }
 
 /// Which sequences a listing has.
@@ -84,6 +92,8 @@ pub struct SearchRequest {
     pub known: bool,
     /// Whether standard error tells how far the search is.
     pub progress: bool,
+    /// Whether a terminal is told no more than another stream.
+    pub brief: bool,
     /// The words of the pattern. The command line may have several of them in one word, with blanks between.
     pub words: Vec<String>,
 }
@@ -102,6 +112,8 @@ pub struct EverRequest {
     pub strong: bool,
     /// Whether standard error tells how far the search is.
     pub progress: bool,
+    /// Whether a terminal is told no more than another stream.
+    pub brief: bool,
     /// The words of the pattern, as those of a [`SearchRequest`].
     pub words: Vec<String>,
 }
@@ -117,6 +129,8 @@ pub struct AfterRequest {
     pub strong: bool,
     /// Whether standard error tells how far the sequence was followed.
     pub progress: bool,
+    /// Whether a terminal is told no more than another stream.
+    pub brief: bool,
     /// The words of the sequence, each a label. The command line may have several of them in one word, with blanks
     /// between.
     pub words: Vec<String>,
@@ -140,6 +154,68 @@ pub struct CoverRequest {
     pub strong: bool,
     /// Whether standard error tells how far the search is.
     pub progress: bool,
+    /// Whether a terminal is told no more than another stream.
+    pub brief: bool,
+}
+
+/// A request for all that can be observed, as an automaton.
+#[derive(Debug, Drop)]
+pub struct GraphRequest {
+    /// The most normal forms of terms that a sequence may reach, at least 1.
+    pub terms: usize,
+    /// The most sets of normal forms that may be reached, at least 1.
+    pub states: usize,
+    /// Which gates of the specification's own list the question is about.
+    pub interface: Interface,
+    /// Whether internal steps are observed: `i` is then a label like others.
+    pub strong: bool,
+    /// Whether standard error tells how far the search is.
+    pub progress: bool,
+    /// Whether a terminal is told no more than another stream.
+    pub brief: bool,
+}
+
+/// A request for a test suite: lines that say what an implementation has to be able to do, and what not. The line is as
+/// the command line has it, not yet read as a mark.
+#[derive(Debug, Drop)]
+pub struct SuiteRequest {
+    /// How many states more than the automaton of all that can be observed an implementation may have, at most 3.
+    pub extra: usize,
+    /// The most lines that are written, at least 1; `None` for no limit.
+    pub limit: Option<u32>,
+    /// A line of a suite, or its labels alone: only the lines after it are listed. `None` for the whole suite.
+    pub after: Option<String>,
+    /// The most normal forms of terms that a sequence may reach, at least 1.
+    pub terms: usize,
+    /// The most sets of normal forms that may be reached, at least 1.
+    pub states: usize,
+    /// Which gates of the specification's own list the question is about.
+    pub interface: Interface,
+    /// Whether internal steps are observed: `i` is then a label like others.
+    pub strong: bool,
+    /// Whether standard error tells how far the search is.
+    pub progress: bool,
+    /// Whether a terminal is told no more than another stream.
+    pub brief: bool,
+}
+
+/// A request for the first difference in what can be observed of two specifications.
+#[derive(Debug, Drop)]
+pub struct CompareRequest {
+    /// Whether only sequences of the first specification are asked for that cannot be observed of the second.
+    pub within: bool,
+    /// The most normal forms of terms that a sequence may reach in one of the specifications, at least 1.
+    pub terms: usize,
+    /// The most pairs of sets of normal forms that may be reached, at least 1.
+    pub states: usize,
+    /// Which gates of the specifications' own lists the question is about.
+    pub interface: Interface,
+    /// Whether internal steps are observed: `i` is then a label like others.
+    pub strong: bool,
+    /// Whether standard error tells how far the search is.
+    pub progress: bool,
+    /// Whether standard error has no more at a terminal than elsewhere.
+    pub brief: bool,
 }
 
 /// Why the words make no request.

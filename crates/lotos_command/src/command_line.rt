@@ -2,9 +2,11 @@
 ghost use Rattle.std.specs.Prelude.{◌≡◌, IfOk, codes, map, true};
 ghost use Rattle.std.specs.List.{list_all};
 ghost use Rattle.clap.specs.Words.{app_of, rule_of};
-ghost use Rattle.lotos_command.specs.CommandRules.{AreCommandsOf, IsCommandOf, after_rules, check_rules, cover_rules, ever_rules, extent_rule, flag_rule, lotosseq, number_rule, option_rule, search_rules, states_rule, subcommand_app, subcommand_apps, terms_rule, words_rule};
+ghost use Rattle.lotos_command.specs.CommandRules.{AreCommandsOf, IsCommandOf, after_rules, check_rules, compare_rules, cover_rules, ever_rules, extent_rule, extra_rule, flag_rule, graph_rules, lotosseq, number_rule, option_rule, search_rules, states_rule, subcommand_app, subcommand_apps, suite_rules, terms_rule, words_rule};
 
-use crate::help::{Help, VERSION, after, check, common, cover, ever, program, search};
+use crate::help::{
+    Help, VERSION, after, check, common, compare, cover, ever, graph, program, search, suite,
+};
 use clap::{Arg, ArgAction, Command, value_parser};
 use std::alloc::{AllocError, Global};
 
@@ -28,6 +30,9 @@ pub(crate) enum Question {
     Ever,
     After,
     Cover,
+    Graph,
+    Suite,
+    Compare,
 }
 
 /// The command of this subcommand, with its name as a usage line has it.
@@ -40,6 +45,9 @@ pub(crate) fn question_command<'a>(
         Question::Ever => ever_command(alloc)?.bin_name("lotosseq ever"),
         Question::After => after_command(alloc)?.bin_name("lotosseq after"),
         Question::Cover => cover_command(alloc)?.bin_name("lotosseq cover"),
+        Question::Graph => graph_command(alloc)?.bin_name("lotosseq graph"),
+        Question::Suite => suite_command(alloc)?.bin_name("lotosseq suite"),
+        Question::Compare => compare_command(alloc)?.bin_name("lotosseq compare"),
     }
 }
 
@@ -53,6 +61,9 @@ fn subcommands<'a>(alloc: Global) -> Result<Vec<Command<'a>>, AllocError>
     all.push(ever_command(alloc)?)?;
     all.push(after_command(alloc)?)?;
     all.push(cover_command(alloc)?)?;
+    all.push(graph_command(alloc)?)?;
+    all.push(suite_command(alloc)?)?;
+    all.push(compare_command(alloc)?)?;
     Ok(all)
 }
 
@@ -72,6 +83,7 @@ fn search_command<'a>(alloc: Global) -> Result<Command<'a>, AllocError>
         flag(alloc, "strong", search::STRONG),
         flag(alloc, "known", search::KNOWN),
         flag(alloc, "progress", common::PROGRESS),
+        flag(alloc, "brief", common::BRIEF),
         words_arg(alloc, "WORD", search::WORDS),
     ]?;
     let search = subcommand(alloc, "search", search::ABOUT, search::STATUSES, args)?;
@@ -84,6 +96,7 @@ fn check_command<'a>(alloc: Global) -> Result<Command<'a>, AllocError>
     let args = vec![in alloc;
         flag(alloc, "explain", check::EXPLAIN),
         flag(alloc, "warn", check::WARN),
+        flag(alloc, "brief", common::BRIEF),
     ]?;
     subcommand(alloc, "check", check::ABOUT, check::STATUSES, args)
 }
@@ -99,6 +112,7 @@ fn ever_command<'a>(alloc: Global) -> Result<Command<'a>, AllocError>
         option(alloc, "only", "GATES", common::ONLY),
         flag(alloc, "strong", ever::STRONG),
         flag(alloc, "progress", common::PROGRESS),
+        flag(alloc, "brief", common::BRIEF),
         words_arg(alloc, "WORD", ever::WORDS),
     ]?;
     subcommand(alloc, "ever", ever::ABOUT, ever::STATUSES, args)
@@ -113,6 +127,7 @@ fn after_command<'a>(alloc: Global) -> Result<Command<'a>, AllocError>
         option(alloc, "only", "GATES", common::ONLY),
         flag(alloc, "strong", after::STRONG),
         flag(alloc, "progress", common::PROGRESS),
+        flag(alloc, "brief", common::BRIEF),
         words_arg(alloc, "LABEL", after::LABELS),
     ]?;
     subcommand(alloc, "after", after::ABOUT, after::STATUSES, args)
@@ -124,14 +139,64 @@ fn cover_command<'a>(alloc: Global) -> Result<Command<'a>, AllocError>
     let args = vec![in alloc;
         number_arg(alloc, "limit", 1000000000, common::LIMIT),
         terms_arg(alloc, cover::TERMS),
-        states_arg(alloc, cover::STATES),
+        states_arg(alloc, common::STATES),
         option(alloc, "after", "LINE", common::AFTER),
         option(alloc, "hide", "GATES", common::HIDE),
         option(alloc, "only", "GATES", common::ONLY),
         flag(alloc, "strong", cover::STRONG),
         flag(alloc, "progress", common::PROGRESS),
+        flag(alloc, "brief", common::BRIEF),
     ]?;
     subcommand(alloc, "cover", cover::ABOUT, cover::STATUSES, args)
+}
+
+fn graph_command<'a>(alloc: Global) -> Result<Command<'a>, AllocError>
+    ensures { IfOk result (IsCommandOf (subcommand_app (codes "graph") graph_rules)) }
+{
+    let args = vec![in alloc;
+        terms_arg(alloc, common::TERMS),
+        states_arg(alloc, common::STATES),
+        option(alloc, "hide", "GATES", common::HIDE),
+        option(alloc, "only", "GATES", common::ONLY),
+        flag(alloc, "strong", graph::STRONG),
+        flag(alloc, "progress", common::PROGRESS),
+        flag(alloc, "brief", common::BRIEF),
+    ]?;
+    subcommand(alloc, "graph", graph::ABOUT, graph::STATUSES, args)
+}
+
+fn suite_command<'a>(alloc: Global) -> Result<Command<'a>, AllocError>
+    ensures { IfOk result (IsCommandOf (subcommand_app (codes "suite") suite_rules)) }
+{
+    let args = vec![in alloc;
+        extra_arg(alloc),
+        number_arg(alloc, "limit", 1000000000, common::LIMIT),
+        terms_arg(alloc, common::TERMS),
+        states_arg(alloc, common::STATES),
+        option(alloc, "after", "LINE", suite::AFTER),
+        option(alloc, "hide", "GATES", common::HIDE),
+        option(alloc, "only", "GATES", common::ONLY),
+        flag(alloc, "strong", suite::STRONG),
+        flag(alloc, "progress", common::PROGRESS),
+        flag(alloc, "brief", common::BRIEF),
+    ]?;
+    subcommand(alloc, "suite", suite::ABOUT, suite::STATUSES, args)
+}
+
+fn compare_command<'a>(alloc: Global) -> Result<Command<'a>, AllocError>
+    ensures { IfOk result (IsCommandOf (subcommand_app (codes "compare") compare_rules)) }
+{
+    let args = vec![in alloc;
+        flag(alloc, "within", compare::WITHIN),
+        terms_arg(alloc, compare::TERMS),
+        states_arg(alloc, compare::STATES),
+        option(alloc, "hide", "GATES", compare::HIDE),
+        option(alloc, "only", "GATES", compare::ONLY),
+        flag(alloc, "strong", compare::STRONG),
+        flag(alloc, "progress", common::PROGRESS),
+        flag(alloc, "brief", common::BRIEF),
+    ]?;
+    subcommand(alloc, "compare", compare::ABOUT, compare::STATUSES, args)
 }
 
 /// A subcommand with these texts in its help. The arguments are in the order of the help.
@@ -157,6 +222,15 @@ fn extent_arg<'a>(alloc: Global, name: &'a str, help: Help) -> Arg<'a>
     ensures { rule_of result ≡ extent_rule name.now }
 {
     option(alloc, name, "N", help).value_parser(value_parser!(u8))
+}
+
+/// The option that says how many extra states an implementation may have.
+fn extra_arg<'a>(alloc: Global) -> Arg<'a>
+    ensures { rule_of result ≡ extra_rule }
+{
+    option(alloc, "extra", "K", suite::EXTRA)
+        .value_parser(value_parser!(u32).range(0..=3))
+        .default_value("0")
 }
 
 fn terms_arg<'a>(alloc: Global, help: Help) -> Arg<'a>

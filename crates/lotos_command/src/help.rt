@@ -23,19 +23,24 @@ standard output. A file is given by `< FILE`, as in
   lotosseq check < ring.lotos
 `lotosseq check --help` is about the static rules, `lotosseq search --help` about the
 listing, its options and the words of a pattern, `lotosseq ever --help` about matches
-of any length, `lotosseq after --help` about what can come after a sequence, and
-`lotosseq cover --help` about sequences that show all that can be observed.",
+of any length, `lotosseq after --help` about what can come after a sequence,
+`lotosseq cover --help` about sequences that show all that can be observed,
+`lotosseq graph --help` about the automaton of all that can be observed,
+`lotosseq suite --help` about test suites that miss nothing, and
+`lotosseq compare --help` about where two specifications differ.",
     };
 
     pub(crate) const STATUSES: &str = "Statuses:
   0  the specification is accepted, the listing is complete and has lines, there is a
-     match, or the sequence can happen
-  1  the listing is complete and has none, there is no match, or the sequence cannot
-     happen
+     match, the sequence can happen, the automaton is written, or two specifications
+     do not differ
+  1  the listing is complete and has none, there is no match, the sequence cannot
+     happen, or two specifications differ
   2  the command, its words, the mark or the specification is refused, or cannot
      be read
   3  the limit of lines is reached
-  4  a prefix reaches too many terms, or there are too many states or sets
+  4  a prefix reaches too many terms, or there are too many states, sets, pairs of sets
+     or lines of a suite
   5  out of memory, or an argument is not Unicode
   6  the output cannot be written";
 }
@@ -459,11 +464,10 @@ pub(crate) mod cover {
 Reads a specification in basic LOTOS from standard input (a file is given by `< FILE`)
 and writes a listing to standard output: a finite test suite.
 
-A sequence reaches the terms in which derivations of any number of steps end that have
-it as their sequence. Terms count as one if they are seen to differ only in relabelling,
-hiding and calls. For each set of terms the listing has the first sequence that reaches
-just this set with each label that can come after it, after internal steps or none. A
-sequence with which another one begins is left out.
+Sequences have the same future if the same sequences can come after them, of derivations
+of any number of steps. Of all sequences with the same future the listing has the first,
+with each label that can come after it, after internal steps or none. A sequence with
+which another one begins is left out.
 
 Each sequence occurs once, on a line of its own: its labels, separated by one
 blank. Shorter sequences come first, and sequences of one length in the order of
@@ -475,7 +479,7 @@ For example, with the specification
 the command `lotosseq cover` lists
   A A
   A B
-as `A B` reaches the same terms as the empty sequence.",
+as after `A B` the same can come as after the empty sequence.",
     };
 
     pub(crate) const STATUSES: &str = "Statuses:
@@ -491,21 +495,12 @@ as `A B` reaches the same terms as the empty sequence.",
         short: "The most terms that a prefix may reach, 1 to 1000000",
         long: "The most terms that a prefix may reach, 1 to 1000000
 
-A prefix is a beginning of a line. It reaches the terms in which the derivations end
-that have it as their sequence. Terms count as one if they are seen to differ only in
-relabelling, hiding and calls. The search stops with status 4 at the first prefix that
-reaches more. For example, with `--terms 1` the specification's behaviour `i; a; stop`
-stops the search at `<empty>`, which reaches two terms.",
-    };
-
-    pub(crate) const STATES: Help = Help {
-        short: "The most sets that may be reached, 1 to 100000000",
-        long: "The most sets that may be reached, 1 to 100000000
-
-A set has all terms that a sequence reaches, and counts once, however many sequences
-reach it. If more sets than these are reached, the search stops with status 4. For
-example, for `a; b; stop` it stops with `--states 2`, as `<empty>`, `A` and `A B` reach
-three sets.",
+A prefix is a beginning of a sequence that can be observed. It reaches the terms in which
+the derivations end that have it as their sequence. Terms count as one if they are seen to
+differ only in relabelling, hiding and calls. The search stops with status 4 at the first
+prefix that reaches more, and nothing is written. For example, with `--terms 1` the
+specification's behaviour `i; a; stop` stops the search at `<empty>`, which reaches two
+terms.",
     };
 
     pub(crate) const STRONG: Help = Help {
@@ -517,63 +512,229 @@ Sequences may then have it. For example, for `i; a; stop` and `--strong` the lis
     };
 }
 
-/// The help of several commands.
-pub(crate) mod common {
+/// The help of `graph`.
+pub(crate) mod graph {
     use super::Help;
 
-    pub(crate) const LIMIT: Help = Help {
-        short: "The most lines that are written, 1 to 1000000000",
-        long: "The most lines that are written, 1 to 1000000000
+    pub(crate) const ABOUT: Help = Help {
+        short: "Writes all that can be observed as an automaton",
+        long: "Writes all that can be observed as an automaton
 
-The search stops when so many lines are written, with status 3, even if no line
-would follow. For example, `--limit 1` writes the first line alone.",
+Reads a specification in basic LOTOS from standard input (a file is given by `< FILE`)
+and writes the least deterministic automaton of the sequences that can be observed to
+standard output, in the Aldebaran format: as text that tools for automata read, and of
+which `lotosseq-draw` makes a picture.
+
+Two sequences lead to the same state if the same sequences can come after them. States
+are numbered in the order of the first sequences that lead to them: shorter sequences
+first, and sequences of one length in the order of their labels, gates by their names,
+then `exit`. The first line has the number of the first state, 0, that of the transitions
+and that of the states. Each other line has a transition: its state, its label and the
+state that it leads to. They are in the order of their states, then of their labels.
+
+For example, with the specification
+  specification S [a,b] : noexit behaviour P[a,b]
+  where process P [x,y] : noexit := x; (x; stop [] y; P[x,y]) endproc endspec
+the command `lotosseq graph` writes
+  des (0, 3, 3)
+  (0, \"A\", 1)
+  (1, \"A\", 2)
+  (1, \"B\", 0)
+as the same can come after `A B` as at the beginning.",
+    };
+
+    pub(crate) const STATUSES: &str = "Statuses:
+  0  the automaton is written
+  2  the command or the specification is refused, or cannot be read
+  4  a sequence reaches too many terms, or there are too many sets
+  5  out of memory, or an argument is not Unicode
+  6  the output cannot be written";
+
+    pub(crate) const STRONG: Help = Help {
+        short: "Makes the internal action `i` a label like others",
+        long: "Makes the internal action `i` a label like others
+
+Transitions may then have it. For example, for `i; a; stop` and `--strong` the automaton is
+  des (0, 2, 3)
+  (0, \"i\", 1)
+  (1, \"A\", 2)",
+    };
+}
+
+/// The help of `suite`.
+pub(crate) mod suite {
+    use super::Help;
+
+    pub(crate) const ABOUT: Help = Help {
+        short: "Lists a test suite that misses nothing",
+        long: "Lists a test suite that misses nothing
+
+Reads a specification in basic LOTOS from standard input (a file is given by `< FILE`)
+and writes to standard output what to try with an implementation. A line has a sign and
+labels, separated by one blank. After `+` the implementation has to be able to do the
+labels one after the other. After `-` it has to be able to do all but the last, and then
+not the last one.
+
+An implementation passes all lines exactly if it can do the sequences that can be observed
+of the specification, and no others. This holds of each one that has no other labels than
+the suite, can always do the same after the same labels, and has at most as many states as
+the automaton that `lotosseq graph` writes, or with `--extra K` at most K more. The labels
+of the suite are the gates of the specification's own list that are not hidden, and
+`exit`, if it can come.
+
+Shorter lines come first, and lines of one length in the order of their labels: gates by
+their names, then `exit`. A line with which a longer one begins is left out. If there are
+more than 10000000 lines, nothing is written.
+
+For example, with the specification
+  specification S [a,b] : noexit behaviour P[a,b]
+  where process P [x,y] : noexit := x; y; P[x,y] endproc endspec
+the command `lotosseq suite` lists
+  - B
+  - A A
+  + A B A",
+    };
+
+    pub(crate) const STATUSES: &str = "Statuses:
+  0  the listing is complete and has lines
+  1  the listing is complete and has none
+  2  the command, the mark or the specification is refused, or cannot be read
+  3  the limit of lines is reached
+  4  a sequence reaches too many terms, or there are too many sets or lines
+  5  out of memory, or an argument is not Unicode
+  6  the output cannot be written";
+
+    pub(crate) const EXTRA: Help = Help {
+        short: "How many states more an implementation may have, 0 to 3",
+        long: "How many states more an implementation may have, 0 to 3
+
+The suite then misses nothing in implementations with at most so many states more than
+the automaton. For each of them it may have as many times more lines as there are labels.
+For example, with the specification above the command `lotosseq suite --extra 1` lists
+  - B
+  - A A
+  - A B B
+  - A B A A",
     };
 
     pub(crate) const AFTER: Help = Help {
-        short: "Lists only what comes after this line of a listing",
-        long: "Lists only what comes after this line of a listing
+        short: "Lists only what comes after this line of the suite",
+        long: "Lists only what comes after this line of the suite
 
-LINE is a line as the listing has it, in upper or lower case; what follows ` : ` in it
-is ignored. It need not be a line of this listing. In a shell it is quoted. For
-example, `--after \"A B\"` goes on after the line `A B`, and `--after \"<empty>\"`
-after the empty sequence.",
+LINE is a line as the suite has it, with or without its sign, in upper or lower case. It
+need not be a line of this suite. In a shell it is quoted, and after an equals sign if it
+begins with `-`. For example, `--after \"+ A B\"`, `--after=\"- A B\"` and `--after \"A B\"` go
+on after the labels `A B`.",
+    };
+
+    pub(crate) const STRONG: Help = Help {
+        short: "Makes the internal action `i` a label like others",
+        long: "Makes the internal action `i` a label like others
+
+It is then a label of the suite, if it can come. For example, for `i; a; stop` and
+`--strong` the suite is
+  - A
+  - i i
+  - i A A
+  - i A i",
+    };
+}
+
+/// The help of `compare`.
+pub(crate) mod compare {
+    use super::Help;
+
+    pub(crate) const ABOUT: Help = Help {
+        short: "Writes where two specifications first differ",
+        long: "Writes where two specifications first differ
+
+Reads two specifications in basic LOTOS from standard input, the second after the first
+(two files are given by `cat FIRST SECOND |`), and writes to standard output the first
+sequence of labels that can be observed of one of the two alone: after `< ` if it is the
+first that can do it, after `> ` if it is the second. Sequences of any length are
+compared. Shorter ones come first, and those of one length in the order of their labels:
+gates by their names, then `exit`. Gates with the same name are the same label.
+
+If there is no such sequence, nothing is written, and standard error says how many pairs
+of sets were looked at: sets of the terms that a sequence reaches in each of the two.
+
+For example, with the specifications
+  specification S [a,b] : noexit behaviour a; (a; stop [] b; stop) endspec
+  specification T [a,b] : noexit behaviour a; b; stop endspec
+the command `lotosseq compare` writes
+  < A A",
+    };
+
+    pub(crate) const STATUSES: &str = "Statuses:
+  0  no sequence can be observed of one alone; with `--within`, none of the first alone
+  1  some sequence can, and the first is written
+  2  the command or a specification is refused, or cannot be read
+  4  a sequence reaches too many terms, or there are too many pairs of sets
+  5  out of memory, or an argument is not Unicode
+  6  the output cannot be written";
+
+    pub(crate) const WITHIN: Help = Help {
+        short: "Asks only what the first specification can do and the second cannot",
+        long: "Asks only what the first specification can do and the second cannot
+
+Status 0 then means that all that can be observed of the first can be observed of the
+second, which may do more. For example, for `a; b; stop` and `a; (a; stop [] b; stop)` in
+this order nothing is written; without the option
+  > A A",
+    };
+
+    pub(crate) const TERMS: Help = Help {
+        short: "The most terms that a sequence may reach, 1 to 1000000",
+        long: "The most terms that a sequence may reach, 1 to 1000000
+
+A sequence reaches the terms in which the derivations end that have it as their
+sequence. Terms count as one if they are seen to differ only in relabelling, hiding and
+calls. If a sequence that both specifications can do reaches more terms of one of them,
+and no difference was found before, the search stops with status 4, and nothing is
+written. For example, with `--terms 1` a specification with the behaviour `i; a; stop`
+stops the search at `<empty>`, which reaches two terms of it.",
+    };
+
+    pub(crate) const STATES: Help = Help {
+        short: "The most pairs of sets that may be reached, 1 to 100000000",
+        long: "The most pairs of sets that may be reached, 1 to 100000000
+
+A pair has all terms that a sequence reaches in the first specification and all that it
+reaches in the second, and counts once, however many sequences reach it. If more pairs
+than these are reached before a difference is found, the search stops with status 4, and
+nothing is written. For example, for `a; b; stop` and itself it stops with `--states 2`,
+as `<empty>`, `A` and `A B` reach three pairs.",
     };
 
     pub(crate) const HIDE: Help = Help {
-        short: "Hides these gates",
-        long: "Hides these gates
+        short: "Hides these gates in both specifications",
+        long: "Hides these gates in both specifications
 
-GATES are names of gates, joined by commas without blanks, in upper or lower case. What
-happens at a hidden gate is an internal step, which cannot be observed unless `--strong`
-is given. A name that is no gate of the specification's own list is refused with E52.
-Only one of `--hide` and `--only` may be given. For example, with the specification
-  specification S [a,b,c] : noexit behaviour P[a,b,c]
-  where process P [x,y,z] : noexit := x; y; z; P[x,y,z] endproc endspec
-the command `lotosseq ever --hide B A C` writes
-  A C
-and `lotosseq ever A C` finds nothing, as B comes between.",
+GATES are names in upper or lower case, joined by commas, each of a gate in the list of at
+least one of the specifications. With `--hide B` two specifications are compared as if each
+were `hide b in` its behaviour.",
     };
 
     pub(crate) const ONLY: Help = Help {
-        short: "Asks about these gates; all others are hidden",
-        long: "Asks about these gates; all others are hidden
+        short: "Asks about these gates; all others are hidden in both specifications",
+        long: "Asks about these gates; all others are hidden in both specifications
 
-GATES are names of gates, joined by commas without blanks, in upper or lower case. What
-happens at a hidden gate is an internal step, which cannot be observed unless `--strong`
-is given. A name that is no gate of the specification's own list is refused with E52.
-Only one of `--hide` and `--only` may be given. For example, with the specification
-  specification S [a,b,c] : noexit behaviour P[a,b,c]
-  where process P [x,y,z] : noexit := x; y; z; P[x,y,z] endproc endspec
-the command `lotosseq ever --only A,C A C` writes
-  A C
-and `lotosseq ever A C` finds nothing, as B comes between.",
+GATES are names in upper or lower case, joined by commas, each of a gate in the list of at
+least one of the specifications. For example, with the specifications
+  specification S [a,b] : noexit behaviour a; b; stop endspec
+  specification T [a] : noexit behaviour a; stop endspec
+the command `lotosseq compare --only A` writes nothing, with status 0.",
     };
 
-    pub(crate) const PROGRESS: Help = Help {
-        short: "Says on standard error how far the search is",
-        long: "Says on standard error how far the search is
+    pub(crate) const STRONG: Help = Help {
+        short: "Makes the internal action `i` a label like others",
+        long: "Makes the internal action `i` a label like others
 
-At a terminal this is one line, which is renewed; otherwise each report is a new line.
-Output and status stay the same.",
+Sequences may then have it. For example, for `i; a; stop` and `a; stop` in this order
+`lotosseq compare --strong` writes
+  > A
+as `i` comes after `A` in the order of labels.",
     };
 }
+
+pub(crate) mod common;

@@ -11,7 +11,7 @@ mod help;
 mod request_reading;
 
 pub use command::{
-    AfterRequest, CommandFault, CoverRequest, DiagnoseRequest, EverRequest, Extent, Interface,
-    Request, Runs, SearchRequest,
+    AfterRequest, CommandFault, CompareRequest, CoverRequest, DiagnoseRequest, EverRequest, Extent,
+    GraphRequest, Interface, Request, Runs, SearchRequest, SuiteRequest,
 };
 pub use request_reading::request;

@@ -5,13 +5,13 @@ ghost use Rattle.clap.specs.Walk.{texts as texts_of};
 ghost use Rattle.clap.specs.declared.error.kind.ErrorKind.TheVariants as ErrorKind;
 ghost use Rattle.clap.specs.Words.{all_of, first_of, found_of, kind_of, one_of, rows_of, subcommand_rows_of};
 ghost use Rattle.lotos_command.specs.CommandFaults.{AreAccepted, IsFaultOf, IsFaultOfEntries, IsFaultOfKind, IsNoRequestFault};
-ghost use Rattle.lotos_command.specs.EntryRules.{AreReadable, FitsRequest, IsNumberIn, IsTruthText};
+ghost use Rattle.lotos_command.specs.EntryRules.{AreReadable, FitsRequest, IsNumberIn, IsOtherSubcommand, IsTruthText};
 ghost use Rattle.lotos_command.specs.PatternWords.{parts_between_blanks, pattern_words, pattern_words_in};
-ghost use Rattle.lotos_command.specs.Request.{HasBounds, HasCoverBounds, HasSearchBounds, RequestOf, after_from, after_view, check_from, cover_from, cover_view, ever_from, ever_view, extent_from, flag, interface_from, interface_view, number, request_from, request_view, runs_from, search_from, search_view};
+ghost use Rattle.lotos_command.specs.Request.{HasBounds, HasCompareBounds, HasCoverBounds, HasGraphBounds, HasSearchBounds, HasSuiteBounds, RequestOf, after_from, after_view, check_from, compare_from, compare_view, cover_from, cover_view, ever_from, ever_view, extent_from, flag, graph_from, graph_view, interface_from, interface_view, number, request_from, request_named, request_view, runs_from, search_from, search_view, suite_from, suite_view};
 
 use crate::command::{
-    AfterRequest, CommandFault, CoverRequest, DiagnoseRequest, EverRequest, Extent, Interface,
-    Request, Runs, SearchRequest,
+    AfterRequest, CommandFault, CompareRequest, CoverRequest, DiagnoseRequest, EverRequest, Extent,
+    GraphRequest, Interface, Request, Runs, SearchRequest, SuiteRequest,
 };
 use crate::command_line::{Question, lotosseq_command, question_command};
 use clap::error::ErrorKind;
@@ -70,14 +70,38 @@ fn read_request(alloc: Global, found: &ArgMatches<'_>) -> Result<Request, Comman
     let (name, given) = found.subcommand().unwrap();
     if name == "search" {
         Ok(Request::Search(read_search_request(alloc, given)?))
+    } else if name == "check" {
+        Ok(read_check_request(given))
     } else if name == "ever" {
         Ok(Request::Ever(read_ever_request(alloc, given)?))
-    } else if name == "after" {
+    } else {
+        read_other_request(alloc, name, given)
+    }
+}
+
+/// The request of a subcommand that has no pattern.
+fn read_other_request(
+    alloc: Global,
+    name: &str,
+    given: &ArgMatches<'_>,
+) -> Result<Request, CommandFault>
+    requires named { IsOtherSubcommand name.now }
+    requires readable { AreReadable (rows_of (found_of given.now)) }
+    ensures is { IfOk result (λ r. request_named name.now (rows_of (found_of given.now)) ≡
+        Some (request_view r)) }
+    ensures bounds { IfOk result HasBounds }
+    ensures fault { IfErr result (IsFaultOfEntries (request_named name.now (rows_of (found_of given.now)))) }
+{
+    if name == "after" {
         Ok(Request::After(read_after_request(alloc, given)?))
     } else if name == "cover" {
         Ok(Request::Cover(read_cover_request(alloc, given)?))
+    } else if name == "graph" {
+        Ok(Request::Graph(read_graph_request(alloc, given)?))
+    } else if name == "suite" {
+        Ok(Request::Suite(read_suite_request(alloc, given)?))
     } else {
-        Ok(read_check_request(given))
+        Ok(Request::Compare(read_compare_request(alloc, given)?))
     }
 }
 
@@ -88,8 +112,13 @@ fn read_check_request(found: &ArgMatches<'_>) -> Request
 {
     let explain = read_flag("explain", found);
     let warn = read_flag("warn", found);
-    if explain || warn {
-        Request::Diagnose(DiagnoseRequest { explain, warn })
+    let brief = read_flag("brief", found);
+    if explain || warn || brief {
+        Request::Diagnose(DiagnoseRequest {
+            explain,
+            warn,
+            brief,
+        })
     } else {
         Request::Check
     }
@@ -114,6 +143,7 @@ fn read_search_request(alloc: Global, found: &ArgMatches<'_>) -> Result<SearchRe
         strong: read_flag("strong", found),
         known: read_flag("known", found),
         progress: read_flag("progress", found),
+        brief: read_flag("brief", found),
         words: read_words(alloc, found)?,
     })
 }
@@ -131,6 +161,7 @@ fn read_ever_request(alloc: Global, found: &ArgMatches<'_>) -> Result<EverReques
         interface,
         strong: read_flag("strong", found),
         progress: read_flag("progress", found),
+        brief: read_flag("brief", found),
         words: read_words(alloc, found)?,
     })
 }
@@ -147,6 +178,7 @@ fn read_after_request(alloc: Global, found: &ArgMatches<'_>) -> Result<AfterRequ
         interface,
         strong: read_flag("strong", found),
         progress: read_flag("progress", found),
+        brief: read_flag("brief", found),
         words: read_words(alloc, found)?,
     })
 }
@@ -166,6 +198,65 @@ fn read_cover_request(alloc: Global, found: &ArgMatches<'_>) -> Result<CoverRequ
         interface,
         strong: read_flag("strong", found),
         progress: read_flag("progress", found),
+        brief: read_flag("brief", found),
+    })
+}
+
+fn read_graph_request(alloc: Global, found: &ArgMatches<'_>) -> Result<GraphRequest, CommandFault>
+    requires { AreReadable (rows_of (found_of found.now)) }
+    ensures is { IfOk result (λ r. graph_from (rows_of (found_of found.now)) ≡ Some (graph_view r)) }
+    ensures bounds { IfOk result HasGraphBounds }
+    ensures fault { IfErr result (IsFaultOfEntries (graph_from (rows_of (found_of found.now)))) }
+{
+    let interface = read_interface(alloc, Question::Graph, found)?;
+    Ok(GraphRequest {
+        terms: read_number_or("terms", DEFAULT_TERMS, found),
+        states: read_number_or("states", DEFAULT_STATES, found),
+        interface,
+        strong: read_flag("strong", found),
+        progress: read_flag("progress", found),
+        brief: read_flag("brief", found),
+    })
+}
+
+fn read_suite_request(alloc: Global, found: &ArgMatches<'_>) -> Result<SuiteRequest, CommandFault>
+    requires { AreReadable (rows_of (found_of found.now)) }
+    ensures is { IfOk result (λ r. suite_from (rows_of (found_of found.now)) ≡ Some (suite_view r)) }
+    ensures bounds { IfOk result HasSuiteBounds }
+    ensures fault { IfErr result (IsFaultOfEntries (suite_from (rows_of (found_of found.now)))) }
+{
+    let interface = read_interface(alloc, Question::Suite, found)?;
+    Ok(SuiteRequest {
+        extra: read_number_or("extra", 0, found),
+        limit: read_number("limit", found),
+        after: read_text(alloc, "after", found)?,
+        terms: read_number_or("terms", DEFAULT_TERMS, found),
+        states: read_number_or("states", DEFAULT_STATES, found),
+        interface,
+        strong: read_flag("strong", found),
+        progress: read_flag("progress", found),
+        brief: read_flag("brief", found),
+    })
+}
+
+fn read_compare_request(
+    alloc: Global,
+    found: &ArgMatches<'_>,
+) -> Result<CompareRequest, CommandFault>
+    requires { AreReadable (rows_of (found_of found.now)) }
+    ensures is { IfOk result (λ r. compare_from (rows_of (found_of found.now)) ≡ Some (compare_view r)) }
+    ensures bounds { IfOk result HasCompareBounds }
+    ensures fault { IfErr result (IsFaultOfEntries (compare_from (rows_of (found_of found.now)))) }
+{
+    let interface = read_interface(alloc, Question::Compare, found)?;
+    Ok(CompareRequest {
+        within: read_flag("within", found),
+        terms: read_number_or("terms", DEFAULT_TERMS, found),
+        states: read_number_or("states", DEFAULT_STATES, found),
+        interface,
+        strong: read_flag("strong", found),
+        progress: read_flag("progress", found),
+        brief: read_flag("brief", found),
     })
 }
 
@@ -255,7 +346,7 @@ fn read_small(name: &str, found: &ArgMatches<'_>) -> Option<u8>
 
 /// The number of the option with this name, or the default if it is not given.
 fn read_number_or(name: &str, default: usize, found: &ArgMatches<'_>) -> usize
-    requires { IfSome (one_of name.now (rows_of (found_of found.now))) (IsNumberIn 1 4294967295) }
+    requires { IfSome (one_of name.now (rows_of (found_of found.now))) (IsNumberIn 0 4294967295) }
     ensures { result ≡ option_map_or number (one_of name.now (rows_of (found_of found.now))) default }
 {
     match read_number(name, found) {
@@ -266,7 +357,7 @@ fn read_number_or(name: &str, default: usize, found: &ArgMatches<'_>) -> usize
 
 /// The number of the option with this name, if it is given.
 fn read_number(name: &str, found: &ArgMatches<'_>) -> Option<u32>
-    requires { IfSome (one_of name.now (rows_of (found_of found.now))) (IsNumberIn 1 4294967295) }
+    requires { IfSome (one_of name.now (rows_of (found_of found.now))) (IsNumberIn 0 4294967295) }
     ensures { result ≡ option_map number (one_of name.now (rows_of (found_of found.now))) }
 {
     found.get_one::<u32>(name)

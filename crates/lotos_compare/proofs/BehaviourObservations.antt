@@ -1,12 +1,11 @@
 -- What is found out about behaviours, and the comparisons of two of them that have no line.
-use Rattle.std.proofs.Common.{◌≡◌, ◌⊎◌, ◌∙◌, ◌≢◌, ◌↔◌, Bool, true, false, List, [], ◌∷◌, ◌++◌, ap, inl, inr, refl, subst, sym}
-use Rattle.lotos_store.specs.Terms.{Term}
+use Rattle.std.proofs.Common.{◌≡◌, ◌∙◌, ◌≢◌, Bool, true, false, List, [], ◌∷◌, ◌++◌, ap, inl, inr, refl, subst, sym}
 use Rattle.lotos_listing.specs.Derivations.{Derives, observed}
 use Rattle.lotos_listing.specs.Order.{Label, internal}
 use Rattle.lotos_listing.proofs.Labels.{is_internal, observed_inside, observed_nil, observed_seen}
 use Rattle.lotos_sets.specs.Behaviours.{Behaviour, CanBeObserved}
 use Rattle.lotos_compare.specs.Comparisons.{AreAlike, AreFailuresIncluded, AreLivelocksIncluded, IsTraceIncluded, StepOf, observations_of}
-use Rattle.lotos_compare.specs.Differences.{ComparisonKind, Difference, Differs, IsLine, Line}
+use Rattle.lotos_compare.specs.Differences.{ComparisonKind, Difference, Differs}
 use Rattle.lotos_compare.specs.Differences as d
 use Rattle.lotos_compare.proofs.Inclusions.{AreObservations, differs_in_none, differs_not, first_differs, first_goes_on, none_alone, none_livelocks, none_refused}
 use Rattle.lotos_compare.proofs.Inclusions.{second_differs, second_goes_on}

@@ -1,5 +1,5 @@
 -- Comparisons without a line, and what is included then.
-use Rattle.std.proofs.Common.{◌≡◌, ◌⊎◌, ℕ, suc, Bool, true, false, List, [], ◌∷◌, ◌++◌, length, refl, subst, sym, arith}
+use Rattle.std.proofs.Common.{◌≡◌, suc, Bool, true, false, List, [], ◌∷◌, ◌++◌, length, refl, subst, sym, arith}
 use Rattle.std.specs.Prelude.{not}
 use Rattle.std.proofs.lemmas.List.{append_assoc, append-nil}
 use Rattle.lotos_check.specs.NameLists.{In}
@@ -7,7 +7,7 @@ use Rattle.lotos_check.proofs.NameTests.{listed, not_listed}
 use Rattle.lotos_listing.specs.Order.{Label}
 use Rattle.lotos_listing.specs.PrefixWalk.{IsAscending}
 use Rattle.lotos_compare.specs.Differences.{ComparisonKind, Difference, Differs, HasNoLine, IsObservedAlone, IsRefusedAlone, IsShared}
-use Rattle.lotos_compare.specs.Differences.{LivelocksAlone, MayRefuse, Observations, OffersFewest}
+use Rattle.lotos_compare.specs.Differences.{LivelocksAlone, Observations, OffersFewest}
 use Rattle.lotos_compare.specs.Differences as d
 use Rattle.lotos_compare.proofs.FewestLabels.{has_label, offers_none}
 

@@ -1,8 +1,7 @@
 -- Where two systems differ: what an observer can find out about one of them and not about the other.
-use Rattle.std.specs.Prelude.{◌≡◌, ◌⊎◌, ◌≤◌, ◌+◌, ℕ, Bool, true, false, List, [], ◌∷◌, ◌++◌, length}
+use Rattle.std.specs.Prelude.{◌≡◌, ◌≤◌, ◌+◌, ℕ, Bool, true, false, List, [], ◌∷◌, ◌++◌, length}
 use Rattle.lotos_check.specs.NameLists.{In}
 use Rattle.lotos_listing.specs.Order.{Before, Below, Label}
-use Rattle.lotos_listing.specs.PrefixWalk.{IsAscending}
 
 -- what an observer can find out about a system
 pub record Observations : Type 1 where

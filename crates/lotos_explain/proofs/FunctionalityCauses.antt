@@ -16,55 +16,77 @@ use Rattle.lotos_check.specs.Scope.{Scope, Declares, here, later, nearest, outwa
 use Rattle.lotos_check.specs.Functionality.{Func, of_stop, of_exit, of_prefix, of_hide, of_choice, of_disable, of_par, of_enable, of_call}
 use Rattle.lotos_explain.specs.declared.functionality_causes.Cause.{Cause}
 use Rattle.lotos_explain.specs.declared.functionality_causes.Leaf.TheVariants as leaf
-use Rattle.lotos_explain.specs.FunctionalityCauses.{IsReached, itself, under_prefix, under_hide, left_choice, right_choice, left_disable, right_disable, left_par, right_par, right_enable, HasCause, IsEnclosing, IsBoundTo, IsDeclared}
+use Rattle.lotos_explain.specs.FunctionalityCauses.{IsReached, itself, under_prefix, under_hide, left_choice, right_choice, left_disable, right_disable, left_par, right_par, right_enable, HasCause, HasCauseAfter, IsEnclosing, IsBoundTo, IsDeclared}
 use Rattle.lotos_text.proofs.DefinitionParts.{name_shown, declared_shown}
 use Rattle.lotos_explain.proofs.SimilarNames.{some_weaker}
 
 module _ (scope : Scope) where
   -- the first of the parts on the way has the functionality
-  func_reached : (f : Functionality) (b t : BehaviourView) → IsReached scope f b t → Func scope b f
-  func_reached f b t (itself h) = h
-  func_reached f b t (under_prefix h r) = h
-  func_reached f b t (under_hide h r) = h
-  func_reached f b t (left_choice h r) = h
-  func_reached f b t (right_choice h r) = h
-  func_reached f b t (left_disable h r) = h
-  func_reached f b t (right_disable h r) = h
-  func_reached f b t (left_par h r) = h
-  func_reached f b t (right_par h r) = h
-  func_reached f b t (right_enable h r) = h
+  func_reached : (f : Functionality) (n : ℕ) (b t : BehaviourView) → IsReached scope f n b t → Func scope b f
+  func_reached f n b t (itself h) = h
+  func_reached f n b t (under_prefix h r) = h
+  func_reached f n b t (under_hide h r) = h
+  func_reached f n b t (left_choice h r) = h
+  func_reached f n b t (right_choice h r) = h
+  func_reached f n b t (left_disable h r) = h
+  func_reached f n b t (right_disable h r) = h
+  func_reached f n b t (left_par h r) = h
+  func_reached f n b t (right_par h r) = h
+  func_reached f n b t (right_enable h r) = h
 
   -- a behaviour has the functionality of its cause
   func_caused : (b : BehaviourView) (c : Cause) → HasCause scope b c → Func scope b c.functionality
-  func_caused b c h = func_reached c.functionality b h.part h.reached
+  func_caused b c h = func_reached c.functionality c.before b h.part h.reached
 
-  module _ (l r : BehaviourView) (c d : Cause) (h : HasCause scope l c) (k : HasCause scope r d) where
+  -- a right operand has the functionality of its cause
+  func_caused_after : (l r : BehaviourView) (c : Cause) → HasCauseAfter scope l r c → Func scope r c.functionality
+  func_caused_after l r c h = func_reached c.functionality h.own r h.part h.reached
+
+  module _ (l r : BehaviourView) (c d : Cause) (h : HasCause scope l c) (k : HasCauseAfter scope l r d) where
     left_func : (f : Functionality) → c.functionality ≡ f → Func scope l f
     left_func f e = subst (Func scope l) e (func_caused l c h)
 
     pub choice_exits : c.functionality ≡ Exit → HasCause scope (choice l r) c
     choice_exits e =
-        let whole = subst (Func scope (choice l r)) (sym e) (of_choice (left_func Exit e) (func_caused r d k)) in
+        let whole = subst (Func scope (choice l r)) (sym e) (of_choice (left_func Exit e) (func_caused_after l r d k)) in
         record { part = h.part; is = h.is; reached = left_choice whole h.reached }
 
     pub disable_exits : c.functionality ≡ Exit → HasCause scope (disable l r) c
     disable_exits e =
-        let whole = subst (Func scope (disable l r)) (sym e) (of_disable (left_func Exit e) (func_caused r d k)) in
+        let whole = subst (Func scope (disable l r)) (sym e) (of_disable (left_func Exit e) (func_caused_after l r d k)) in
         record { part = h.part; is = h.is; reached = left_disable whole h.reached }
 
     pub choice_other : c.functionality ≡ NoExit → HasCause scope (choice l r) d
-    choice_other e = record { part = k.part; is = k.is; reached = right_choice (of_choice (left_func NoExit e) (func_caused r d k)) k.reached }
+    choice_other e =
+        let whole = of_choice (left_func NoExit e) (func_caused_after l r d k) in
+        record {
+          part = k.part;
+          is = k.is;
+          reached = subst (λ n. IsReached scope d.functionality n (choice l r) k.part) (sym k.counted) (right_choice whole k.reached);
+        }
 
     pub disable_other : c.functionality ≡ NoExit → HasCause scope (disable l r) d
-    disable_other e = record { part = k.part; is = k.is; reached = right_disable (of_disable (left_func NoExit e) (func_caused r d k)) k.reached }
+    disable_other e =
+        let whole = of_disable (left_func NoExit e) (func_caused_after l r d k) in
+        record {
+          part = k.part;
+          is = k.is;
+          reached = subst (λ n. IsReached scope d.functionality n (disable l r) k.part) (sym k.counted) (right_disable whole k.reached);
+        }
 
     pub par_never : (s : SyncView) → c.functionality ≡ NoExit → HasCause scope (par l s r) c
     par_never s e =
-        let whole = subst (Func scope (par l s r)) (sym e) (of_par (left_func NoExit e) (func_caused r d k)) in
+        let whole = subst (Func scope (par l s r)) (sym e) (of_par (left_func NoExit e) (func_caused_after l r d k)) in
         record { part = h.part; is = h.is; reached = left_par whole h.reached }
 
     pub par_other : (s : SyncView) → c.functionality ≡ Exit → HasCause scope (par l s r) d
-    par_other s e = record { part = k.part; is = k.is; reached = right_par (of_par (left_func Exit e) (func_caused r d k)) k.reached }
+    par_other s e =
+        let whole = of_par (left_func Exit e) (func_caused_after l r d k) in
+        record {
+          part = k.part;
+          is = k.is;
+          reached = subst (λ n. IsReached scope d.functionality n (par l s r) k.part) (sym k.counted) (right_par whole k.reached);
+        }
 
   -- a prefix has each cause of the behaviour after its action
   pub prefix_caused : (a : Action) (b : BehaviourView) (c : Cause) → HasCause scope b c → HasCause scope (prefix a b) c
@@ -74,9 +96,16 @@ module _ (scope : Scope) where
   pub hide_caused : (gs : List Placed) (b : BehaviourView) (c : Cause) → HasCause scope b c → HasCause scope (hide gs b) c
   hide_caused gs b c h = record { part = h.part; is = h.is; reached = under_hide (of_hide (func_caused b c h)) h.reached }
 
-  -- an enabling has each cause of its right operand
-  pub enable_caused : (l : BehaviourView) (at : ℕ) (r : BehaviourView) (c : Cause) → HasCause scope r c → HasCause scope (enable l at r) c
-  enable_caused l at r c h = record { part = h.part; is = h.is; reached = right_enable (of_enable (func_caused r c h)) h.reached }
+  -- an enabling has each cause of its right operand after the left one
+  pub enable_caused : (l : BehaviourView) (at : ℕ) (r : BehaviourView) (c : Cause) → HasCauseAfter scope l r c →
+      HasCause scope (enable l at r) c
+  enable_caused l at r c h =
+      let whole = of_enable (func_caused_after l r c h) in
+      record {
+        part = h.part;
+        is = h.is;
+        reached = subst (λ n. IsReached scope c.functionality n (enable l at r) h.part) (sym h.counted) (right_enable whole h.reached);
+      }
 
 -- the name is declared by the rest, whose first definition has some number, just if it is by all
 pub record SameDeclared (all : DefinitionListView) (first : ℕ) (n : Name) (rest : DefinitionListView) : Type 0 where
@@ -153,7 +182,7 @@ module _ (n : Name) (near : DefinitionView) (outer : List DefinitionView) where
 
 -- a call has what its definition declares
 pub call_caused : (scope : Scope) (p : Bor Placed) (gs : List Placed) (of : Definition) → IsBoundTo scope p.now.name (definition_view of) →
-    HasCause scope (call p.now gs) (record { functionality = (out-Definition of).functionality; leaf = leaf.Call p })
+    HasCause scope (call p.now gs) (record { functionality = (out-Definition of).functionality; leaf = leaf.Call p; before = 0 })
 call_caused scope p gs of b = record {
   part = call p.now gs;
   is = (gs, refl);
@@ -161,9 +190,9 @@ call_caused scope p gs of b = record {
 }
 
 -- `stop` has the functionality `noexit`, of which it is the cause itself
-pub stop_caused : (scope : Scope) → HasCause scope stop (record { functionality = NoExit; leaf = leaf.Stop })
+pub stop_caused : (scope : Scope) → HasCause scope stop (record { functionality = NoExit; leaf = leaf.Stop; before = 0 })
 stop_caused scope = record { part = stop; is = refl; reached = itself of_stop }
 
 -- `exit` has the functionality `exit`, of which it is the cause itself
-pub exit_caused : (scope : Scope) → HasCause scope exit (record { functionality = Exit; leaf = leaf.Exit })
+pub exit_caused : (scope : Scope) → HasCause scope exit (record { functionality = Exit; leaf = leaf.Exit; before = 0 })
 exit_caused scope = record { part = exit; is = refl; reached = itself of_exit }

@@ -44,6 +44,9 @@ fn byte_advice(what: &Description, rest: &[u8], expected: &[&'static str]) -> &'
         Description::Byte(b'=') => {
             "Write `:=` in a definition; values and guards of full LOTOS are not read here."
         }
+        Description::Byte(b'-') if rest.starts_with(b"->") && expected.contains(&";") => {
+            "Write `;` after a gate, as in `a; stop`."
+        }
         Description::Byte(b'-') if rest.starts_with(b"->") => {
             "Guards of full LOTOS are not read here: write a choice, with a gate for each case."
         }
@@ -60,6 +63,10 @@ fn byte_advice(what: &Description, rest: &[u8], expected: &[&'static str]) -> &'
         Description::Byte(b'/' | b'#' | b'%') => "Write a comment between `(*` and `*)`.",
         Description::Byte(b'{' | b'}') => {
             "Group behaviours by `(` and `)`, and gates by `[` and `]`."
+        }
+        Description::Byte(b'+') => "Write `[]` for a choice.",
+        Description::Byte(b'&') => {
+            "Write `|||` for both side by side, or `|[a]|` for two that meet at the gate `a`."
         }
         Description::Byte(b'*') => "Remove it: no comment is open here, as comments do not nest.",
         Description::Byte(b'>' | b'<') => "Write `>>` for enabling, or `[>` for disabling.",
@@ -84,20 +91,10 @@ fn token_advice(what: &Description, expected: &[&'static str]) -> &'static str {
                 "Put what is missing before it, or remove it."
             }
         }
-        TokenKind::Sign(sign) => sign_advice(sign, expected),
-    }
-}
-
-/// What to do about a sign that is not expected.
-fn sign_advice(sign: Sign, expected: &[&'static str]) -> &'static str {
-    match sign {
-        Sign::Semicolon => {
+        TokenKind::Sign(Sign::Semicolon) => {
             "Write `;` only after a gate or `i`: remove it, or write `>>` after `exit` or a call."
         }
-        Sign::Define if expected.contains(&"behaviour") => {
-            "Write `behaviour` in a specification; `:=` is for processes."
-        }
-        _ => "Put what is missing before it, or remove it.",
+        TokenKind::Sign(_) => "Put what is missing before it, or remove it.",
     }
 }
 
@@ -108,6 +105,14 @@ pub(crate) const HAND_ON: &str =
 /// What to do about a gate in the place of a behaviour.
 pub(crate) const PUT_SEMICOLON: &str =
     "Put `;` after it, and then what comes next; a name without `;` is a call of a process.";
+
+/// What to do about a call of a process that is not visible.
+pub(crate) const MOVE_OUT: &str =
+    "Move its definition out, into a `where` that is around the call too, or give the call its right name.";
+
+/// What to do about a call of the specification.
+pub(crate) const CALL_A_PROCESS: &str =
+    "It is the name of the specification, which is not called: make a process of its behaviour.";
 
 /// What to do about a specification that breaks a static rule.
 pub(crate) fn check_advice(fault: &CheckFault) -> &'static str {

@@ -6,7 +6,7 @@ use crate::open_constructs::closing_of;
 use crate::shown_text::{ByteText, Position, TokenText, WordList, show_line};
 use crate::slips::{Slip, slip_at};
 use crate::token_description::{Description, describe_token};
-use lotos_text::{TEXT_LIMIT, TextFault, Token, TokenKind};
+use lotos_text::{Sign, TEXT_LIMIT, TextFault, Token, TokenKind};
 use std::alloc::{AllocError, Global};
 use std::io::Write;
 
@@ -41,9 +41,12 @@ fn explain_token<E: Write>(
 ) -> Result<(), AllocError> {
     let what = description_of(alloc, text, at)?;
     let expected = expected_at(alloc, text, fault, at)?;
-    let slip = slip_at(alloc, text, at, &what, expected.as_slice())?;
+    let slip = match fault {
+        TextFault::E07(_) => None,
+        _ => slip_at(alloc, text, at, &what, expected.as_slice())?,
+    };
     report_description(text, &what, err);
-    if !expected.is_empty() && !matches!(slip, Some(Slip::Semicolon(_))) {
+    if !expected.is_empty() && !matches!(slip, Some(Slip::Semicolon(_) | Slip::Comma(_))) {
         let words = WordList(expected.as_slice());
         let _ = writeln!(err, "  could be here, among others:{words}");
     }
@@ -68,13 +71,17 @@ fn report_slip<E: Write>(
                 "  Did you mean `{word}`? If not, put what is missing before it."
             );
         }
-        Some(Slip::Semicolon(name)) => {
+        Some(Slip::Semicolon(name)) => report_semicolon(text, what, name, err),
+        Some(Slip::Comma(name)) => {
             let name = TokenText(text, name);
-            let _ = writeln!(err, "  a `;` may be missing between {name} and it");
-            let _ = writeln!(
-                err,
-                "  Put `;` after {name} if it is a gate, or an operator as `[]` if it is a process."
-            );
+            let _ = writeln!(err, "  a `,` may be missing between {name} and it");
+            let _ = writeln!(err, "  Put `,` between the gates of a list.");
+        }
+        Some(Slip::Advice(sentence)) => {
+            let _ = writeln!(err, "  {sentence}");
+        }
+        Some(Slip::Missing(word)) => {
+            let _ = writeln!(err, "  Put `{word}` before it.");
         }
         Some(Slip::Unclosed { opening, name }) => {
             report_unclosed(text, what, opening, name, err);
@@ -84,6 +91,28 @@ fn report_slip<E: Write>(
             let _ = writeln!(err, "  {advice}");
         }
     }
+}
+
+/// Writes that a `;` may be missing after the name. A `(` that follows the name at once may begin the gates of a call.
+fn report_semicolon<E: Write>(text: &[u8], what: &Description, name: Token, err: &mut E) {
+    let is_list = matches!(
+        what,
+        Description::Token(token)
+            if token.kind == TokenKind::Sign(Sign::LeftParenthesis) && token.at == name.end
+    );
+    let name = TokenText(text, name);
+    let _ = writeln!(err, "  a `;` may be missing between {name} and it");
+    let _ = if is_list {
+        writeln!(
+            err,
+            "  Put `;` after {name} if it is a gate; write the gates of a process between `[` and `]`."
+        )
+    } else {
+        writeln!(
+            err,
+            "  Put `;` after {name} if it is a gate, or an operator as `[]` if it is a process."
+        )
+    };
 }
 
 /// Writes where the construct began that is open at the place. A process and the specification have a name.

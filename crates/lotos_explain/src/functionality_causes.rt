@@ -4,7 +4,7 @@ ghost use Rattle.lotos_text.specs.AstView.{BehaviourView, DefinitionView, SyncVi
 ghost use Rattle.lotos_text.specs.AstOf.{behaviour_view, definition_view, definitions_view};
 ghost use Rattle.lotos_text.specs.declared.ast.Placed.{Placed as AnyPlaced};
 ghost use Rattle.lotos_check.specs.Scope.{Declares, Scope};
-ghost use Rattle.lotos_explain.specs.FunctionalityCauses.{HasCause, IsBoundTo, IsCauseAt, IsDeclared, IsEnclosing};
+ghost use Rattle.lotos_explain.specs.FunctionalityCauses.{HasCause, HasCauseAfter, IsBoundTo, IsCauseAt, IsDeclared, IsEnclosing, ends_of};
 ghost use Rattle.lotos_explain.specs.EnclosingDefinitions.{AreScopesOf};
 
 use crate::enclosing_definitions::scopes_at;
@@ -27,6 +27,8 @@ pub enum Leaf<'a> {
 pub struct Cause<'a> {
     pub functionality: Functionality,
     pub leaf: Leaf<'a>,
+    /// How many `stop` and `exit` the behaviour has before the leaf.
+    pub before: usize,
 }
 
 /// What makes the functionality of the definition whose name has the offset. There may be a cause although none is
@@ -71,33 +73,69 @@ fn cause_in<'a>(scopes: &[&'a Definition], behaviour: &'a Behaviour) -> Option<C
         Behaviour::Stop => Some(Cause {
             functionality: Functionality::NoExit,
             leaf: Leaf::Stop,
+            before: 0,
         }),
         Behaviour::Exit => Some(Cause {
             functionality: Functionality::Exit,
             leaf: Leaf::Exit,
+            before: 0,
         }),
         Behaviour::Prefix { body, .. } | Behaviour::Hide { body, .. } => cause_in(scopes, body),
-        Behaviour::Enable { right, .. } => cause_in(scopes, right),
+        Behaviour::Enable { left, right, .. } => cause_after(left, cause_in(scopes, right)),
         Behaviour::Choice { left, right } | Behaviour::Disable { left, right } => {
             let first = cause_in(scopes, left);
-            let second = cause_in(scopes, right);
+            let second = cause_after(left, cause_in(scopes, right));
             either_cause(first, second)
         }
         Behaviour::Par { left, right, .. } => {
             let first = cause_in(scopes, left);
-            let second = cause_in(scopes, right);
+            let second = cause_after(left, cause_in(scopes, right));
             both_cause(first, second)
         }
         Behaviour::Call { name, .. } => call_cause(scopes, name),
     }
 }
 
+/// The cause of a right operand, with the `stop` and `exit` of the left one before its leaf; none if there is none or
+/// these are too many.
+fn cause_after<'a>(left: &Behaviour, right: Option<Cause<'a>>) -> Option<Cause<'a>>
+    ensures { (scope : Scope) (r : BehaviourView) → IfSome right.entry (HasCause scope r) →
+        IfSome result (HasCauseAfter scope (behaviour_view left.now) r) }
+{
+    let cause = right?;
+    let before = count_ends(left)?.checked_add(cause.before)?;
+    Some(Cause {
+        functionality: cause.functionality,
+        leaf: cause.leaf,
+        before,
+    })
+}
+
+/// How many `stop` and `exit` the behaviour has; none if these are too many.
+fn count_ends(behaviour: &Behaviour) -> Option<usize>
+    ensures { IfSome result (λ n. n ≡ ends_of (behaviour_view behaviour.now)) }
+{
+    match behaviour {
+        Behaviour::Stop | Behaviour::Exit => Some(1),
+        Behaviour::Call { .. } => Some(0),
+        Behaviour::Prefix { body, .. } | Behaviour::Hide { body, .. } => count_ends(body),
+        Behaviour::Par { left, right, .. }
+        | Behaviour::Choice { left, right }
+        | Behaviour::Enable { left, right, .. }
+        | Behaviour::Disable { left, right } => {
+            let first = count_ends(left)?;
+            let second = count_ends(right)?;
+            first.checked_add(second)
+        }
+    }
+}
+
 /// The cause of a choice or a disabling, which has exit if either operand has exit.
 fn either_cause<'a>(left: Option<Cause<'a>>, right: Option<Cause<'a>>) -> Option<Cause<'a>>
     ensures of_choice { (scope : Scope) (l r : BehaviourView) → IfSome left.entry (HasCause scope l) →
-        IfSome right.entry (HasCause scope r) → IfSome result (HasCause scope (choice l r)) }
+        IfSome right.entry (HasCauseAfter scope l r) → IfSome result (HasCause scope (choice l r)) }
     ensures of_disable { (scope : Scope) (l r : BehaviourView) → IfSome left.entry (HasCause scope l) →
-        IfSome right.entry (HasCause scope r) → IfSome result (HasCause scope (disable l r)) }
+        IfSome right.entry (HasCauseAfter scope l r) → IfSome result (HasCause scope (disable l r)) }
 {
     let left = left?;
     let right = right?;
@@ -110,7 +148,7 @@ fn either_cause<'a>(left: Option<Cause<'a>>, right: Option<Cause<'a>>) -> Option
 /// The cause of a parallel composition, which has exit only if both operands have exit.
 fn both_cause<'a>(left: Option<Cause<'a>>, right: Option<Cause<'a>>) -> Option<Cause<'a>>
     ensures { (scope : Scope) (l r : BehaviourView) (s : SyncView) → IfSome left.entry (HasCause scope l) →
-        IfSome right.entry (HasCause scope r) → IfSome result (HasCause scope (par l s r)) }
+        IfSome right.entry (HasCauseAfter scope l r) → IfSome result (HasCause scope (par l s r)) }
 {
     let left = left?;
     let right = right?;
@@ -130,6 +168,7 @@ fn call_cause<'a>(scopes: &[&'a Definition], name: &'a Placed) -> Option<Cause<'
     Some(Cause {
         functionality: definition.functionality,
         leaf: Leaf::Call(name),
+        before: 0,
     })
 }
 

@@ -8,6 +8,7 @@
 #![tactic(auto)]
 
 mod advice;
+mod body_ends;
 mod call_bindings;
 mod continuations;
 mod enclosing_definitions;
@@ -16,7 +17,9 @@ mod explanation;
 mod first_declarations;
 mod functionality_causes;
 mod inner_gates;
+mod inner_processes;
 mod line_bounds;
+mod neighbour_advice;
 mod open_constructs;
 mod rule_explanation;
 mod shown_text;

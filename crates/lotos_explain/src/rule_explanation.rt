@@ -1,11 +1,13 @@
 //! The lines that explain a static rule that is broken. Errors of the writer are ignored, and what there is no memory for
 //! is left out.
 
-use crate::advice::{HAND_ON, PUT_SEMICOLON, check_advice};
+use crate::advice::{CALL_A_PROCESS, HAND_ON, MOVE_OUT, PUT_SEMICOLON, check_advice};
+use crate::body_ends::end_among_others;
 use crate::call_bindings::called_definition;
 use crate::first_declarations::{first_gate, first_process};
 use crate::functionality_causes::{Cause, Leaf, functionality_cause};
 use crate::inner_gates::specification_gate;
+use crate::inner_processes::process_inside;
 use crate::shown_text::{Position, show_line};
 use crate::similar_gates::{similar_gate_at_call, similar_gate_in_scope};
 use crate::similar_processes::similar_process_in_scope;
@@ -28,9 +30,10 @@ const SHOWN_CALLS: usize = 12;
 /// Explains a static rule that the specification of a text breaks: the line of its place, what else there is to say about
 /// it, and what to do.
 ///
-/// Said is which name could be meant where one is not declared, and whether it is a gate; which gates the definition has
-/// that is called with another number; where what is declared twice is declared first; what makes a functionality that
-/// is not the declared one; and which unguarded calls go round.
+/// Said is which name could be meant where one is not declared, and whether it is a gate, or a process that is not visible;
+/// which gates the definition has that is called with another number; where what is declared twice is declared first;
+/// what makes a functionality that is not the declared one, and where that is if it could be elsewhere; and which
+/// unguarded calls go round.
 pub fn explain_check_fault<E: Write>(
     alloc: Global,
     text: &[u8],
@@ -43,7 +46,7 @@ pub fn explain_check_fault<E: Write>(
     }
     let advice = match fault {
         CheckFault::E21(gate) => report_gate(alloc, text, specification, gate, err),
-        CheckFault::E22(name) => report_process(alloc, specification, name, err),
+        CheckFault::E22(name) => report_process(alloc, text, specification, name, err),
         _ => {
             report_details(alloc, text, specification, fault, err);
             None
@@ -109,10 +112,11 @@ fn report_gate<E: Write>(
     Some(HAND_ON)
 }
 
-/// Writes whether the name is that of a gate in scope, and the name of a process that could be meant, if one is found.
-/// Returns what to do about a gate.
+/// Writes whether the name is that of a gate in scope, the name of a process that could be meant, if one is found, and
+/// whether a process that is not visible has the name. Returns what to do about that.
 fn report_process<E: Write>(
     alloc: Global,
+    text: &[u8],
     specification: &Specification,
     called: &Placed,
     err: &mut E,
@@ -131,8 +135,31 @@ fn report_process<E: Write>(
             let _ = writeln!(err, "  {name} is a gate here");
             Some(PUT_SEMICOLON)
         }
-        _ => None,
+        _ => report_invisible(text, specification, called, err),
     }
+}
+
+/// Writes where a process of the name is defined that is not visible at the call, if there is one, or that it is the name
+/// of the specification. Returns what to do about that.
+fn report_invisible<E: Write>(
+    text: &[u8],
+    specification: &Specification,
+    called: &Placed,
+    err: &mut E,
+) -> Option<&'static str> {
+    let whole = &specification.whole;
+    if whole.name.name == called.name {
+        return Some(CALL_A_PROCESS);
+    }
+    let (process, around) = process_inside(whole, &called.name)?;
+    let name = called.name.text();
+    let place = Position(text, process.name.at);
+    let outer = around.name.name.text();
+    let _ = writeln!(
+        err,
+        "  {name} is defined at {place}, in the `where` of {outer}, and is not visible here"
+    );
+    Some(MOVE_OUT)
 }
 
 /// Writes the formal gates of a definition, and where it is.
@@ -192,19 +219,31 @@ fn report_cause<E: Write>(
         return;
     }
     if let Ok(Some(cause)) = functionality_cause(alloc, specification, at) {
-        write_cause(text, &cause, err);
+        let place = end_among_others(alloc, text, at, cause.before);
+        write_cause(text, &cause, place.unwrap_or(None), err);
     }
 }
 
-fn write_cause<E: Write>(text: &[u8], cause: &Cause, err: &mut E) {
+/// Writes the cause. `place` is the offset of its `stop` or `exit`, if that is said.
+fn write_cause<E: Write>(text: &[u8], cause: &Cause, place: Option<usize>, err: &mut E) {
     let functionality = match cause.functionality {
         Functionality::Exit => "exit",
         Functionality::NoExit => "noexit",
     };
-    let _ = match cause.leaf {
-        Leaf::Stop => writeln!(err, "  it is `{functionality}` because of a `stop`"),
-        Leaf::Exit => writeln!(err, "  it is `{functionality}` because of an `exit`"),
-        Leaf::Call(called) => writeln!(
+    let _ = match (cause.leaf, place) {
+        (Leaf::Stop, None) => writeln!(err, "  it is `{functionality}` because of a `stop`"),
+        (Leaf::Stop, Some(at)) => writeln!(
+            err,
+            "  it is `{functionality}` because of the `stop` at {}",
+            Position(text, at)
+        ),
+        (Leaf::Exit, None) => writeln!(err, "  it is `{functionality}` because of an `exit`"),
+        (Leaf::Exit, Some(at)) => writeln!(
+            err,
+            "  it is `{functionality}` because of the `exit` at {}",
+            Position(text, at)
+        ),
+        (Leaf::Call(called), _) => writeln!(
             err,
             "  it is `{functionality}` because of the call of {} at {}",
             called.name.text(),

@@ -1,5 +1,7 @@
 //! Slips from which a token may come that is not expected.
 
+use crate::continuations::NAME;
+use crate::neighbour_advice::{Neighbours, advice_by_neighbours};
 use crate::open_constructs::{closing_of, is_closed_by, open_constructs_at};
 use crate::similar_names::similar_word;
 use crate::token_description::Description;
@@ -16,6 +18,12 @@ pub(crate) enum Slip {
     Word(&'static str),
     /// A `;` may be missing after this name, which is just before the token.
     Semicolon(Token),
+    /// A `,` may be missing after this name, which is just before the token.
+    Comma(Token),
+    /// This is to be done.
+    Advice(&'static str),
+    /// This word or sign may be missing before the token.
+    Missing(&'static str),
     /// The construct that this token opens is not closed before. A process and the specification have a name.
     Unclosed { opening: Token, name: Option<Token> },
 }
@@ -35,20 +43,55 @@ pub(crate) fn slip_at(
         return Ok(Some(Slip::Word(word)));
     }
     let before = tokens_of(alloc, &text[..at])?;
-    let may_end = expected.contains(&";") && begins_behaviour(what);
-    match before.last() {
-        Some(name) if may_end && name.kind == TokenKind::Identifier => {
-            return Ok(Some(Slip::Semicolon(*name)));
-        }
-        _ => {}
+    if let Some(slip) = separator_missing(before.as_slice(), what, expected) {
+        return Ok(Some(slip));
     }
     let open = open_constructs_at(alloc, text, at)?;
-    match unclosed_at(open.as_slice(), what, expected) {
-        Some(opening) => Ok(Some(Slip::Unclosed {
-            opening,
-            name: name_after(before.as_slice(), opening),
-        })),
-        None => Ok(None),
+    if let Some(opening) = unclosed_at(open.as_slice(), what, expected) {
+        let name = name_after(before.as_slice(), opening);
+        return Ok(Some(Slip::Unclosed { opening, name }));
+    }
+    let Description::Token(token) = what else {
+        return Ok(None);
+    };
+    let rest = tokens_of(alloc, &text[at..])?;
+    let near = Neighbours {
+        before: before.as_slice(),
+        token: *token,
+        rest: rest.as_slice(),
+        open: open.as_slice(),
+    };
+    Ok(slip_by_neighbours(&near, expected))
+}
+
+/// Whether a `;` or a `,` may be missing, after the last of the tokens before.
+fn separator_missing(
+    before: &[Token],
+    what: &Description,
+    expected: &[&'static str],
+) -> Option<Slip> {
+    let name = before.last()?;
+    if name.kind != TokenKind::Identifier {
+        return None;
+    }
+    if expected.contains(&";") && begins_behaviour(what) {
+        return Some(Slip::Semicolon(*name));
+    }
+    let is_name = matches!(what, Description::Token(token) if token.kind == TokenKind::Identifier);
+    if expected.contains(&",") && is_name {
+        return Some(Slip::Comma(*name));
+    }
+    None
+}
+
+/// What is to be done by the tokens beside the token, or else the one word or sign that could be there.
+fn slip_by_neighbours(near: &Neighbours<'_, '_, '_>, expected: &[&'static str]) -> Option<Slip> {
+    if let Some(advice) = advice_by_neighbours(near, expected) {
+        return Some(Slip::Advice(advice));
+    }
+    match expected {
+        [word] if *word != NAME => Some(Slip::Missing(*word)),
+        _ => None,
     }
 }
 

@@ -40,6 +40,17 @@ pub record IsInterfaceOf (interface : Interface) (own system : System) : Type 0 
   pub known : AreGatesOf own.formals (names_given interface)
   pub seen : IsSeenThrough interface own system
 
+-- the gates of the own lists of both
+abbrev pub gates_of_both : System × System → List Name
+gates_of_both systems = systems.0.formals ++ systems.1.formals
+
+-- the question is about these two systems: the interface leaves them of the others, and each gate that it names is in
+-- the own list of at least one of these
+pub record AreInterfacesOf (interface : Interface) (own systems : System × System) : Type 0 where
+  pub known : AreGatesOf (gates_of_both own) (names_given interface)
+  pub first : IsSeenThrough interface own.0 systems.0
+  pub second : IsSeenThrough interface own.1 systems.1
+
 -- the name is the first one that is no gate of the list
 pub record IsFirstNoGate (gates : List Name) (names : List (List ℕ)) (name : List ℕ) : Type 0 where
   pub before : List (List ℕ)

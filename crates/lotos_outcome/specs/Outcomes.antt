@@ -3,16 +3,17 @@ use Rattle.std.specs.Prelude.{ℕ, Bool, true, false, Option, None, Some, Result
 use Rattle.lotos_outcome.specs.declared.outcome.Ended.{Ended}
 use Rattle.lotos_outcome.specs.declared.outcome.Ended.TheVariants.{Done, Refused, Stopped}
 use Rattle.lotos_outcome.specs.declared.outcome.Stop.{Stop}
-use Rattle.lotos_outcome.specs.declared.outcome.Stop.TheVariants.{Limit, Memory, States, Terms, Write}
+use Rattle.lotos_outcome.specs.declared.outcome.Stop.TheVariants.{Limit, Lines, Memory, States, Terms, Write}
 use Rattle.lotos_outcome.specs.declared.refusal.Refusal.{Refusal}
 use Rattle.lotos_outcome.specs.declared.refusal.Refusal.TheVariants.{E47}
 
--- the status of a stop: 3 at the limit, 4 for too many terms or states, 5 out of memory, 6 if the output cannot be
--- written
+-- the status of a stop: 3 at the limit, 4 for too many terms, states or lines, 5 out of memory, 6 if the output cannot
+-- be written
 abbrev pub stop_status : Stop → ℕ
 stop_status Limit = 3
 stop_status Terms = 4
 stop_status States = 4
+stop_status Lines = 4
 stop_status Memory = 5
 stop_status Write = 6
 
@@ -49,6 +50,7 @@ abbrev pub is_write : Stop → Bool
 is_write Limit = false
 is_write Terms = false
 is_write States = false
+is_write Lines = false
 is_write Memory = false
 is_write Write = true
 

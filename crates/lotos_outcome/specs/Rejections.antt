@@ -1,7 +1,7 @@
 -- What a rejection of the parts of a question means.
 use Rattle.std.specs.Prelude.{ℕ, Bool, false, List, Result, Err, Ok, if◌then◌else◌}
 use Rattle.lotos_check.specs.Flat.{System}
-use Rattle.lotos_check.specs.AcceptedText.{Accepted}
+use Rattle.lotos_check.specs.AcceptedText.{Accepted, AcceptedPair}
 use Rattle.lotos_pattern.specs.declared.fault.PatternFault.{PatternFault}
 use Rattle.lotos_listing.specs.declared.fault.MarkFault.{MarkFault}
 use Rattle.lotos_listing.specs.declared.fault.MarkFault.TheVariants as mark_fault
@@ -14,7 +14,7 @@ use Rattle.lotos_outcome.specs.declared.outcome.Ended.TheVariants as ended
 use Rattle.lotos_outcome.specs.declared.outcome.Stop.TheVariants as stop
 use Rattle.lotos_outcome.specs.declared.refusal.Refusal.{Refusal}
 use Rattle.lotos_outcome.specs.declared.refusal.Refusal.TheVariants as refusal
-use Rattle.lotos_outcome.specs.Interfaces.{IsInterfaceOf}
+use Rattle.lotos_outcome.specs.Interfaces.{AreInterfacesOf, IsInterfaceOf}
 use Rattle.lotos_outcome.specs.RefusalCauses.{is_memory}
 use Rattle.lotos_outcome.specs.declared.rejection.Rejection.{Rejection}
 use Rattle.lotos_outcome.specs.declared.rejection.Rejection.TheVariants.{Refused, Memory}
@@ -24,11 +24,20 @@ abbrev pub IsRejectionBy : (Means : Refusal → Type 0) → Rejection → Type 0
 IsRejectionBy Means (Refused cause) = Means cause
 IsRejectionBy Means Memory = Unit {0}
 
+-- the text is accepted as something of which the interface leaves this
+pub record IsAskedAs {S : Type 0} (Accepts : List ℕ → S → Type 0) (Leaves : Interface → S → S → Type 0)
+    (interface : Interface) (text : List ℕ) (system : S) : Type 0 where
+  pub own : S
+  pub accepted : Accepts text own
+  pub asked : Leaves interface own system
+
 -- the text is accepted as a system of which the interface leaves this one
-pub record IsAskedOf (interface : Interface) (text : List ℕ) (system : System) : Type 0 where
-  pub own : System
-  pub accepted : Accepted text own
-  pub asked : IsInterfaceOf interface own system
+abbrev pub IsAskedOf : Interface → (text : List ℕ) → System → Type 0
+IsAskedOf = IsAskedAs Accepted IsInterfaceOf
+
+-- the text is accepted as two systems of which the interface leaves these two
+abbrev pub AreAskedOf : Interface → (text : List ℕ) → System × System → Type 0
+AreAskedOf = IsAskedAs AcceptedPair AreInterfacesOf
 
 -- the rejection for a fault of the words of a pattern
 abbrev pub pattern_rejection : PatternFault → Rejection

@@ -24,6 +24,8 @@ pub enum Stop {
     Terms,
     /// More states, or more sets of normal forms, were reached than the request allows.
     States,
+    /// A suite has more lines than are written.
+    Lines,
     /// Out of memory.
     Memory,
     /// The output could not be written or flushed.
@@ -57,8 +59,8 @@ impl<F, P> Ended<F, P> {
 
 impl<F: Finding, P> Ended<F, P> {
     /// The exit status: 0 if what was asked for was found, 1 if it was not, 2 if the command was refused, and that of the
-    /// stop if it stopped: 3 at the limit, 4 for too many terms or states, 5 out of memory, 6 for output that cannot be
-    /// written.
+    /// stop if it stopped: 3 at the limit, 4 for too many terms, states or lines, 5 out of memory, 6 for output that
+    /// cannot be written.
     pub fn status(&self) -> u8
         ensures status { result ≡ status_of F.is_yes self.now }
         ensures output { is_unwritten self.now ≡ (result == 6) }
@@ -79,7 +81,7 @@ impl Stop {
     {
         match self {
             Stop::Limit => 3,
-            Stop::Terms | Stop::States => 4,
+            Stop::Terms | Stop::States | Stop::Lines => 4,
             Stop::Memory => 5,
             Stop::Write => 6,
         }

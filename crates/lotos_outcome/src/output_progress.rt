@@ -12,6 +12,9 @@ pub trait OutputProgress: Progress {
     /// Is told that the text is accepted, and what was found of it.
     fn accepted(&mut self, text: &[u8], accepted_text: &AcceptedText);
 
+    /// Is told that the text is refused, or a name of the interface for it.
+    fn refused(&mut self, _text: Vec<u8>) {}
+
     /// Is told that a line of the output is written next.
     fn before_line(&mut self);
 }

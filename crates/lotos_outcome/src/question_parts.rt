@@ -3,8 +3,8 @@ ghost use Rattle.std.specs.Prelude.{◌≡◌, ◌≢◌, IfErr, IfOk, None, OnE
 ghost use Rattle.lotos_check.specs.CheckedView.{system_of};
 ghost use Rattle.lotos_pattern.specs.EverPatterns.{kind_of_words};
 ghost use Rattle.lotos_pattern.specs.Spelling.{PatternOf, texts_of};
-ghost use Rattle.lotos_outcome.specs.QuestionParts.{IsMarkOf, ever_words_of, words_of};
-ghost use Rattle.lotos_outcome.specs.RefusalCauses.{IsGateRefusal, IsMarkRefusal, IsPatternRefusal};
+ghost use Rattle.lotos_outcome.specs.QuestionParts.{IsMarkOf, IsSignedMarkOf, ever_words_of, without_sign, words_of};
+ghost use Rattle.lotos_outcome.specs.RefusalCauses.{IsGateRefusal, IsMarkRefusal, IsPatternRefusal, IsSignedMarkRefusal};
 ghost use Rattle.lotos_outcome.specs.Rejections.{IsRejectionBy, is_input_failure};
 ghost use Rattle.lotos_outcome.specs.UnknownGates.{HasNoUnknownGate};
 
@@ -57,6 +57,35 @@ pub fn read_mark(
     match line {
         Some(line) => Ok(Some(Mark::read(alloc, line.as_str(), strong)?)),
         None => Ok(None),
+    }
+}
+
+/// The mark of the line, which may begin with a sign, if one is given. A line that is not one of a suite is refused with
+/// E46.
+pub fn read_signed_mark(
+    alloc: Global,
+    line: &Option<String>,
+    strong: bool,
+) -> Result<Option<Mark>, Rejection>
+    ensures mark { IfOk result (IsSignedMarkOf strong line.now) }
+    ensures given { OnErr result (line.now ≢ None) }
+    ensures rejected { IfErr result (IsRejectionBy (IsSignedMarkRefusal strong line.now)) }
+    ensures unread { is_input_failure result ≡ false }
+{
+    let Some(line) = line else {
+        return Ok(None);
+    };
+    let bare = without_sign(line.as_str());
+    Ok(Some(Mark::read(alloc, bare, strong)?))
+}
+
+/// The line without its sign, `+` or `-` and a blank, if it begins with one.
+fn without_sign(line: &str) -> &str
+    ensures { result.now ≡ without_sign line.now }
+{
+    match line.strip_prefix("+ ") {
+        Some(rest) => rest,
+        None => line.strip_prefix("- ").unwrap_or(line),
     }
 }
 

@@ -2,6 +2,7 @@
 use Rattle.std.proofs.Common.{◌≡◌, ℕ, ◌+◌, ◌<◌, ◌≤◌, codes, List, [], ◌∷◌, ◌++◌, get_or, length, refl, sym, subst, ap, ◌∙◌, drop, append_assoc, append-nil}
 use Rattle.std.specs.List.{flat_map}
 use Rattle.std.proofs.Math.ListN.{drop_of_length-le}
+use Rattle.std.proofs.lemmas.Grind.{flat_map-append}
 use Rattle.std.proofs.lemmas.List.{drop_more}
 use Rattle.lotos_check.specs.NameLists.{Name}
 use Rattle.lotos_store.specs.declared.label.Label.{Label as TermLabel}
@@ -9,7 +10,7 @@ use Rattle.lotos_terms.specs.TableView.{IsPrintedAs}
 use Rattle.lotos_terms.proofs.PrintedLabels.{one_text}
 use Rattle.lotos_listing.specs.Order.{Label}
 use Rattle.lotos_listing.specs.Question.{ArePrinted, none_printed, more_printed}
-use Rattle.lotos_output.specs.OutputLines.{IsLeft, sequence_text}
+use Rattle.lotos_output.specs.OutputLines.{IsLeft, row_text, sequence_text}
 
 -- the labels from an index on: the one at the index, and those after it
 pub left_from : (labels : List TermLabel) (i : ℕ) (k : TermLabel) → i < length labels → k ≡ get_or labels i k → drop i labels ≡ k ∷ drop (i + 1) labels
@@ -76,6 +77,16 @@ left_none names rest i text whole passed (left, all, made) =
 pub left_joined : (names : List Name) (rest : List TermLabel) (text whole made : List ℕ) → IsLeft names rest text whole →
     ((s : List Label) → ArePrinted names rest s → made ≡ text ++ flat_map (λ m. 32 ∷ m) s) → made ≡ whole
 left_joined names rest text whole made (left, all, is) joined = joined left all ∙ is
+
+-- ---- a line with a mark
+
+-- the labels of a row, with a blank after them, and one label more are a sequence as text
+row_then : (s : List Label) (l : Label) → row_text s ++ l ≡ sequence_text (s ++ l ∷ [])
+row_then [] l = sym (append-nil l)
+row_then (a ∷ rest) l =
+    let spaced : List Label → List ℕ = flat_map (λ m. 32 ∷ m) in
+    append_assoc (a ++ spaced rest) (32 ∷ []) l ∙ append_assoc a (spaced rest) (32 ∷ l)
+    ∙ ap (λ x. a ++ x) (ap (λ y. spaced rest ++ y) (sym (append-nil (32 ∷ l))) ∙ sym (flat_map-append (λ m. 32 ∷ m) rest (l ∷ [])))
 
 -- ---- a line for each label
 

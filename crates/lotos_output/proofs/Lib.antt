@@ -1,4 +1,5 @@
 pub mod FormattedLines
+pub mod AutomatonLines
 pub mod SharedTexts
 pub mod NamedTexts
 pub mod NamedLines

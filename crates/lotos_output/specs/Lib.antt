@@ -1,4 +1,5 @@
 pub mod OutputLines
+pub mod AutomatonText
 pub mod NamedRuns
 pub mod RunNames
 pub mod ItemRuns

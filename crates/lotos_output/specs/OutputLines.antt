@@ -92,6 +92,10 @@ line_of with_run item = sequence_text item.sequence ++ run_text with_run item.ru
 abbrev pub lines_of : (with_run : Bool) → List Item → List ℕ
 lines_of with_run items = flat_map (λ item. line_of with_run item) items
 
+-- the line of a sequence of which something is said by the mark before it, ended by a line feed
+abbrev pub marked_line : (mark : List ℕ) → List Label → List ℕ
+marked_line mark s = mark ++ sequence_text s ++ 10 ∷ []
+
 -- the lines of what can come after a sequence: each label on one, and then `<deadlock>`, if it can end in one
 abbrev pub next_lines : List Label → (dead : Bool) → List ℕ
 next_lines next dead = flat_map (λ l. l ++ 10 ∷ []) next ++ deadlock_line dead

@@ -5,7 +5,7 @@ ghost use Rattle.lotos_listing.specs.Order.{Label as Text};
 ghost use Rattle.lotos_listing.specs.Question.{ArePrinted};
 ghost use Rattle.lotos_store.specs.declared.label.Label.{Label as TermLabel};
 ghost use Rattle.lotos_output.specs.OutputLines.{HasText, IsLabelOfBoth, IsLeft, IsTextOf, functionality_text, next_lines};
-ghost use Rattle.lotos_output.specs.OutputLines.{process_line, round_text, row_text, run_text, sequence_text};
+ghost use Rattle.lotos_output.specs.OutputLines.{marked_line, process_line, round_text, row_text, run_text, sequence_text};
 
 use itoa::Buffer;
 use lotos_check::Process;
@@ -125,7 +125,7 @@ fn equal_labels()
 {}
 
 /// Appends a label's text. A short one is copied byte by byte: that takes less time than a call for the whole.
-fn append_text(bytes: &mut Vec<u8>, text: &str) -> Result<(), AllocError>
+pub(crate) fn append_text(bytes: &mut Vec<u8>, text: &str) -> Result<(), AllocError>
     ensures { OnOk result (bytes.new.items ≡ bytes.old.items ++ text.now) }
 {
     if SHORT_TEXT < text.len() {
@@ -195,6 +195,44 @@ fn append_row(
             line.push_str(" ")
         }
     }
+}
+
+/// The line of a sequence with a label after it, whose text is given: the mark, the labels, separated by one blank each,
+/// and a line feed. The gates have these names.
+pub fn format_marked_line(
+    alloc: Global,
+    mark: &str,
+    gates: &[Name],
+    sequence: &[Label],
+    last: &str,
+) -> Result<Vec<u8>, AllocError>
+    requires { (s : List Text) × ArePrinted gates.now sequence.now s }
+    ensures { IfOk result (λ line. (s : List Text) → ArePrinted gates.now sequence.now s →
+        line.items ≡ marked_line mark.now (s ++ last.now ∷ [])) }
+{
+    let mut line = String::from_str(alloc, mark)?;
+    append_row(alloc, gates, sequence, &mut line)?;
+    line.push_str(last)?;
+    line.push('\n')?;
+    Ok(line.into_bytes())
+}
+
+/// A sequence of which something is said by the mark before it: the mark, and the sequence as text. The gates have these
+/// names.
+pub fn format_marked(
+    alloc: Global,
+    mark: &str,
+    gates: &[Name],
+    sequence: &[Label],
+) -> Result<String, AllocError>
+    requires { (s : List Text) × ArePrinted gates.now sequence.now s }
+    ensures { IfOk result (λ text. (s : List Text) → ArePrinted gates.now sequence.now s →
+        string_bytes text ≡ mark.now ++ sequence_text s) }
+{
+    let text = format_sequence(alloc, gates, sequence)?;
+    let mut line = String::from_str(alloc, mark)?;
+    line.push_str(text.as_str())?;
+    Ok(line)
 }
 
 /// The lines of what can come after a sequence: these labels, and then `<deadlock>` if it can end in one (`dead`). The

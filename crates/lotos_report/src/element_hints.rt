@@ -25,25 +25,30 @@ const LONGEST: usize = 16;
 const LONGEST_JOINED: usize = 80;
 
 /// Says which element a word may be meant as, or after which one it lacks a blank. The number is that of the word. A word
-/// that is an element, or that is not printed as it is, gets no hint.
-pub(crate) fn write_element_hint<E: Write>(alloc: Global, number: usize, word: &str, err: &mut E) {
+/// that is an element, or that is not printed as it is, gets no hint. Returns whether there was one.
+pub(crate) fn write_element_hint<E: Write>(
+    alloc: Global,
+    number: usize,
+    word: &str,
+    err: &mut E,
+) -> bool {
     if word.len() > LONGEST_JOINED || !word.as_bytes().iter().all(|byte| byte.is_ascii_graphic()) {
-        return;
+        return false;
     }
     let Ok(lower) = word.to_ascii_lowercase(alloc) else {
-        return;
+        return false;
     };
     let number = NumberText(number);
     for element in ELEMENT_WORDS {
         if lower.as_str() == element {
-            return;
+            return false;
         }
         if lower.as_str().starts_with(element) {
             let _ = writeln!(
                 err,
                 "lotosseq: word {number}, {word}, lacks a blank after {element}"
             );
-            return;
+            return true;
         }
     }
     if let Ok(Some(element)) = similar_element(alloc, lower.as_str()) {
@@ -51,7 +56,9 @@ pub(crate) fn write_element_hint<E: Write>(alloc: Global, number: usize, word: &
             err,
             "lotosseq: word {number}, {word}, may be meant as {element}"
         );
+        return true;
     }
+    false
 }
 
 /// The first element's word that this one, in lower case, almost is: between the signs, at most two bytes are wrong and

@@ -44,7 +44,7 @@ pub struct ListingStop<'a> {
     pub cause: Stop,
     /// The text of the prefix that reaches too many terms, if that is the cause.
     pub prefix: &'a str,
-    /// The number of terms or sets that was exceeded, if that is the cause.
+    /// The number of terms, sets or lines that was exceeded, if that is the cause.
     pub bound: usize,
 }
 
@@ -54,6 +54,11 @@ pub fn report_stop<E: Write>(err: &mut E, last: &Option<String>, stop: ListingSt
         Some(sequence) => writeln!(err, "lotosseq: stopped after {sequence}: {stop}"),
         None => writeln!(err, "lotosseq: stopped before the first line: {stop}"),
     };
+}
+
+/// Reports why a command stopped that writes all at once, and so wrote nothing.
+pub fn report_stop_unwritten<E: Write>(err: &mut E, stop: ListingStop<'_>) {
+    let _ = writeln!(err, "lotosseq: stopped: {stop}");
 }
 
 /// Reports why a run without a listing failed.
@@ -79,8 +84,37 @@ pub fn report_unread_arguments<E: Write>(err: &mut E, cause: ErrorKind) {
 pub fn report_too_many_states<E: Write>(err: &mut E, states: usize) {
     let _ = writeln!(
         err,
-        "lotosseq: stopped: more than {} states; --states N allows more, and a system that grows for ever has no end",
+        "lotosseq: stopped: more than {} states; --states N allows more",
         NumberText(states)
+    );
+}
+
+/// Reports that a comparison found no difference, and how many pairs of sets it looked at.
+pub fn report_no_difference<E: Write>(err: &mut E, pairs: usize) {
+    let plural = if pairs == 1 { "" } else { "s" };
+    let _ = writeln!(
+        err,
+        "lotosseq: no difference; {} pair{plural} of sets",
+        NumberText(pairs)
+    );
+}
+
+/// Reports that a comparison reached more pairs of sets than this bound.
+pub fn report_too_many_pairs<E: Write>(err: &mut E, pairs: usize) {
+    let _ = writeln!(
+        err,
+        "lotosseq: stopped: more than {} pairs of sets; --states N allows more",
+        NumberText(pairs)
+    );
+}
+
+/// Reports that a comparison stopped at this sequence, which reaches more terms than this bound in one of the two
+/// specifications, the `first` or the `second`.
+pub fn report_terms_of<E: Write>(err: &mut E, terms: usize, sequence: &str, specification: &str) {
+    let terms = NumberText(terms);
+    let _ = writeln!(
+        err,
+        "lotosseq: stopped: more than {terms} terms at {sequence} in the {specification} specification"
     );
 }
 
@@ -138,7 +172,7 @@ impl fmt::Display for ShownText<'_> {
 }
 
 /// Writes a letter of a text.
-fn write_letter<W: fmt::Write>(letter: char, f: &mut fmt::Formatter<W>) -> fmt::Result {
+pub(crate) fn write_letter<W: fmt::Write>(letter: char, f: &mut fmt::Formatter<W>) -> fmt::Result {
     if letter.is_control() && letter != '\n' {
         write!(f, "\\x{:02x}", u32::from(letter))
     } else {
@@ -153,6 +187,10 @@ impl fmt::Display for ListingStop<'_> {
             Stop::Limit => f.write_str("limit reached"),
             Stop::Terms => write!(f, "more than {bound} terms at {}", self.prefix),
             Stop::States => write!(f, "more than {bound} sets; --states N allows more"),
+            Stop::Lines => write!(
+                f,
+                "more than {bound} lines; a smaller --extra or fewer gates give fewer"
+            ),
             Stop::Memory => f.write_str("E99 out of memory"),
             Stop::Write => f.write_str("output cannot be written"),
         }

@@ -2,6 +2,7 @@
 //! there is no memory for is left out.
 
 use crate::element_hints::write_element_hint;
+use lotos_check::{AcceptedText, accept};
 use lotos_command::Interface;
 use lotos_explain::{formal_gate, hidden_gate, similar_name};
 use lotos_outcome::{NumberText, UnknownName};
@@ -74,6 +75,29 @@ pub fn first_name_hint(
 ) -> Option<NameHint> {
     let first = names.first()?;
     hint_for(alloc, first.name, places).ok()
+}
+
+/// The hint for a name that is no gate in the own list of the specification that a text spells; none if the text spells
+/// none that is accepted, or there is no memory for it.
+pub(crate) fn hint_in_text(alloc: Global, text: &[u8], name: &str) -> Option<NameHint> {
+    let AcceptedText {
+        specification,
+        system,
+    } = accept(alloc, text).ok()?;
+    let places = NamePlaces {
+        gates: system.gates(),
+        text,
+        specification: &specification,
+        interface: &Interface::Whole,
+    };
+    hint_for(alloc, name, &places).ok()
+}
+
+impl NameHint {
+    /// The name in upper case.
+    pub(crate) fn name(&self) -> &str {
+        self.name.as_str()
+    }
 }
 
 /// Writes a line for each thing that could be meant.

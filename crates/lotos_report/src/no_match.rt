@@ -16,7 +16,7 @@ const FRONT_WORDS: [&str; 6] = [
 ];
 
 /// The words with which an end begins.
-const END_WORDS: [&str; 5] = [
+pub(crate) const END_WORDS: [&str; 5] = [
     "<deadlock>",
     "<refuses>",
     "<livelock>",
@@ -129,6 +129,6 @@ fn words_before(words: &[String], done: usize) -> usize {
     start
 }
 
-fn is_among(word: &str, others: &[&str]) -> bool {
+pub(crate) fn is_among(word: &str, others: &[&str]) -> bool {
     others.iter().any(|other| word.eq_ignore_ascii_case(other))
 }

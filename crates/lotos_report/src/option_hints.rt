@@ -1,14 +1,18 @@
-//! Hints for an option that a command does not have, though another command has it: why it needs none.
+//! Hints for an option that a command does not have, though another command has it: why it needs none; and for a line that
+//! is taken for an option.
 
 use std::io::Write;
 
 /// How clap's text about an option that a command does not have begins.
 const UNEXPECTED: &str = "error: unexpected argument '--";
 
+/// How clap's text about a word begins that has the sign `-` and a blank first.
+const SIGNED: &str = "error: unexpected argument '- '";
+
 /// A command, options that it does not have, and why it needs none of them.
 type Reason = (&'static str, &'static [&'static str], &'static str);
 
-const REASONS: [Reason; 19] = [
+const REASONS: [Reason; 33] = [
     (
         "search",
         &["states"],
@@ -75,6 +79,44 @@ const REASONS: [Reason; 19] = [
     ),
     ("cover", &["known"], "it has no words"),
     ("cover", &["warn"], WARN),
+    (
+        "graph",
+        &["depth", "length"],
+        "it has all that can be observed, of any length",
+    ),
+    ("graph", &["limit", "after"], "it is written as a whole"),
+    (
+        "graph",
+        &["explain", "hidden"],
+        "it has labels, and no sequences that have runs",
+    ),
+    ("graph", &["known"], "it has no words"),
+    ("graph", &["warn"], WARN),
+    (
+        "suite",
+        &["depth", "length"],
+        "it ends when nothing is missed",
+    ),
+    (
+        "suite",
+        &["explain", "hidden"],
+        "ever --explain or ever --hidden with the labels of a line shows their run",
+    ),
+    ("suite", &["known"], "it has no words"),
+    ("suite", &["warn"], WARN),
+    (
+        "compare",
+        &["depth", "length"],
+        "it compares sequences of any length",
+    ),
+    ("compare", &["limit", "after"], "it writes one line at most"),
+    (
+        "compare",
+        &["explain", "hidden"],
+        "ever --explain or ever --hidden with the words of the line shows its run",
+    ),
+    ("compare", &["known"], "it has no words"),
+    ("compare", &["warn"], WARN),
 ];
 
 const KNOWN: &str = "it always refuses a word that names no gate";
@@ -92,6 +134,19 @@ pub(crate) fn hint_at_option<E: Write>(text: &str, words: &[&str], err: &mut E) 
         return false;
     };
     let _ = writeln!(err, "lotosseq: {command} has no --{option}: {reason}");
+    true
+}
+
+/// Says how a line with the sign `-` is given, if clap's text is about a word that begins as one. Returns whether it was
+/// said.
+pub(crate) fn hint_at_sign<E: Write>(text: &str, err: &mut E) -> bool {
+    if !text.starts_with(SIGNED) {
+        return false;
+    }
+    let _ = writeln!(
+        err,
+        "lotosseq: a line that begins with - goes after an equals sign, as in --after=\"- A\""
+    );
     true
 }
 

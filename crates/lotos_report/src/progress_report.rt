@@ -14,6 +14,10 @@ pub enum Visited {
     Labels,
     /// Sets of normal forms.
     Sets,
+    /// Sets of normal forms, by a command that writes all at once.
+    AllSets,
+    /// Pairs of sets of normal forms.
+    Pairs,
 }
 
 /// The number of visits at the first report.
@@ -74,6 +78,16 @@ impl<'a, E: Write> ProgressReport<'a, E> {
         self.add_work(1);
     }
 
+    /// Notes a visit without a report.
+    pub fn count(&mut self, length: usize) {
+        self.counts.note(length);
+    }
+
+    /// How far the search is.
+    pub fn counts(&self) -> Counts {
+        self.counts
+    }
+
     /// Notes how many terms a prefix reaches, and reports when it is time to.
     pub fn reach(&mut self, terms: usize) {
         self.add_work(terms / TERMS_OF_VISIT);
@@ -120,9 +134,56 @@ fn next_report(visits: usize) -> usize {
     visits.saturating_add(visits.min(MAX_INTERVAL))
 }
 
+/// Says how far a search was when it ended. The set of the empty sequence is counted though it is not visited.
+pub fn report_counts<E: Write>(err: &mut E, counts: Counts) {
+    let length = NumberText(counts.length);
+    let visits = counts.visits;
+    let lines = Counted(counts.lines, "line");
+    let sets = Counted(visits.saturating_add(1), "set");
+    let _ = match counts.visited {
+        Visited::Prefixes => {
+            let prefixes = if visits == 1 { "prefix" } else { "prefixes" };
+            let visits = NumberText(visits);
+            writeln!(
+                err,
+                "lotosseq: at the end: length {length}, {visits} {prefixes}, {lines}"
+            )
+        }
+        Visited::States => {
+            let (steps, states) = (Counted(counts.length, "step"), Counted(visits, "state"));
+            writeln!(err, "lotosseq: at the end: {steps}, {states}")
+        }
+        Visited::Labels => {
+            let labels = Counted(counts.length, "label");
+            writeln!(err, "lotosseq: at the end: {labels}")
+        }
+        Visited::Sets => writeln!(
+            err,
+            "lotosseq: at the end: length {length}, {sets}, {lines}"
+        ),
+        Visited::AllSets => writeln!(err, "lotosseq: at the end: length {length}, {sets}"),
+        // A comparison says itself how many pairs it looked at.
+        Visited::Pairs => Ok(()),
+    };
+}
+
+/// A number of things that have this name.
+#[derive(Clone, Copy, Debug)]
+struct Counted(usize, &'static str);
+
+impl fmt::Display for Counted {
+    fn fmt<W: fmt::Write>(&self, f: &mut fmt::Formatter<W>) -> fmt::Result {
+        write!(f, "{} {}", NumberText(self.0), self.1)?;
+        if self.0 != 1 {
+            f.write_char('s')?;
+        }
+        Ok(())
+    }
+}
+
 /// How far a search is.
 #[derive(Clone, Copy, Debug)]
-struct Counts {
+pub struct Counts {
     visited: Visited,
     /// The number of visits.
     visits: usize,
@@ -178,6 +239,8 @@ impl fmt::Display for Counts {
                 let lines = NumberText(self.lines);
                 write!(f, "length {length}, {visits} sets, {lines} lines")
             }
+            Visited::AllSets => write!(f, "length {length}, {visits} sets"),
+            Visited::Pairs => write!(f, "length {length}, {visits} pairs of sets"),
         }
     }
 }

@@ -9,12 +9,12 @@ use Rattle.lotos_suite.specs.Suites as s
 use Rattle.lotos_suite.proofs.MachineRuns.{can_front, can_or_not, cut_at}
 
 -- the length of the longest of some sequences
-abbrev longest : List (List Label) → ℕ
+abbrev pub longest : List (List Label) → ℕ
 longest [] = 0
 longest (x ∷ xs) = length x + longest xs
 
 -- none of them is longer
-no_longer : (xs : List (List Label)) (x : List Label) → In x xs → length x ≤ longest xs
+pub no_longer : (xs : List (List Label)) (x : List Label) → In x xs → length x ≤ longest xs
 no_longer [] x i = absurd i
 no_longer (y ∷ xs) x (inl same) = let e : length y ≡ length x = ap length same in omega arith
 no_longer (y ∷ xs) x (inr i) = let h = no_longer xs x i in omega arith
@@ -39,11 +39,11 @@ front_of_last (a ∷ t) (b ∷ r) l k y same =
 
 module _ (parts : SuiteParts) where
   -- a bound for the lengths of words
-  abbrev bound : ℕ
+  abbrev pub bound : ℕ
   bound = longest parts.access + (parts.extra + 1) + longest parts.apart
 
   -- no word is longer
-  word_length : (u : List Label) → IsWord parts u → length u ≤ bound
+  pub word_length : (u : List Label) → IsWord parts u → length u ≤ bound
   word_length u word =
       let begins = word.begins in
       let first = no_longer parts.access begins.access begins.leads in
@@ -59,7 +59,7 @@ module _ (parts : SuiteParts) where
 
 module _ (m implementation : Machine) (parts : SuiteParts) where
   -- all labels of a line of a word are a beginning of the word
-  labels_front : (u : List Label) (line : Line) → IsLineOfWord m u line → (y : List Label) × (u ≡ labels_of line ++ y)
+  pub labels_front : (u : List Label) (line : Line) → IsLineOfWord m u line → (y : List Label) × (u ≡ labels_of line ++ y)
   labels_front u (s.can t) (same, can) = ([], same ∙ sym (append-nil t))
   labels_front u (s.cannot t l) ((y, same), can, not_next) = (y, same ∙ sym (append_assoc t (l ∷ []) y))
 
@@ -90,7 +90,7 @@ module _ (m implementation : Machine) (parts : SuiteParts) where
       let (z, is) = front_of_last t r l k y same in can_front implementation 0 t z (subst (CanDo implementation) is passes.0)
 
   -- and the machine itself can do them
-  machine_before : (t : List Label) (u : List Label) (other : Line) (l : Label) (y : List Label) → labels_of other ≡ t ++ l ∷ y →
+  pub machine_before : (t : List Label) (u : List Label) (other : Line) (l : Label) (y : List Label) → labels_of other ≡ t ++ l ∷ y →
       IsLineOfWord m u other → CanDo m t
   machine_before t u (s.can r) l y same (is, can) = can_front m 0 t (l ∷ y) (subst (CanDo m) same can)
   machine_before t u (s.cannot r k) l y same (is, can, not_next) =

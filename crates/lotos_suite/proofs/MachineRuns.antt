@@ -1,6 +1,5 @@
 -- The states to which sequences lead in a machine.
 use Rattle.std.proofs.Common.{◌≡◌, ◌⊎◌, ◌∙◌, ◌<◌, ℕ, List, [], ◌∷◌, ◌++◌, Option, None, Some, ap, inl, inr, refl, subst, sym}
-use Rattle.lotos_check.specs.NameLists.{In}
 use Rattle.lotos_listing.specs.Order.{Label}
 use Rattle.lotos_suite.specs.Machines.{CanDoFrom, IsMachineOver, Machine, onward, state_after}
 

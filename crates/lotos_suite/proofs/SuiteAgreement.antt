@@ -1,16 +1,15 @@
 -- An implementation that agrees on the words of a suite can do the same as the machine.
-use Rattle.std.proofs.Common.{◌≡◌, ◌≢◌, ◌⊎◌, ◌↔◌, ◌∙◌, ◌<◌, ◌≤◌, ◌+◌, ℕ, zero, suc, List, [], ◌∷◌, ◌++◌, Option, None, Some, length, map, ap, arith, inl, inr, refl, subst, sym}
+use Rattle.std.proofs.Common.{◌≡◌, ◌⊎◌, ◌↔◌, ◌∙◌, ◌≤◌, ◌+◌, ℕ, zero, suc, List, [], ◌∷◌, ◌++◌, Option, None, Some, length, map, ap, arith, inl, inr, refl, subst, sym}
 use Rattle.std.specs.Prelude.{slice_get}
 use Rattle.std.proofs.lemmas.Bool.{cases_eq}
 use Rattle.std.proofs.lemmas.List.{append_assoc, append-nil, length-append, length-map}
-use Rattle.std.proofs.lemmas.Option.{slice_get_within}
 use Rattle.lotos_check.specs.NameLists.{In}
-use Rattle.lotos_check.proofs.ListIndices.{get_in, get_map, get_some, in_get}
+use Rattle.lotos_check.proofs.ListIndices.{get_in, get_map, in_get}
 use Rattle.lotos_listing.specs.Order.{Label}
 use Rattle.lotos_suite.specs.Machines.{CanDo, CanDoFrom, IsMachineOver, Machine, state_after}
 use Rattle.lotos_suite.specs.Suites.{AreOf, AreSuiteParts, IsFront, IsWord, SuiteParts}
 use Rattle.lotos_suite.proofs.DistinctNumbers.{AreDifferent, all_in, different_by_index, in_or_not}
-use Rattle.lotos_suite.proofs.MachineRuns.{after_both, can_both, can_or_not, can_rest, first_step, one_number, some_apart, state_below, step_last, step_then}
+use Rattle.lotos_suite.proofs.MachineRuns.{can_both, can_rest, first_step, one_number, some_apart, state_below, step_last, step_then}
 
 -- the number, or 0
 abbrev number_of : Option ℕ → ℕ

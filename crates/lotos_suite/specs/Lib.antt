@@ -1,2 +1,16 @@
+pub mod CoverListings
+pub mod CoverSteps
+pub mod CoverWalks
+pub mod CoverStateOf
 pub mod Machines
 pub mod Suites
+pub mod SuiteLines
+pub mod GraphMachines
+pub mod GraphSuites
+pub mod SuiteResults
+pub mod SuiteTables
+pub mod ApartSearch
+pub mod SuitePrefixes
+pub mod SuiteSearch
+pub mod SuiteLabels
+pub mod GatheredLabels

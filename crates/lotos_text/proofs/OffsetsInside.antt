@@ -1,12 +1,12 @@
 -- The offsets in what a text spells are inside it.
-use Rattle.std.proofs.Common.{ℕ, ◌≤◌, Bool, List, [], ◌∷◌, ◌++◌, length, arith}
+use Rattle.std.proofs.Common.{ℕ, ◌≤◌, Bool, List, [], ◌∷◌, ◌++◌, length, arith, subst}
 use Rattle.std.specs.List.{AllByRecursion}
 use Rattle.lotos_text.specs.AstView.{BehaviourView, DefinitionView, DefinitionListView}
 use Rattle.lotos_text.specs.Lexing.{IsTokenIn, AreTokensIn}
-use Rattle.lotos_text.specs.Grammar.{Names, one_name, more_names, GateList, no_gates, gates, Level, gate, internal, Operator, apply, IsOperator, enable_sign, disable_sign, interleave_sign, full_sign, sync_on_none, sync_on, choice_sign, Spells, stop, exit, parentheses, call, prefix, tighter, operation, hide, DefinitionKind, SpellsDefinition, definition, SpellsWhere, nothing, definitions, SpellsDefinitions, last, another}
+use Rattle.lotos_text.specs.Grammar.{Names, one_name, more_names, GateList, no_gates, gates, Level, gate, internal, Operator, apply, IsOperator, enable_sign, disable_sign, interleave_sign, full_sign, sync_on_none, sync_on, choice_sign, Spells, stop, exit, parentheses, call, prefix, tighter, operation, hide, DefinitionKind, SpellsDefinition, definition, SpellsWhere, nothing, definitions, SpellsDefinitions, last, another, Spelling}
 use Rattle.lotos_text.specs.OffsetsInside.{IsFaultInside, IsBehaviourInside, IsInside, AreInside}
-use Rattle.lotos_text.specs.TextFaults.{IsLexingFault, IsFaultOfText, IsOffsetOfToken}
-use Rattle.lotos_text.specs.Spelled.{Spelled}
+use Rattle.lotos_text.specs.TextFaults.{IsLexingFault, IsFault, IsOffsetOfToken}
+use Rattle.lotos_text.specs.Spelled.{Spelled, SpelledPair}
 use Rattle.lotos_text.specs.declared.fault.TextFault.{TextFault}
 use Rattle.lotos_text.specs.declared.fault.TextFault.TheVariants.{E01, E02, E03, E04, E05, E06, E07, E99}
 use Rattle.lotos_text.specs.declared.token.Token.{Token}
@@ -107,17 +107,6 @@ module _ (text : List ℕ) where
       let inside = token_inside text t (stand_rest text before (t ∷ s.after) stand).0 in
       let offset = s.offset in omega arith
 
-  -- the fault lies inside the text
-  pub fault_inside : (fault : TextFault) → IsFaultOfText text fault → IsFaultInside (length text) fault
-  fault_inside (E01 at) h = byte_inside text at h.fails
-  fault_inside (E02 at) h = comment_inside text at h.fails
-  fault_inside E03 h = tt
-  fault_inside (E04 at) h = placed_within at h.before h.token h.located
-  fault_inside (E05 at) h = placed_within at h.before h.token h.located
-  fault_inside (E06 at) h = let offset = h.offset in omega arith
-  fault_inside (E07 at) h = placed_within at h.before h.token h.located
-  fault_inside (E99 e) h = tt
-
   -- so does the offset at which the text fails to lex
   pub stuck_fault_inside : (fault : TextFault) → IsLexingFault text fault → IsFaultInside (length text) fault
   stuck_fault_inside (E01 at) h = byte_inside text at h.fails
@@ -132,3 +121,23 @@ module _ (text : List ℕ) where
   -- so does the specification
   pub spelled_inside : (whole : DefinitionView) → Spelled text whole → IsInside (length text) whole
   spelled_inside whole s = definition_inside text s.spells (all_stand text s.tokens s.lexes)
+
+  -- so do both of two specifications
+  pub pair_inside : (both : DefinitionView × DefinitionView) → SpelledPair text both → IsInside (length text) both.0 × IsInside (length text) both.1
+  pair_inside both s =
+      let all = subst (AreTokensIn text) s.spells.joined (all_stand text s.tokens s.lexes) in (
+        definition_inside text s.spells.first (stand_front text s.spells.front s.spells.back all),
+        definition_inside text s.spells.second (stand_rest text s.spells.front s.spells.back all),
+      )
+
+module _ {V : Type 0} (Spells : List ℕ → Spelling V) (text : List ℕ) where
+  -- the fault lies inside the text
+  pub fault_inside : (fault : TextFault) → IsFault Spells text fault → IsFaultInside (length text) fault
+  fault_inside (E01 at) h = byte_inside text at h.fails
+  fault_inside (E02 at) h = comment_inside text at h.fails
+  fault_inside E03 h = tt
+  fault_inside (E04 at) h = placed_within text at h.before h.token h.located
+  fault_inside (E05 at) h = placed_within text at h.before h.token h.located
+  fault_inside (E06 at) h = let offset = h.offset in omega arith
+  fault_inside (E07 at) h = placed_within text at h.before h.token h.located
+  fault_inside (E99 e) h = tt

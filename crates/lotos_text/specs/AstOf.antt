@@ -12,6 +12,7 @@ use Rattle.lotos_text.specs.declared.ast.Behaviour.{Behaviour, Stop, Exit, Prefi
 use Rattle.lotos_text.specs.declared.ast.SyncSet.{SyncSet}
 use Rattle.lotos_text.specs.declared.ast.SyncSet.TheVariants.{Gates, All}
 use Rattle.lotos_text.specs.declared.ast.Definition.{Definition, fold-Definition}
+use Rattle.lotos_text.specs.declared.ast.Specification.{Specification}
 
 -- the view of the gates of a parallel expression of the program
 abbrev pub sync_view : SyncSet → SyncView
@@ -43,6 +44,10 @@ definition_view = fold-Definition DefinitionView (λ d. def d.name d.formals.ite
 -- the view of a list of definitions
 abbrev pub definitions_view : List Definition → DefinitionListView
 definitions_view ds = definition_list_view (map definition_view ds)
+
+-- the views of two specifications
+abbrev pub specifications_view : Specification × Specification → DefinitionView × DefinitionView
+specifications_view both = (definition_view both.0.whole, definition_view both.1.whole)
 
 -- the view of a level
 abbrev pub level_view : CodeLevel → Level

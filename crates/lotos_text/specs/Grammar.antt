@@ -172,17 +172,34 @@ mutual
 abbrev pub SpellsSpecification : List ℕ → ℕ → List Token → DefinitionView → Type 0
 SpellsSpecification text = SpellsDefinition text a_specification
 
--- some list of tokens that starts with these spells a specification
-pub record IsSpecificationPrefix (text : List ℕ) (ts : List Token) : Type 0 where
-  pub more : List Token
-  pub nesting : ℕ
-  pub whole : DefinitionView
-  pub spells : SpellsSpecification text nesting (ts ++ more) whole
+-- the tokens spell two specifications, one after the other; the nesting is the greater of the two (own)
+pub record SpellsPair (text : List ℕ) (nesting : ℕ) (ts : List Token) (both : DefinitionView × DefinitionView)
+    : Type 0 where
+  pub front : List Token
+  pub back : List Token
+  pub joined : ts ≡ front ++ back
+  pub first_nesting : ℕ
+  pub second_nesting : ℕ
+  pub first : SpellsSpecification text first_nesting front both.0
+  pub second : SpellsSpecification text second_nesting back both.1
+  pub deeper : nesting ≡ max first_nesting second_nesting
 
--- some list of tokens that starts with these spells a specification of at most this nesting
-pub record IsPrefixWithin (limit : ℕ) (text : List ℕ) (ts : List Token) : Type 0 where
-  pub more : List Token
-  pub nesting : ℕ
-  pub whole : DefinitionView
-  pub spells : SpellsSpecification text nesting (ts ++ more) whole
-  pub within : nesting ≤ limit
+-- what lists of tokens spell, each with its nesting
+abbrev pub Spelling : Type 0 → Type 1
+Spelling V = ℕ → List Token → V → Type 0
+
+module _ {V : Type 0} (Spells : Spelling V) where
+  -- some list of tokens that starts with these spells something
+  pub record IsPrefix (ts : List Token) : Type 0 where
+    pub more : List Token
+    pub nesting : ℕ
+    pub whole : V
+    pub spells : Spells nesting (ts ++ more) whole
+
+  -- some list of tokens that starts with these spells something of at most this nesting
+  pub record IsPrefixWithin (limit : ℕ) (ts : List Token) : Type 0 where
+    pub more : List Token
+    pub nesting : ℕ
+    pub whole : V
+    pub spells : Spells nesting (ts ++ more) whole
+    pub within : nesting ≤ limit

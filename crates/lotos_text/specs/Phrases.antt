@@ -142,3 +142,8 @@ CompleteDefinition text what limit = Preceded (opening_word what) (DefinitionRes
 abbrev pub SpecificationPhrase : List ℕ → NestingLimit → Phrase DefinitionView
 SpecificationPhrase text limit = Sequence (λ whole end. whole) (CompleteDefinition text a_specification limit)
     EndOfInput
+
+-- two complete specifications, and then the end of the input
+abbrev pub PairPhrase : List ℕ → NestingLimit → Phrase (DefinitionView × DefinitionView)
+PairPhrase text limit = Sequence (λ first second. (first, second)) (CompleteDefinition text a_specification limit)
+    (SpecificationPhrase text limit)

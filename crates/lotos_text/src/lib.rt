@@ -1,8 +1,8 @@
 //! The parser of basic LOTOS.
 //!
 //! Basic LOTOS is the part of ISO 8807:1989 without data types. A text is a list of bytes: [`tokens`] lexes it,
-//! [`parse`] returns the AST of the specification that it spells, and [`line_column`] turns an offset into a line and a
-//! column. The definitions that the contracts cite are in `specs/`, the laws over them in [`laws`].
+//! [`parse`] returns the AST of the specification that it spells, [`parse_pair`] those of two, and [`line_column`] turns
+//! an offset into a line and a column. The definitions that the contracts cite are in `specs/`, the laws over them in [`laws`].
 #![tactic(auto)]
 
 mod ast;
@@ -23,6 +23,6 @@ pub use ast::{Action, Behaviour, Definition, Functionality, Placed, Specificatio
 pub use fault::TextFault;
 pub use lexer::{TEXT_LIMIT, tokens};
 pub use name::Name;
-pub use parser::{NESTING_LIMIT, parse};
+pub use parser::{NESTING_LIMIT, parse, parse_pair};
 pub use position::line_column;
 pub use token::{Sign, Token, TokenKind, Word};

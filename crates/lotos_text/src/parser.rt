@@ -1,15 +1,16 @@
 //! The parser of specifications and process definitions.
 ghost use Rattle.std.specs.Prelude.{◌≡◌, ◌<◌, ◌≤◌, [], Some, length, IfOk, IfErr};
 ghost use Rattle.lotos_text.specs.AstView.{DefinitionView};
-ghost use Rattle.lotos_text.specs.AstOf.{definition_kind_view, definition_view, definitions_view};
-ghost use Rattle.lotos_text.specs.Grammar.{defining_sign, closing_word};
+ghost use Rattle.lotos_text.specs.AstOf.{definition_kind_view, definition_view, definitions_view, specifications_view};
+ghost use Rattle.lotos_text.specs.Grammar.{a_specification, closing_word, defining_sign};
 ghost use Rattle.lotos_text.specs.Lexing.{AreTokensIn};
 ghost use Rattle.lotos_text.specs.Limits.{max_nesting};
-ghost use Rattle.lotos_text.specs.Spelled.{Spelled};
-ghost use Rattle.lotos_text.specs.TextFaults.{IsFaultOfText, SpellsNoSpecification};
+ghost use Rattle.lotos_text.specs.Spelled.{Spelled, SpelledPair};
+ghost use Rattle.lotos_text.specs.TextFaults.{IsFaultOfPair, IsFaultOfText, SpellsNoPair, SpellsNoSpecification};
 ghost use Rattle.lotos_text.specs.OffsetsInside.{IsFaultInside, IsInside};
 ghost use Rattle.lotos_text.specs.ParserContracts.{Parses, FailsAtAnyNesting, FailsWithin, FailsAtToken};
-ghost use Rattle.lotos_text.specs.Phrases.{DefinitionRest, HeaderPhrase, WherePhrase, EndOfInput, DefinitionList, SpecificationPhrase};
+ghost use Rattle.lotos_text.specs.Phrases.{CompleteDefinition, DefinitionList, DefinitionRest, EndOfInput, HeaderPhrase};
+ghost use Rattle.lotos_text.specs.Phrases.{PairPhrase, SpecificationPhrase, WherePhrase};
 
 use crate::ast::{Definition, Functionality, Placed, Specification};
 use crate::behaviour_parser::parse_behaviour;
@@ -52,6 +53,48 @@ pub fn parse(alloc: Global, text: &[u8]) -> Result<Specification, TextFault>
     }
 }
 
+/// The ASTs of the two specifications that a text spells, one after the other.
+///
+/// # Errors
+///
+/// As those of [`parse`], of a text that is to spell two specifications: E06 if its tokens only begin them.
+pub fn parse_pair(alloc: Global, text: &[u8]) -> Result<(Specification, Specification), TextFault>
+    ensures spelled { IfOk result (λ found. SpelledPair text.now (specifications_view found)) }
+    ensures only { IfOk result (λ found. (other : DefinitionView × DefinitionView) →
+        SpelledPair text.now other → other ≡ specifications_view found) }
+    ensures fault { IfErr result (IsFaultOfPair text.now) }
+    ensures nothing { IfErr result (SpellsNoPair text.now) }
+    ensures fault_inside { IfErr result (IsFaultInside (length text.now)) }
+    ensures asts_inside { IfOk result (λ found. IsInside (length text.now) (definition_view found.0.whole) ×
+        IsInside (length text.now) (definition_view found.1.whole)) }
+{
+    let tokens = tokens(alloc, text)?;
+    match parse_two(alloc, text, tokens.as_slice()) {
+        Ok((first, second)) => Ok((
+            Specification { whole: first },
+            Specification { whole: second },
+        )),
+        Err(error) => Err(fault_of_error(error, text.len())),
+    }
+}
+
+/// Two complete specifications, after which no token follows.
+fn parse_two<'a>(
+    alloc: Global,
+    text: &[u8],
+    tokens: &'a [Token],
+) -> Result<(Definition, Definition), ParseError<'a>>
+    requires { AreTokensIn text.now tokens.now }
+    ensures parses { IfOk result
+        (λ p. Parses (PairPhrase text.now (Some max_nesting))
+        tokens.now (definition_view p.0, definition_view p.1) []) }
+    ensures fails { IfErr result (FailsWithin (PairPhrase text.now) max_nesting tokens.now) }
+{
+    let (first, rest) = parse_complete(alloc, text, tokens)?;
+    let second = parse_specification(alloc, text, rest)?;
+    Ok((first, second))
+}
+
 /// A complete specification, after which no token follows.
 fn parse_specification<'a>(
     alloc: Global,
@@ -64,6 +107,25 @@ fn parse_specification<'a>(
         tokens.now (definition_view whole) []) }
     ensures fails { IfErr result (FailsWithin (SpecificationPhrase text.now) max_nesting tokens.now) }
 {
+    let (whole, rest) = parse_complete(alloc, text, tokens)?;
+    expect_end(rest)?;
+    Ok(whole)
+}
+
+/// A complete specification, and the tokens after it.
+fn parse_complete<'a>(
+    alloc: Global,
+    text: &[u8],
+    tokens: &'a [Token],
+) -> Result<(Definition, &'a [Token]), ParseError<'a>>
+    requires { AreTokensIn text.now tokens.now }
+    ensures parses { IfOk result
+        (λ p. Parses (CompleteDefinition text.now a_specification (Some max_nesting))
+        tokens.now (definition_view p.0) p.1.now) }
+    ensures rest { IfOk result (λ p. AreTokensIn text.now p.1.now) }
+    ensures fails { IfErr result
+        (FailsWithin (CompleteDefinition text.now a_specification) max_nesting tokens.now) }
+{
     let (_, rest) = expect(tokens, TokenKind::Reserved(Word::SpecificationWord))?;
     let (whole, rest) = parse_definition_rest(
         alloc,
@@ -72,8 +134,7 @@ fn parse_specification<'a>(
         DefinitionKind::Specification,
         rest,
     )?;
-    expect_end(rest)?;
-    Ok(whole)
+    Ok((whole, rest))
 }
 
 /// Succeeds if no tokens are left.

@@ -1,5 +1,5 @@
 -- Ends of calls, whatever is asked and answered.
-use Rattle.std.proofs.Common.{◌≡◌, ◌∙◌, ℕ, ◌+◌, Bool, true, false, List, [], Option, Result, Err, ap, append-nil, arith, inl, inr, refl, subst, sym}
+use Rattle.std.proofs.Common.{◌≡◌, ◌∙◌, ℕ, ◌+◌, Bool, true, false, List, Option, ap, inl, inr, refl, subst, sym}
 use Rattle.std.specs.Prelude.{◌==◌, if◌then◌else◌}
 use Rattle.std.proofs.KnownBytes.{Keeps-refl}
 use Rattle.lotos_text.specs.Limits.{max_text_length}
@@ -10,7 +10,7 @@ use Rattle.lotos_outcome.specs.Calls.{Answered, Answering, Call, EndsAs, IsWritt
 use Rattle.lotos_outcome.specs.Outcomes.{is_unread, is_unreadable, is_unwritten, status_of}
 use Rattle.lotos_outcome.specs.declared.outcome.Ended.{Ended}
 use Rattle.lotos_outcome.specs.declared.outcome.Ended.TheVariants.{Done, Refused, Stopped}
-use Rattle.lotos_outcome.specs.declared.outcome.Stop.TheVariants.{Limit, Memory, States, Terms, Write}
+use Rattle.lotos_outcome.specs.declared.outcome.Stop.TheVariants.{Limit, Lines, Memory, States, Terms, Write}
 use Rattle.lotos_outcome.specs.declared.refusal.Refusal.{Refusal}
 use Rattle.lotos_output.specs.WholeOutput.{EndsWhole}
 use Rattle.lotos_output.specs.WholeOutput.EndsWhole.{broken_off, done}
@@ -33,6 +33,7 @@ module _ {F P : Type 0} (a : Answering F P) where
   ends_as_more R T A B got got' (Stopped Limit place) refused more h = written_more A B _ got got' more h
   ends_as_more R T A B got got' (Stopped Terms place) refused more h = written_more A B _ got got' more h
   ends_as_more R T A B got got' (Stopped States place) refused more h = written_more A B _ got got' more h
+  ends_as_more R T A B got got' (Stopped Lines place) refused more h = written_more A B _ got got' more h
   ends_as_more R T A B got got' (Stopped Memory place) refused more h =
       elim h [ inl none ↦ inl none | inr w ↦ inr (written_more A B _ got got' more w) ]
   ends_as_more R T A B got got' (Stopped Write place) refused more h = written_more A B _ got got' more h
@@ -114,6 +115,7 @@ unwritten_is_six is_yes (Refused cause) = refl
 unwritten_is_six is_yes (Stopped Limit place) = refl
 unwritten_is_six is_yes (Stopped Terms place) = refl
 unwritten_is_six is_yes (Stopped States place) = refl
+unwritten_is_six is_yes (Stopped Lines place) = refl
 unwritten_is_six is_yes (Stopped Memory place) = refl
 unwritten_is_six is_yes (Stopped Write place) = refl
 

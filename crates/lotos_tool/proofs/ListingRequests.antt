@@ -9,9 +9,10 @@ use Rattle.lotos_listing.specs.Question.{IsQuestionOf}
 use Rattle.lotos_length.specs.LengthListings.{IsLengthQuestionOf, LengthQuestion}
 use Rattle.lotos_length.specs.LengthSteps as length
 use Rattle.lotos_length.specs.LengthSteps.{LengthState}
-use Rattle.lotos_cover.specs.CoverListings.{CoverQuestion, IsCoverQuestionOf}
-use Rattle.lotos_cover.specs.CoverSteps as cover
-use Rattle.lotos_cover.specs.CoverSteps.{CoverState}
+use Rattle.lotos_automaton.specs.BoundedBehaviours.{BoundedBehaviour}
+use Rattle.lotos_suite.specs.CoverListings.{IsCoverQuestionOf}
+use Rattle.lotos_suite.specs.CoverSteps as cover
+use Rattle.lotos_suite.specs.CoverSteps.{CoverState}
 use Rattle.lotos_runs.specs.MatchQuestions.{IsMatchQuestionOf, MatchQuestion}
 use Rattle.std.specs.Prelude.{Err, IfOk, Ok, Result}
 use Rattle.lotos_output.specs.ItemRuns.{IsAboutSystem, RunsView, labels, omitted, origins, runs_of, runs_view}
@@ -107,9 +108,9 @@ cover_asked_of request system held mark search question begun = record {
     cover = search.question;
     question_is = refl;
     question = question;
-    strong = ap (λ (q : CoverQuestion). q.behaviour.strong) begun.question;
-    terms = ap (λ (q : CoverQuestion). q.terms) begun.question;
-    states = ap (λ (q : CoverQuestion). q.states) begun.question;
+    strong = ap (λ (q : BoundedBehaviour). q.behaviour.strong) begun.question;
+    terms = ap (λ (q : BoundedBehaviour). q.terms) begun.question;
+    states = ap (λ (q : BoundedBehaviour). q.states) begun.question;
     mark_is = begun.cursor;
   };
   stage = begun.stage;

@@ -1,5 +1,5 @@
 -- The texts of matches with what makes their internal steps.
-use Rattle.std.proofs.Common.{◌≡◌, ◌∙◌, ◌<◌, ◌++◌, ◌∷◌, [], ℕ, List, None, Option, Some, ap, append-nil, length, refl, subst, sym, true}
+use Rattle.std.proofs.Common.{◌≡◌, ◌∙◌, ◌<◌, ◌++◌, [], ℕ, List, None, Some, ap, append-nil, length, subst, sym, true}
 use Rattle.lotos_check.specs.NameLists.{Name}
 use Rattle.lotos_store.specs.Terms.{Term}
 use Rattle.lotos_store.specs.declared.label.Label.{Label as TermLabel}

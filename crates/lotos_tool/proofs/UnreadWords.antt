@@ -1,5 +1,5 @@
 -- Runs without a command: the words make no request, or memory ran out before they were read.
-use Rattle.std.proofs.Common.{◌≡◌, ℕ, Err, List, Ok, Option, Result, refl, subst}
+use Rattle.std.proofs.Common.{◌≡◌, ℕ, Err, List, Ok, Result, refl, subst}
 use Rattle.std.specs.Prelude.{MatchResult}
 use Rattle.std.proofs.KnownBytes.{Keeps-refl}
 use Rattle.lotos_command.specs.CommandFaults.{AreAccepted, IsFaultOf}

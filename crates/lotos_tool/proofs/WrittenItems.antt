@@ -1,5 +1,5 @@
 -- The runs of a listing's items as they are written.
-use Rattle.std.proofs.Common.{◌≡◌, ◌∙◌, ℕ, List, [], ◌∷◌, Option, None, Some, ap, refl, subst, sym, true}
+use Rattle.std.proofs.Common.{◌≡◌, ◌∙◌, ℕ, List, [], ◌∷◌, Option, Some, ap, refl, subst, sym}
 use Rattle.std.specs.Prelude.{MatchOption}
 use Rattle.std.proofs.lemmas.Option.{same_Some}
 use Rattle.lotos_check.specs.NameLists.{Name}
@@ -9,7 +9,7 @@ use Rattle.lotos_terms.specs.Steps.{Step}
 use Rattle.lotos_terms.specs.TableView.{AreGateNames, IsPrintedAs}
 use Rattle.lotos_terms.proofs.PrintedLabels.{one_text}
 use Rattle.lotos_pattern.specs.declared.ever_pattern.EndKind.TheVariants as kinds
-use Rattle.lotos_listing.specs.Derivations.{Derives, MayEnd}
+use Rattle.lotos_listing.specs.Derivations.{Derives}
 use Rattle.lotos_listing.specs.Order.{Label}
 use Rattle.lotos_listing.specs.Question.{ArePrinted, PrintedStep, more_printed, none_printed}
 use Rattle.lotos_origins.specs.Origins.{DerivesByNumber}
@@ -19,8 +19,7 @@ use Rattle.lotos_output.proofs.FormattedLines.{cut_first}
 use Rattle.lotos_output.specs.ItemRuns.{AreRunTexts, CanWriteRun, RunsView, labels, omitted, origins}
 use Rattle.lotos_output.specs.NamedRuns.{IsNamedRun}
 use Rattle.lotos_command.specs.declared.command.Runs.{Runs}
-use Rattle.lotos_command.specs.declared.command.Runs.TheVariants as runs
-use Rattle.lotos_tool.specs.ListingQuestions.{IsLeastRunOf, IsNamedRunOf, IsWrittenRunOf, ListingQuestion, by_cover, by_depth, by_length, matches_of, names_of}
+use Rattle.lotos_tool.specs.ListingQuestions.{IsLeastRunOf, IsWrittenRunOf, ListingQuestion, by_cover, by_depth, by_length, matches_of, names_of}
 use Rattle.lotos_tool.specs.WrittenItems.{AreRunsFor, HasRuns}
 
 -- ---- labels and their texts

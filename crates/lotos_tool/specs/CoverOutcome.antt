@@ -3,8 +3,9 @@ use Rattle.std.specs.Prelude.{◌≡◌, ℕ, List, Option}
 use Rattle.lotos_check.specs.Flat.{System}
 use Rattle.lotos_listing.specs.ListingSteps.{running}
 use Rattle.lotos_listing.specs.Order.{Label}
-use Rattle.lotos_cover.specs.CoverListings.{CoverQuestion, IsCoverQuestionOf}
-use Rattle.lotos_cover.specs.CoverSteps.{CoverState}
+use Rattle.lotos_automaton.specs.BoundedBehaviours.{BoundedBehaviour}
+use Rattle.lotos_suite.specs.CoverListings.{IsCoverQuestionOf}
+use Rattle.lotos_suite.specs.CoverSteps.{CoverState}
 use Rattle.lotos_outcome.specs.Calls.{Answering, Meaning}
 use Rattle.lotos_tool.specs.ListingOutcome.{listing_answering}
 use Rattle.lotos_tool.specs.ListingQuestions.{ListingAsked, asked_by, by_cover, cover_state}
@@ -26,7 +27,7 @@ pub record AreCoverParts (request : CoverRequest) (left left' : Option (List ℕ
 -- it has the request's bounds, and the listing begins after this mark
 pub record IsCoverAskedOf (request : CoverRequest) (system : System) (mark : Option (List Label)) (asked : ListingAsked)
     : Type 0 where
-  pub cover : CoverQuestion
+  pub cover : BoundedBehaviour
   pub question_is : asked.question ≡ by_cover cover
   pub question : IsCoverQuestionOf system cover
   pub strong : cover.behaviour.strong ≡ request.strong

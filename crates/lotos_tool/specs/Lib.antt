@@ -9,5 +9,14 @@ pub mod WrittenItems
 pub mod EverParts
 pub mod AfterOutcome
 pub mod CoverOutcome
+pub mod Halts
+pub mod ExplorationStops
+pub mod ExplorationParts
+pub mod GraphOutcome
+pub mod GraphParts
+pub mod CompareOutcome
+pub mod CompareParts
+pub mod SuiteOutcome
+pub mod SuiteParts
 pub mod AfterParts
 pub mod ProgramRuns

@@ -14,7 +14,7 @@ use Rattle.lotos_tool.specs.ListingQuestions.{IsFirstStop, IsOneSetTooMany, IsOv
 use Rattle.lotos_outcome.specs.declared.outcome.Ended.{Ended}
 use Rattle.lotos_outcome.specs.declared.outcome.Ended.TheVariants.{Done, Stopped}
 use Rattle.lotos_outcome.specs.declared.outcome.Stop.{Stop}
-use Rattle.lotos_outcome.specs.declared.outcome.Stop.TheVariants.{Limit, Memory, States, Terms, Write}
+use Rattle.lotos_outcome.specs.declared.outcome.Stop.TheVariants.{Limit, Lines, Memory, States, Terms, Write}
 
 -- a listing with so many lines was flushed, and is complete; or the flush failed, and it stopped after `last`
 abbrev pub IsFinished : (got got' : Option (List ℕ)) → Option (String Global) → ℕ → Ended Listed ListingPlace → Type 0
@@ -39,6 +39,7 @@ IsHaltCause q cursor failed Terms prefix =
     × IsOversizedPrefix q r × (failed ≡ false)
 IsHaltCause q cursor failed States prefix =
     (r : List Label) × (prefix ≡ None) × IsFirstStop q cursor r × IsOneSetTooMany q r × (failed ≡ false)
+IsHaltCause q cursor failed Lines prefix = ⊥
 IsHaltCause q cursor failed Memory prefix = (prefix ≡ None) × (failed ≡ false)
 IsHaltCause q cursor failed Write prefix = (prefix ≡ None) × (failed ≡ true)
 

@@ -10,6 +10,7 @@ use Rattle.lotos_listing.specs.ListingSteps.{Stage, running, ended, halted}
 use Rattle.lotos_listing.specs.Order.{Label}
 use Rattle.lotos_listing.specs.Question as depths
 use Rattle.lotos_listing.specs.Question.{ArePrinted}
+use Rattle.lotos_listing.specs.Remaining.{remaining}
 use Rattle.lotos_listing.specs.declared.found.Found.{Found}
 use Rattle.lotos_listing.specs.declared.found.Halt.{Halt}
 use Rattle.lotos_listing.specs.declared.found.Halt.TheVariants as halt
@@ -17,10 +18,12 @@ use Rattle.lotos_search.specs.SearchSteps.{SearchState}
 use Rattle.lotos_runs.specs.MatchQuestions.{MatchQuestion, MayEndFor}
 use Rattle.lotos_length.specs.LengthListings as lengths
 use Rattle.lotos_length.specs.LengthSteps.{LengthState}
-use Rattle.lotos_cover.specs.CoverListings as covers
-use Rattle.lotos_cover.specs.CoverSteps.{CoverState}
-use Rattle.lotos_cover.specs.declared.cover_halt.CoverHalt.{CoverHalt}
-use Rattle.lotos_cover.specs.declared.cover_halt.CoverHalt.TheVariants as cover_halt
+use Rattle.lotos_automaton.specs.BoundedBehaviours as bounded
+use Rattle.lotos_automaton.specs.declared.automaton_fault.AutomatonFault.TheVariants as fault
+use Rattle.lotos_suite.specs.CoverListings as covers
+use Rattle.lotos_suite.specs.CoverSteps.{CoverState}
+use Rattle.lotos_suite.specs.declared.cover_halt.CoverHalt.{CoverHalt}
+use Rattle.lotos_suite.specs.declared.cover_halt.CoverHalt.TheVariants as cover_halt
 use Rattle.lotos_output.specs.NamedRuns.{IsNamedRun, writes_runs}
 use Rattle.lotos_tool.specs.declared.listing_halt.ListingHalt.{ListingHalt}
 use Rattle.lotos_tool.specs.declared.listing_halt.ListingHalt.TheVariants.{Failed, Memory, OverStates, OverTerms}
@@ -34,7 +37,7 @@ use Rattle.lotos_command.specs.declared.command.Runs.TheVariants.{Labels, Omitte
 pub data ListingQuestion : Type 0 where
   by_depth : depths.Question → ListingQuestion
   by_length : lengths.LengthQuestion → ListingQuestion
-  by_cover : covers.CoverQuestion → ListingQuestion
+  by_cover : bounded.BoundedBehaviour → ListingQuestion
 
 -- the names, processes, start and pattern of a question by depth
 abbrev pub match_question : depths.Question → MatchQuestion
@@ -84,7 +87,7 @@ HasBoundsOf request (by_cover q) = ⊥
 abbrev pub IsMember : ListingQuestion → List Label → Type 0
 IsMember (by_depth q) s = depths.IsMember q s
 IsMember (by_length q) s = lengths.IsListed q s
-IsMember (by_cover q) s = covers.IsLine q s
+IsMember (by_cover q) s = covers.IsListedLine q s
 
 -- the run is the first of the shortest that put the sequence into the listing; of a listing by length only where it is
 -- wanted
@@ -110,20 +113,20 @@ IsWrittenRunOf Origins q s written = (run : List Label) × IsLeastRunOf q s run 
 abbrev pub IsOversizedPrefix : ListingQuestion → List Label → Type 0
 IsOversizedPrefix (by_depth q) r = depths.IsOversizedPrefix q r
 IsOversizedPrefix (by_length q) r = lengths.IsOversizedPrefix q r
-IsOversizedPrefix (by_cover q) r = covers.IsOversized q r
+IsOversizedPrefix (by_cover q) r = bounded.IsOversized q r
 
 -- the sequence leads to one set of normal forms more than the bound: none does if the listing is by depth or by length,
 -- which have no such bound
 abbrev pub IsOneSetTooMany : ListingQuestion → List Label → Type 0
 IsOneSetTooMany (by_depth q) r = ⊥
 IsOneSetTooMany (by_length q) r = ⊥
-IsOneSetTooMany (by_cover q) r = covers.IsOneSetTooMany q r
+IsOneSetTooMany (by_cover q) r = bounded.IsOneSetTooMany q r
 
 -- what a complete listing is besides: a cover shows everything that can be observed
 abbrev pub IsWhole : ListingQuestion → Type 0
 IsWhole (by_depth q) = ⊤
 IsWhole (by_length q) = ⊤
-IsWhole (by_cover q) = covers.IsCovered q
+IsWhole (by_cover q) = covers.IsCovered q.behaviour
 
 -- the listing stops at the sequence, unless it stops at an earlier one
 abbrev pub IsStopAt : ListingQuestion → List Label → Type 0
@@ -134,6 +137,10 @@ pub record ListingState : Type 0 where
   pub question : ListingQuestion
   pub cursor : Option (List Label)
   pub stage : Stage
+
+-- how many sequences of at most as many labels as a member may have come after the cursor
+abbrev pub remaining_after : ListingState → ℕ
+remaining_after s = remaining (names_of s.question) (most_of s.question) s.cursor
 
 -- what a listing is asked: its question, and the mark after which it begins
 pub record ListingAsked : Type 0 where
@@ -164,9 +171,9 @@ halt_of halt.Failed = Failed
 
 -- a halt of the search for the lines of a cover, as that of a search for the items of a listing
 abbrev pub cover_halt_of : CoverHalt → ListingHalt
-cover_halt_of (cover_halt.OverTerms labels) = OverTerms labels
-cover_halt_of (cover_halt.OverStates labels) = OverStates
-cover_halt_of cover_halt.Memory = Memory
+cover_halt_of (cover_halt.Fault (fault.OverTerms labels)) = OverTerms labels
+cover_halt_of (cover_halt.Fault (fault.OverStates labels)) = OverStates
+cover_halt_of (cover_halt.Fault fault.Memory) = Memory
 cover_halt_of cover_halt.Failed = Failed
 
 module _ (q : ListingQuestion) where

@@ -13,10 +13,13 @@ use Rattle.lotos_command.specs.declared.command.Request.TheVariants as command
 use Rattle.lotos_outcome.specs.Calls.{Meaning, Ran}
 use Rattle.lotos_tool.specs.AfterOutcome.{after_meaning}
 use Rattle.lotos_tool.specs.CheckOutcome.{check_meaning}
+use Rattle.lotos_tool.specs.CompareOutcome.{compare_meaning}
 use Rattle.lotos_tool.specs.CoverOutcome.{cover_meaning}
 use Rattle.lotos_tool.specs.EverOutcome.{ever_meaning}
-use Rattle.lotos_tool.specs.Findings.{always, can_come, happens, has_lines}
+use Rattle.lotos_tool.specs.Findings.{always, are_alike, can_come, happens, has_lines}
+use Rattle.lotos_tool.specs.GraphOutcome.{graph_meaning}
 use Rattle.lotos_tool.specs.SearchOutcome.{search_meaning}
+use Rattle.lotos_tool.specs.SuiteOutcome.{suite_meaning}
 
 module _ (words : List (List ℕ)) (from from' : SourceState) (to to' : SinkState) (status : ℕ) where
   -- the words ask for a command by this kind of request, it ran, and the status is that of its outcome
@@ -68,6 +71,9 @@ pub record ProgramRan (words : List (List ℕ)) (from from' : SourceState) (to t
         ⊎ CommandRan words from from' to to' status command.Ever ever_meaning happens
         ⊎ CommandRan words from from' to to' status command.After after_meaning can_come
         ⊎ CommandRan words from from' to to' status command.Cover cover_meaning has_lines
+        ⊎ CommandRan words from from' to to' status command.Graph graph_meaning always
+        ⊎ CommandRan words from from' to to' status command.Suite suite_meaning has_lines
+        ⊎ CommandRan words from from' to to' status command.Compare compare_meaning are_alike
         ⊎ NoCommandRan words from from' to to' status
     -- at most one byte more than a text may have was taken from the reader
     pub given : from'.given ≤ from.given + (max_text_length + 1)

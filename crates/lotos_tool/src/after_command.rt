@@ -178,6 +178,7 @@ impl Command for AfterRequest {
             }),
             interface: &self.interface,
             reports_progress: self.progress,
+            brief: self.brief,
             visited: Visited::Labels,
         }
     }

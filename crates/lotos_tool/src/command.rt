@@ -6,7 +6,9 @@ use crate::search_observer::{Noted, Observed, SearchObserver};
 use lotos_device::{Sink, Source};
 use lotos_listing::Searched;
 use lotos_outcome::{Ended, Finding, OutputProgress, Rejection, end_of};
-use lotos_report::{Messages, MutedStream, hint_after_refusal};
+use lotos_report::{
+    Messages, MutedStream, RefusedCommand, Visited, hint_after_refusal, report_counts,
+};
 use std::alloc::Global;
 use std::io::Write;
 
@@ -84,6 +86,9 @@ pub trait Command {
         searched: &Option<Searched>,
         err: &mut E,
     );
+
+    /// Says what its words mean, if that is often taken otherwise where it ends so.
+    fn note<E: Write>(&self, _ended: &Ended<Self::Found, Self::Place>, _err: &mut E) {}
 }
 
 /// Reads a specification and writes the answer to the question that a command asks of it.
@@ -130,12 +135,37 @@ pub(crate) fn run_command<C: Command, R: Source, W: Sink, E: Write>(
     ensures { Ran (C.meaning command.now) C.Found.is_yes (R.state reader.old) (R.state reader.new)
         (W.state out.old) (W.state out.new) result }
 {
-    let observed = command.observed();
-    let mut observer = SearchObserver::new(alloc, observed, messages);
+    let mut observer = SearchObserver::new(alloc, command.observed(), messages);
     let ended = answer(alloc, command, reader, out, &mut observer);
-    let Noted { hint, searched } = observer.finish();
+    let noted = observer.finish();
     let mut stream = MutedStream::new(&mut messages.stream, out.is_unread());
-    command.report(&ended, &searched, &mut stream);
-    hint_after_refusal(alloc, observed.words, ended.refusal(), &hint, messages);
+    report_command(alloc, command, &ended, &noted, &mut stream);
     ended.status()
+}
+
+/// Reports how a command ended, with a hint if it is refused for what may be meant otherwise. A terminal is told more:
+/// what explains the refusal; or what the words mean, and how far the search was.
+fn report_command<C: Command, E: Write>(
+    alloc: Global,
+    command: &C,
+    ended: &Ended<C::Found, C::Place>,
+    noted: &Noted,
+    err: &mut E,
+) {
+    command.report(ended, &noted.searched, err);
+    let observed = command.observed();
+    if let Some(refusal) = ended.refusal() {
+        let refused = RefusedCommand {
+            asked: observed.words,
+            hint: &noted.hint,
+            text: noted.text.as_slice(),
+            explains: noted.explains,
+        };
+        hint_after_refusal(alloc, &refused, refusal, err);
+    } else if noted.explains {
+        command.note(ended, err);
+        if observed.reports_progress || matches!(observed.visited, Visited::States) {
+            report_counts(err, noted.counts);
+        }
+    }
 }

@@ -10,14 +10,14 @@ use crate::listing_output::{ListingOptions, nowhere, report_listing, unstarted, 
 use crate::search_observer::Observed;
 use lotos_check::Checked;
 use lotos_command::{CoverRequest, Runs};
-use lotos_cover::CoverSearch;
-use lotos_cover::laws::begun_cover_search_has_question;
 use lotos_device::{Sink, Source};
 use lotos_listing::{Mark, Searched};
 use lotos_normal::NormalTable;
 use lotos_outcome::{Ended, OutputProgress, Rejection, Stop, read_asked, read_mark};
 use lotos_output::ItemRuns;
 use lotos_report::Visited;
+use lotos_suite::CoverSearch;
+use lotos_suite::laws::begun_cover_search_has_question;
 use std::alloc::{AllocError, Global};
 use std::io::Write;
 
@@ -44,10 +44,10 @@ fn begin_cover(
     Ok(search)
 }
 
-/// `cover` writes for each set of normal forms that sequences of observable labels reach the first of these sequences,
-/// with each label that can come next; of the sequences made so those with which no longer one begins, each once, shorter
-/// ones first, then in the order of their labels. With a mark only the lines after it are written. It stops when as many
-/// lines as the limit are written, and at the first sequence that reaches more normal forms than the request allows or
+/// `cover` writes for each class of sequences after which the same can be observed the first of these sequences, with
+/// each label that can come next; of the sequences made so those with which no longer one begins, each once, shorter ones
+/// first, then in the order of their labels. With a mark only the lines after it are written. It stops when as many lines
+/// as the limit are written. It writes nothing if some sequence reaches more normal forms than the request allows, or
 /// leads to one set of them more than it allows.
 impl Command for CoverRequest {
     ghost use Rattle.lotos_check.specs.CheckedView.{system_of};
@@ -107,6 +107,7 @@ impl Command for CoverRequest {
             words: None,
             interface: &self.interface,
             reports_progress: self.progress,
+            brief: self.brief,
             visited: Visited::Sets,
         }
     }

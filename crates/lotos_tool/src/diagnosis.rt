@@ -16,9 +16,8 @@ use crate::findings::Processes;
 use lotos_check::{Checked, check_parsed, parse_text};
 use lotos_command::DiagnoseRequest;
 use lotos_device::{Sink, Source};
-use lotos_explain::{explain_check_fault, explain_text_fault};
-use lotos_outcome::{Ended, Refusal, Rejection, end_of, read_input, reject};
-use lotos_report::{MutedStream, report_end, write_warnings};
+use lotos_outcome::{Ended, Rejection, end_of, read_input, reject};
+use lotos_report::{MutedStream, explain_fault, report_end, write_warnings};
 use lotos_text::Specification;
 use lotos_warn::warnings;
 use std::alloc::Global;
@@ -147,26 +146,7 @@ fn report_rejection<E: Write>(
     let ended = end_of(rejection, ());
     report_end(err, &ended);
     if asked.explain {
-        explain(alloc, text, specification, ended.refusal(), err);
+        explain_fault(alloc, text, specification, ended.refusal(), err);
     }
     ended
-}
-
-/// Explains why a text is refused, if a fault of the text is why.
-fn explain<E: Write>(
-    alloc: Global,
-    text: &[u8],
-    specification: Option<&Specification>,
-    refusal: Option<&Refusal>,
-    err: &mut E,
-) {
-    match (refusal, specification) {
-        (Some(Refusal::Text { fault, .. }), _) => {
-            explain_text_fault(alloc, text, fault, err);
-        }
-        (Some(Refusal::Check { fault, .. }), Some(specification)) => {
-            explain_check_fault(alloc, text, specification, fault, err);
-        }
-        _ => {}
-    }
 }

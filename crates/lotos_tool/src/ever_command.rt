@@ -34,7 +34,8 @@ use lotos_output::{
 };
 use lotos_pattern::EverPattern;
 use lotos_report::{
-    AskedWords, Visited, WordCommand, report_end, report_no_match, report_too_many_states,
+    AskedWords, Visited, WordCommand, note_empty_pattern, note_first_labels, report_end,
+    report_no_match, report_too_many_states,
 };
 use lotos_runs::laws::table_has_match_question;
 use lotos_terms::Label;
@@ -283,6 +284,7 @@ impl Command for EverRequest {
             }),
             interface: &self.interface,
             reports_progress: self.progress,
+            brief: self.brief,
             visited: Visited::States,
         }
     }
@@ -302,6 +304,14 @@ impl Command for EverRequest {
                 ..
             } => report_too_many_states(err, self.states),
             _ => report_end(err, ended),
+        }
+    }
+
+    fn note<E: Write>(&self, ended: &Ended<Occurrence, Option<Occurrence>>, err: &mut E) {
+        match ended {
+            Ended::Done(Occurrence::Ever) => note_empty_pattern(self.words.as_slice(), err),
+            Ended::Done(Occurrence::Never) => note_first_labels(self.words.as_slice(), err),
+            _ => {}
         }
     }
 }

@@ -1,5 +1,6 @@
 //! What the commands find, and what is known of the places where they stop.
 
+use lotos_compare::Side;
 use lotos_outcome::Finding;
 
 /// What a listing finds: its lines. It is what was asked for if there are any.
@@ -47,6 +48,33 @@ pub enum Continuation {
     },
 }
 
+/// The automaton of all that can be observed, which is what was asked for.
+#[derive(Clone, Copy, Debug)]
+pub struct AutomatonSize {
+    /// How many states it has.
+    pub states: usize,
+    /// How many transitions it has.
+    pub transitions: u128,
+}
+
+/// What two specifications are found to be. That they do not differ is what was asked for.
+#[derive(Clone, Copy, Debug, PartialEq, Eq)]
+pub enum Compared {
+    /// They differ, and the line of the first difference was written.
+    Differ,
+    /// They do not. So many pairs of sets of normal forms came up.
+    Alike(usize),
+}
+
+/// Where a comparison stopped.
+#[derive(Debug, Drop)]
+pub struct ComparedPlace {
+    /// The specification in which the sequence reaches too many terms, if that is why it stopped.
+    pub side: Option<Side>,
+    /// The text of the sequence.
+    pub sequence: String,
+}
+
 impl Finding for Listed {
     ghost use Rattle.lotos_tool.specs.Findings.{has_lines};
 
@@ -89,6 +117,29 @@ impl Finding for Continuation {
         match self {
             Continuation::Followed => true,
             Continuation::CannotCome { .. } => false,
+        }
+    }
+}
+
+impl Finding for AutomatonSize {
+    ghost use Rattle.lotos_tool.specs.Findings.{always};
+
+    ghost is_yes = { always };
+
+    fn is_yes(&self) -> bool {
+        true
+    }
+}
+
+impl Finding for Compared {
+    ghost use Rattle.lotos_tool.specs.Findings.{are_alike};
+
+    ghost is_yes = { are_alike };
+
+    fn is_yes(&self) -> bool {
+        match self {
+            Compared::Differ => false,
+            Compared::Alike(_) => true,
         }
     }
 }

@@ -1,7 +1,8 @@
 //! Why the search of a listing stops before its end.
 
-use lotos_cover::CoverHalt;
+use lotos_automaton::AutomatonFault;
 use lotos_listing::Halt;
+use lotos_suite::CoverHalt;
 use lotos_terms::Label;
 
 /// Why the search of a listing stopped before its end.
@@ -41,9 +42,11 @@ impl From<CoverHalt> for ListingHalt {
 
     fn from(halt: CoverHalt) -> ListingHalt {
         match halt {
-            CoverHalt::OverTerms(sequence) => ListingHalt::OverTerms(sequence),
-            CoverHalt::OverStates(_) => ListingHalt::OverStates,
-            CoverHalt::Memory => ListingHalt::Memory,
+            CoverHalt::Fault(AutomatonFault::OverTerms(sequence)) => {
+                ListingHalt::OverTerms(sequence)
+            }
+            CoverHalt::Fault(AutomatonFault::OverStates(_)) => ListingHalt::OverStates,
+            CoverHalt::Fault(AutomatonFault::Memory) => ListingHalt::Memory,
             CoverHalt::Failed => ListingHalt::Failed,
         }
     }

@@ -20,7 +20,7 @@ ghost use Rattle.lotos_device.specs.ByteOutput.{AppendsPart};
 
 use crate::findings::{Listed, ListingPlace};
 use crate::listing_halt::ListingHalt;
-use crate::listing_search::{ListingSearch, items_decrease_remaining};
+use crate::listing_search::ListingSearch;
 use lotos_command::Runs;
 use lotos_device::{DeviceFailed, Sink, write_bytes};
 use lotos_listing::Found;
@@ -63,7 +63,6 @@ pub fn write_listing<S: ListingSearch, W: Sink, P: OutputProgress>(
         (W.state writer.old).written (W.state writer.new).written result }
     ensures failed { (W.state writer.new).has_failed ≡ is_unwritten result }
 {
-    items_decrease_remaining();
     strict_order();
     label_text_is_unique();
     let mut last = None;
@@ -119,7 +118,11 @@ pub fn unstarted() -> Ended<Listed, ListingPlace>
 }
 
 /// A listing that stopped for this cause after its last line, or at a prefix.
-fn stopped(cause: Stop, last: Option<String>, prefix: Option<String>) -> Ended<Listed, ListingPlace>
+pub(crate) fn stopped(
+    cause: Stop,
+    last: Option<String>,
+    prefix: Option<String>,
+) -> Ended<Listed, ListingPlace>
     ensures { result ≡ Stopped cause (record { last = last; prefix = prefix }) }
 {
     let place = ListingPlace { last, prefix };
@@ -208,7 +211,7 @@ fn write_item<S: ListingSearch, W: Sink>(
 }
 
 /// Whether there is a limit, and it is this number of lines.
-fn is_at_limit(lines: u64, limit: Option<u32>) -> bool
+pub(crate) fn is_at_limit(lines: u64, limit: Option<u32>) -> bool
     ensures at { result ≡ is_at_limit lines limit }
     ensures small { IsSmall limit }
 {

@@ -1,32 +1,30 @@
 //! The searches for the items of a listing, by depth, by length and of a cover, as one.
-ghost use Rattle.std.specs.Prelude.{◌<◌, List, Option, Some};
-ghost use Rattle.lotos_listing.specs.Order.{Label as Text};
-ghost use Rattle.lotos_listing.specs.Remaining.{remaining};
-ghost use Rattle.lotos_tool.specs.ListingQuestions.{IsNextItem, ListingQuestion, most_of, names_of};
-
 use crate::listing_halt::ListingHalt;
-use lotos_cover::CoverSearch;
-use lotos_cover::laws::lines_decrease_remaining;
 use lotos_length::LengthSearch;
 use lotos_length::laws::items_by_length_decrease_remaining;
-use lotos_listing::{Found, Progress, laws};
+use lotos_listing::laws::items_decrease_remaining;
+use lotos_listing::{Found, Progress};
 use lotos_search::Search;
+use lotos_suite::CoverSearch;
+use lotos_suite::laws::lines_decrease_remaining;
 use lotos_text::Name;
 
 /// A search for the items of a listing.
 pub(crate) trait ListingSearch {
-    ghost use Rattle.std.specs.Prelude.{◌≡◌};
-    ghost use Rattle.lotos_tool.specs.ListingQuestions.{ListingState, NextReturns, names_of};
+    ghost use Rattle.std.specs.Prelude.{◌≡◌, ◌<◌, IfOk, IfSome};
+    ghost use Rattle.lotos_tool.specs.ListingQuestions.{ListingState, NextReturns, names_of, remaining_after};
 
     /// Its question; the last item that it returned, or else the mark; and its stage.
     ghost state: { Self → ListingState };
 
     /// The next item, or `None` at the end of the listing. Halts at the first sequence at which the listing stops, if no
     /// further item comes before it, and when memory runs out. The observer is told of each prefix but the empty one
-    /// before the search explores it.
+    /// before the search explores it. After an item fewer sequences remain than before it.
     fn next_item<P: Progress>(&mut self, progress: &mut P) -> Result<Option<Found>, ListingHalt>
         ensures same { (state self.new).question ≡ (state self.old).question }
-        ensures next_returns { NextReturns (state self.old) result (state self.new) };
+        ensures next_returns { NextReturns (state self.old) result (state self.new) }
+        ensures fewer { IfOk result (λ o. IfSome o (λ _.
+            remaining_after (state self.new) < remaining_after (state self.old))) };
 
     /// The names of the gates, in the order of their numbers.
     fn gates(&self) -> &[Name]
@@ -39,6 +37,7 @@ impl ListingSearch for Search {
     ghost state = { depth_state };
 
     fn next_item<P: Progress>(&mut self, progress: &mut P) -> Result<Option<Found>, ListingHalt> {
+        items_decrease_remaining();
         Ok(self.next_with_progress(progress)?)
     }
 
@@ -53,6 +52,7 @@ impl ListingSearch for LengthSearch {
     ghost state = { length_state };
 
     fn next_item<P: Progress>(&mut self, progress: &mut P) -> Result<Option<Found>, ListingHalt> {
+        items_by_length_decrease_remaining();
         Ok(self.next_with_progress(progress)?)
     }
 
@@ -67,21 +67,12 @@ impl ListingSearch for CoverSearch {
     ghost state = { cover_state };
 
     fn next_item<P: Progress>(&mut self, progress: &mut P) -> Result<Option<Found>, ListingHalt> {
+        lines_decrease_remaining();
+        self.recall_closed();
         Ok(self.next_with_progress(progress)?)
     }
 
     fn gates(&self) -> &[Name] {
         self.gates()
     }
-}
-
-/// After the next item fewer sequences remain than after the cursor.
-pub(crate) fn items_decrease_remaining()
-    ensures { (q : ListingQuestion) (cursor : Option (List Text)) (s run : List Text) →
-        IsNextItem q cursor s run →
-        remaining (names_of q) (most_of q) (Some s) < remaining (names_of q) (most_of q) cursor }
-{
-    laws::items_decrease_remaining();
-    items_by_length_decrease_remaining();
-    lines_decrease_remaining();
 }

@@ -6,7 +6,6 @@ ghost use Rattle.lotos_tool.specs.CheckOutcome.{check_meaning};
 ghost use Rattle.lotos_tool.specs.Findings.{always};
 ghost use Rattle.lotos_tool.specs.ProgramRuns.{IsAnswerTo, ProgramRan, TextWritten};
 
-use crate::check_command::check_text;
 use crate::command::run_command;
 use crate::diagnosis::diagnose;
 use lotos_command::{CommandFault, DiagnoseRequest, Request, request};
@@ -14,17 +13,17 @@ use lotos_device::{DeviceFailed, Sink, Source};
 use lotos_outcome::Stop;
 use lotos_output::write_and_flush;
 use lotos_report::{
-    Messages, MutedStream, hint_after_fault, hint_without_words, report_end, report_failure,
-    report_keyboard, report_text,
+    Messages, MutedStream, hint_after_fault, report_failure, report_keyboard, report_text,
 };
 use std::alloc::Global;
 use std::io::Write;
 
 /// Runs the command that the words ask for and returns its exit status: 0 for a complete output with lines, an accepted
-/// specification, a match, a sequence that can be observed, help, or the version; 1 for a listing without lines, no
-/// match, or a sequence that cannot be observed; 2 for words, a pattern, a mark, or a specification that is refused, or
-/// input that cannot be read; 3 at the limit of lines; 4 for a prefix with too many terms, or too many states; 5 out of
-/// memory; 6 for output that cannot be written.
+/// specification, a match, a sequence that can be observed, specifications that do not differ, help, or the version; 1
+/// for a listing without lines, no match, a sequence that cannot be observed, or specifications that differ; 2 for words, a
+/// pattern, a mark, or a specification that is refused, or input that cannot be read; 3 at the limit of lines; 4 for a
+/// prefix with too many terms, too many states, or a suite with too many lines; 5 out of memory; 6 for output that cannot
+/// be written.
 ///
 /// The first of the words is the program's own name. The lines of the command, or the help or the version if the words
 /// ask for it, go to `out`, and every message to `messages`, whose errors change no status. At most one byte more than a
@@ -48,6 +47,9 @@ pub fn run<R: Source, W: Sink, E: Write>(
         Ok(Request::Ever(asked)) => run_command(alloc, &asked, reader, out, messages),
         Ok(Request::After(asked)) => run_command(alloc, &asked, reader, out, messages),
         Ok(Request::Cover(asked)) => run_command(alloc, &asked, reader, out, messages),
+        Ok(Request::Graph(asked)) => run_command(alloc, &asked, reader, out, messages),
+        Ok(Request::Suite(asked)) => run_command(alloc, &asked, reader, out, messages),
+        Ok(Request::Compare(asked)) => run_command(alloc, &asked, reader, out, messages),
         Err(fault) => end_without_command(&fault, words, out, &mut messages.stream),
     }
 }
@@ -64,17 +66,16 @@ fn run_check<R: Source, W: Sink, E: Write>(
     ensures { Ran check_meaning always (R.state reader.old) (R.state reader.new) (W.state out.old)
         (W.state out.new) result }
 {
-    report_keyboard(messages);
-    let ended = check_text(alloc, reader, out);
-    report_end(
-        &mut MutedStream::new(&mut messages.stream, out.is_unread()),
-        &ended,
-    );
-    hint_without_words(ended.refusal(), messages);
-    ended.status()
+    let asked = DiagnoseRequest {
+        explain: false,
+        warn: false,
+        brief: false,
+    };
+    run_diagnosis(alloc, &asked, reader, out, messages)
 }
 
-/// Runs a check with diagnostics and reports it. Returns its status.
+/// Runs a check with options and reports it. At a terminal a fault is explained, unless no more is to be said there than
+/// elsewhere. Returns its status.
 fn run_diagnosis<R: Source, W: Sink, E: Write>(
     alloc: Global,
     asked: &DiagnoseRequest,
@@ -88,7 +89,12 @@ fn run_diagnosis<R: Source, W: Sink, E: Write>(
         (W.state out.new) result }
 {
     report_keyboard(messages);
-    diagnose(alloc, asked, reader, out, &mut messages.stream).status()
+    let asked = DiagnoseRequest {
+        explain: asked.explain || messages.terminal && !asked.brief,
+        warn: asked.warn,
+        brief: asked.brief,
+    };
+    diagnose(alloc, &asked, reader, out, &mut messages.stream).status()
 }
 
 /// Answers words that make no request, with a hint if one of them names a file, and returns the status.

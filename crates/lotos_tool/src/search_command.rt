@@ -27,7 +27,7 @@ use lotos_outcome::{
 };
 use lotos_output::ItemRuns;
 use lotos_pattern::Pattern;
-use lotos_report::{AskedWords, Visited, WordCommand};
+use lotos_report::{AskedWords, Visited, WordCommand, note_empty_pattern, note_first_labels};
 use lotos_runs::laws::match_question_is_unique;
 use lotos_search::Search;
 use lotos_search::laws::begun_search_has_question;
@@ -226,6 +226,7 @@ impl Command for SearchRequest {
             }),
             interface: &self.interface,
             reports_progress: self.progress,
+            brief: self.brief,
             visited: Visited::Prefixes,
         }
     }
@@ -237,5 +238,15 @@ impl Command for SearchRequest {
         err: &mut E,
     ) {
         report_listing(ended, self.terms, err);
+    }
+
+    fn note<E: Write>(&self, ended: &Ended<Listed, ListingPlace>, err: &mut E) {
+        match ended {
+            Ended::Done(listed) if listed.lines == 0 => {
+                note_first_labels(self.words.as_slice(), err);
+            }
+            Ended::Done(_) => note_empty_pattern(self.words.as_slice(), err),
+            _ => {}
+        }
     }
 }

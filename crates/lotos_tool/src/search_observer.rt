@@ -5,7 +5,7 @@ use lotos_command::Interface;
 use lotos_listing::{Progress, Searched};
 use lotos_outcome::{OutputProgress, unknown_names};
 use lotos_report::{
-    AskedWords, Messages, NameHint, NamePlaces, ProgressReport, Visited, first_name_hint,
+    AskedWords, Counts, Messages, NameHint, NamePlaces, ProgressReport, Visited, first_name_hint,
     warn_of_names,
 };
 use std::alloc::Global;
@@ -20,6 +20,8 @@ pub struct Observed<'a> {
     pub interface: &'a Interface,
     /// Whether reports of progress are asked for.
     pub reports_progress: bool,
+    /// Whether a terminal is told no more than another stream.
+    pub brief: bool,
     pub visited: Visited,
 }
 
@@ -35,6 +37,10 @@ pub(crate) struct SearchObserver<'w, 'm, E> {
     hint: Option<NameHint>,
     /// How much was looked at, if no match was found.
     searched: Option<Searched>,
+    /// The text, if it is refused.
+    text: Vec<u8>,
+    /// Whether more is said than elsewhere, since the error stream is a terminal.
+    explains: bool,
 }
 
 /// What an observer has noted.
@@ -44,6 +50,12 @@ pub(crate) struct Noted {
     pub hint: Option<NameHint>,
     /// How much was looked at, if no match was found.
     pub searched: Option<Searched>,
+    /// The text if it is refused, or a name of the interface for it; otherwise nothing.
+    pub text: Vec<u8>,
+    /// How far the search was.
+    pub counts: Counts,
+    /// Whether more is said than elsewhere, since the error stream is a terminal.
+    pub explains: bool,
 }
 
 impl<'w, 'm, E: Write> SearchObserver<'w, 'm, E> {
@@ -53,12 +65,15 @@ impl<'w, 'm, E: Write> SearchObserver<'w, 'm, E> {
         observed: Observed<'w>,
         messages: &'m mut Messages<E>,
     ) -> SearchObserver<'w, 'm, E> {
+        let explains = messages.terminal && !observed.brief;
         SearchObserver {
             alloc,
             observed,
             progress: ProgressReport::new(messages, observed.visited),
             hint: None,
             searched: None,
+            text: Vec::new(alloc),
+            explains,
         }
     }
 
@@ -68,6 +83,9 @@ impl<'w, 'm, E: Write> SearchObserver<'w, 'm, E> {
         Noted {
             hint: self.hint.take(),
             searched: self.searched,
+            text: self.text,
+            counts: self.progress.counts(),
+            explains: self.explains,
         }
     }
 }
@@ -77,6 +95,8 @@ impl<E: Write> Progress for SearchObserver<'_, '_, E> {
     fn visit(&mut self, length: usize) {
         if self.observed.reports_progress {
             self.progress.visit(length);
+        } else if self.explains {
+            self.progress.count(length);
         }
     }
 
@@ -121,6 +141,10 @@ impl<E: Write> OutputProgress for SearchObserver<'_, '_, E> {
                 self.progress.stream(),
             );
         }
+    }
+
+    fn refused(&mut self, text: Vec<u8>) {
+        self.text = text;
     }
 
     #[inline(always)]

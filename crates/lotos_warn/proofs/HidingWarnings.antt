@@ -6,7 +6,7 @@ use Rattle.lotos_text.specs.declared.ast.Action.{Action}
 use Rattle.lotos_check.specs.NameLists.{Name, In}
 use Rattle.lotos_check.specs.Subexpressions.{IsSubexpression}
 use Rattle.lotos_warn.specs.declared.warning.Warning.{Warning}
-use Rattle.lotos_warn.specs.declared.warning.Warning.TheVariants.{UncalledProcess, UnreachedProcess, NeverExits, DeadStart, UnusedGate, UnofferedGate, UnusedHidden}
+use Rattle.lotos_warn.specs.declared.warning.Warning.TheVariants.{UncalledProcess, UnreachedProcess, NeverExits, DeadStart, UnusedGate, UnofferedGate, UnusedHidden, UnsynchronizedHidden}
 use Rattle.lotos_warn.specs.Warnings.{UsesFree, IsHidingWarning}
 use Rattle.lotos_warn.specs.Additions.{Adds, IsUnusedOfHiding}
 use Rattle.lotos_warn.proofs.Additions.{adds_as, adds_nothing, adds_alone}
@@ -31,6 +31,7 @@ hidden_from b (DeadStart p) h = absurd h
 hidden_from b (UnusedGate g d) h = absurd h
 hidden_from b (UnofferedGate g s) h = absurd h
 hidden_from b (UnusedHidden g) h = record { hidden = h.hidden; part = hide h.list h.body; inside = h.inside; own = unused_inside h.listed h.unused }
+hidden_from b (UnsynchronizedHidden p) h = absurd h
 
 -- a behaviour has a warning about a hiding exactly if a part of it has it itself
 pub hidings_by_part : (b : BehaviourView) (w : Warning) → IsHidingWarning b w ↔ WarnsFrom HidesUnused [] b w
@@ -88,6 +89,7 @@ unused_own used b gs same (UnusedHidden g) = (
   (λ h. unused_inside h.0 (λ u. h.1 ((same g.name).1 u))),
   (λ o. elim o [ unused_inside i none ↦ (i, (λ j. none ((same g.name).0 j))) ]),
 )
+unused_own used b gs same (UnsynchronizedHidden p) = ((λ h. absurd h), (λ o. elim o [ ]))
 
 -- a hiding has the warnings of the behaviour inside it, whose gates were found apart, and those about its own list
 pub hidings_hide : (old mid new : List Warning) (empty used : List Name) (gs : List Placed) (b : BehaviourView) → empty ≡ [] →
@@ -113,6 +115,7 @@ hidden_split used g gs (UnusedHidden other) = (
     | inr m ↦ (inr m.0, m.1)
   ]),
 )
+hidden_split used g gs (UnsynchronizedHidden p) = ((λ h. absurd h), (λ h. elim h [ inl i ↦ i | inr i ↦ i ]))
 
 -- there is no warning about an unused gate of an empty list of a hiding
 pub hidden_none : (used : List Name) (w : Warning) → IsUnusedOfHiding used [] w → ⊥
@@ -123,6 +126,7 @@ hidden_none used (DeadStart p) h = h
 hidden_none used (UnusedGate g d) h = h
 hidden_none used (UnofferedGate g s) h = h
 hidden_none used (UnusedHidden g) h = h.0
+hidden_none used (UnsynchronizedHidden p) h = h
 
 -- the warning about a gate of a hiding that is not used inside
 pub hidden_one : (used : List Name) (gate : Placed) → (In gate.name used → ⊥) → (w : Warning) →
@@ -137,6 +141,7 @@ hidden_one used gate none (UnusedHidden other) = (
   (λ e. let same : gate ≡ other = cc in (inl same, subst (λ g. In g.name used → ⊥) same none)),
   (λ h. elim h.0 [ inl same ↦ cc | inr i ↦ absurd i ]),
 )
+hidden_one used gate none (UnsynchronizedHidden p) = ((λ e. cc), (λ h. absurd h))
 
 -- none about a gate that is
 pub hidden_never : (used : List Name) (gate : Placed) → In gate.name used → (w : Warning) → IsUnusedOfHiding used (gate ∷ []) w → ⊥
@@ -147,3 +152,4 @@ hidden_never used gate some (DeadStart p) h = h
 hidden_never used gate some (UnusedGate g d) h = h
 hidden_never used gate some (UnofferedGate g s) h = h
 hidden_never used gate some (UnusedHidden other) h = elim h.0 [ inl same ↦ h.1 (subst (λ g. In g.name used) same some) | inr i ↦ i ]
+hidden_never used gate some (UnsynchronizedHidden p) h = h

@@ -2,6 +2,7 @@ pub mod NameTests
 pub mod Additions
 pub mod FreeGates
 pub mod GateAdditions
+pub mod ApartGates
 pub mod CallAdditions
 pub mod PartWarnings
 pub mod ListWarnings

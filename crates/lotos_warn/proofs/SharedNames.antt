@@ -6,7 +6,7 @@ use Rattle.std.specs.Str.{bytes_eq}
 use Rattle.std.proofs.lemmas.Slice.Eq.{bytes_eq-Decides}
 use Rattle.lotos_check.specs.NameLists.{Name, In}
 use Rattle.lotos_check.proofs.NameTests.{in_or_not, name_found, name_missing}
-use Rattle.lotos_warn.specs.Additions.{Adds, IsVisible, KeepsShared, LacksName}
+use Rattle.lotos_warn.specs.Additions.{Adds, KeepsShared, LacksName}
 use Rattle.lotos_warn.specs.LabelSets.{IsJoint}
 
 -- a name among the keys is found by a test
@@ -123,10 +123,10 @@ joint list left right fewer others new keeps keeps_others adds n = (
   ])),
 )
 
--- what is in the first names and not in what the second lack is in both
-pub in_both : (first second others common : List Name) → ((n : Name) → In n others ↔ IsVisible second first n) →
-    ((n : Name) → In n common ↔ IsVisible others first n) → (n : Name) → In n common ↔ (In n first × In n second)
-in_both first second others common lacking rest n = (
-  (λ i. let k = (rest n).0 i in (k.1, elim (in_or_not n second) [ inl j ↦ j | inr out ↦ absurd (k.0 ((lacking n).1 (out, k.1))) ])),
-  (λ h. (rest n).1 ((λ j. ((lacking n).0 j).0 h.1), h.0)),
+-- a name that others have is the first of a list, or one of the others in the list
+pub shared_split : (others : List Name) (k : Name) (ks : List Name) (n : Name) →
+    (In n others × In n (k ∷ ks)) ↔ ((In n others × (k ≡ n)) ⊎ (In n others × In n ks))
+shared_split others k ks n = (
+  (λ h. elim h.1 [ inl e ↦ inl (h.0, e) | inr i ↦ inr (h.0, i) ]),
+  (λ h. elim h [ inl m ↦ (m.0, inl m.1) | inr m ↦ (m.0, inr m.1) ]),
 )

@@ -11,15 +11,15 @@ use Rattle.lotos_check.proofs.DefinitionOrder.{in_order}
 use Rattle.lotos_check.proofs.ScopedDefinitions.{everywhere_in_order, listed_row, scope_of, without_scope}
 use Rattle.lotos_warn.specs.declared.warning.Side.{Side}
 use Rattle.lotos_warn.specs.declared.warning.Warning.{Warning}
-use Rattle.lotos_warn.specs.declared.warning.Warning.TheVariants.{UncalledProcess, UnreachedProcess, NeverExits, DeadStart, UnusedGate, UnofferedGate, UnusedHidden}
-use Rattle.lotos_warn.specs.Warnings.{IsUnusedGate, IsUnofferedGate, IsUnusedHidden, IsUncalledProcess, IsUnreachedProcess, IsNeverExit, IsCalled, IsReached, IsWarning}
+use Rattle.lotos_warn.specs.declared.warning.Warning.TheVariants.{UncalledProcess, UnreachedProcess, NeverExits, DeadStart, UnusedGate, UnofferedGate, UnusedHidden, UnsynchronizedHidden}
+use Rattle.lotos_warn.specs.Warnings.{IsUnusedGate, IsUnofferedGate, IsUnusedHidden, IsUnsynchronizedHidden, IsUncalledProcess, IsUnreachedProcess, IsNeverExit, IsCalled, IsReached, IsWarning}
 use Rattle.lotos_text.specs.declared.ast.Functionality.TheVariants.{Exit}
 use Rattle.lotos_check.proofs.ListIndices.{get_in, in_get}
 use Rattle.lotos_warn.specs.Termination.{MayTerminate}
 use Rattle.lotos_warn.specs.FirstLabels.{IsDeadStart}
 use Rattle.lotos_warn.specs.Additions.{IsDeadIn, IsEndlessWhole, IsGateWarningOfAny, IsProcessWarning, IsProcessWarningOfAny}
 use Rattle.lotos_warn.proofs.PartWarnings.{WarnsFrom, elsewhere}
-use Rattle.lotos_warn.proofs.ListWarnings.{ListsUnoffered, lacking, lists_by_part}
+use Rattle.lotos_warn.proofs.ListWarnings.{IsOwnListWarning, lacking, apart_inside, lists_by_part}
 use Rattle.lotos_warn.proofs.HidingWarnings.{HidesUnused, unused_inside, hidings_by_part}
 
 -- the definitions after the first are those inside it
@@ -85,7 +85,7 @@ module _ (whole : DefinitionView) where
     -- a part that occurs in the specification, and that has the warning about the gate of a list itself, is one with
     -- that list
     unoffered_at : (scope : Scope) (in_scope : List Name) (part : BehaviourView) → Occurs whole scope in_scope part →
-        ListsUnoffered part (UnofferedGate gate side) → IsUnofferedGate whole gate side
+        IsOwnListWarning part (UnofferedGate gate side) → IsUnofferedGate whole gate side
     unoffered_at scope in_scope part o (lacking {l = l} {r = r} {gs = gs} first none) =
         record { scope = scope; in_scope = in_scope; left = l; list = gs; right = r; occurs = o; listed = first; unoffered = none }
 
@@ -95,14 +95,14 @@ module _ (whole : DefinitionView) where
       (λ (d, i, h). elim h [
         | inl (inl none) ↦ absurd none
         | inl (inr none) ↦ absurd none
-        | inr u ↦ (let o = occurring ListsUnoffered (UnofferedGate gate side) d i ((lists_by_part (body_of d) (UnofferedGate gate side)).0 u) in
+        | inr u ↦ (let o = occurring IsOwnListWarning (UnofferedGate gate side) d i ((lists_by_part (body_of d) (UnofferedGate gate side)).0 u) in
             unoffered_at o.scope o.in_scope o.part o.occurs o.own)
       ]),
       (λ h. (
         h.occurs.definition,
         unscoped h.scope h.occurs.definition h.occurs.located,
         inr ((lists_by_part (body_of h.occurs.definition) (UnofferedGate gate side)).1
-            (in_body ListsUnoffered (UnofferedGate gate side) h.scope h.in_scope (par h.left (gates h.list) h.right) h.occurs
+            (in_body IsOwnListWarning (UnofferedGate gate side) h.scope h.in_scope (par h.left (gates h.list) h.right) h.occurs
             (lacking h.listed h.unoffered))),
       )),
     )
@@ -129,6 +129,30 @@ module _ (whole : DefinitionView) where
         unscoped h.scope h.occurs.definition h.occurs.located,
         inl (inl ((hidings_by_part (body_of h.occurs.definition) (UnusedHidden gate)).1
             (in_body HidesUnused (UnusedHidden gate) h.scope h.in_scope (hide h.list h.body) h.occurs (unused_inside h.listed h.unused)))),
+      )),
+    )
+
+    -- a part that occurs in the specification, and that has the warning about a gate that both sides of a composition
+    -- offer without synchronization itself, is a hiding of the gate
+    apart_at : (scope : Scope) (in_scope : List Name) (part : BehaviourView) → Occurs whole scope in_scope part →
+        IsOwnListWarning part (UnsynchronizedHidden gate) → IsUnsynchronizedHidden whole gate
+    apart_at scope in_scope part o (apart_inside {gs = gs} {b = b} listed apart) =
+        record { scope = scope; in_scope = in_scope; list = gs; body = b; occurs = o; listed = listed; apart = apart }
+
+    -- one of the definitions has such a warning exactly if the specification has it
+    unsynchronized : IsGateWarningOfAny (definitions_in whole) (UnsynchronizedHidden gate) ↔ IsUnsynchronizedHidden whole gate
+    unsynchronized = (
+      (λ (d, i, h). elim h [
+        | inl (inl none) ↦ absurd none
+        | inl (inr none) ↦ absurd none
+        | inr u ↦ (let o = occurring IsOwnListWarning (UnsynchronizedHidden gate) d i ((lists_by_part (body_of d) (UnsynchronizedHidden gate)).0 u) in
+            apart_at o.scope o.in_scope o.part o.occurs o.own)
+      ]),
+      (λ h. (
+        h.occurs.definition,
+        unscoped h.scope h.occurs.definition h.occurs.located,
+        inr ((lists_by_part (body_of h.occurs.definition) (UnsynchronizedHidden gate)).1
+            (in_body IsOwnListWarning (UnsynchronizedHidden gate) h.scope h.in_scope (hide h.list h.body) h.occurs (apart_inside h.listed h.apart))),
       )),
     )
 
@@ -322,6 +346,10 @@ module _ (whole : DefinitionView) (called reached exiting : List ℕ) (by_name :
   not_hidden : (gate : Placed) → IsProcessWarningOfAny called reached exiting 0 (definitions_in_list (inner_of whole)) (UnusedHidden gate) → ⊥
   not_hidden gate h = elim (found (UnusedHidden gate) h).warned [ inl none ↦ none | inr (inl none) ↦ none | inr (inr none) ↦ none ]
 
+  -- no process has a warning that two sides do not synchronize on a gate that is hidden
+  not_apart : (gate : Placed) → IsProcessWarningOfAny called reached exiting 0 (definitions_in_list (inner_of whole)) (UnsynchronizedHidden gate) → ⊥
+  not_apart gate h = elim (found (UnsynchronizedHidden gate) h).warned [ inl none ↦ none | inr (inl none) ↦ none | inr (inr none) ↦ none ]
+
   -- the warnings about the gates of all definitions, those about the processes, and those about the specification are all
   pub all_warnings : (system : System) → ((name : Placed) → IsDeadIn system whole (DeadStart name) ↔ IsDeadStart whole name) → (w : Warning) →
       (IsGateWarningOfAny (definitions_in whole) w
@@ -389,4 +417,13 @@ module _ (whole : DefinitionView) (called reached exiting : List ℕ) (by_name :
       | inr (inr (inr none)) ↦ absurd none
     ]),
     (λ h. inl ((unused_hidden whole gate).1 h)),
+  )
+  all_warnings system dead (UnsynchronizedHidden gate) = (
+    (λ h. elim h [
+      | inl g ↦ (unsynchronized whole gate).0 g
+      | inr (inl u) ↦ absurd (not_apart gate u)
+      | inr (inr (inl none)) ↦ absurd none
+      | inr (inr (inr none)) ↦ absurd none
+    ]),
+    (λ h. inl ((unsynchronized whole gate).1 h)),
   )

@@ -11,7 +11,7 @@ use Rattle.lotos_check.specs.Bodies.{ContainsCall, IsBodyOf}
 use Rattle.lotos_warn.specs.declared.warning.Side.{Side}
 use Rattle.lotos_warn.specs.declared.warning.Side.TheVariants.{Left, Right}
 use Rattle.lotos_warn.specs.declared.warning.Warning.{Warning}
-use Rattle.lotos_warn.specs.declared.warning.Warning.TheVariants.{UncalledProcess, UnreachedProcess, NeverExits, DeadStart, UnusedGate, UnofferedGate, UnusedHidden}
+use Rattle.lotos_warn.specs.declared.warning.Warning.TheVariants.{UncalledProcess, UnreachedProcess, NeverExits, DeadStart, UnusedGate, UnofferedGate, UnusedHidden, UnsynchronizedHidden}
 use Rattle.lotos_text.specs.declared.ast.Functionality.TheVariants.{Exit}
 use Rattle.lotos_warn.specs.ShownNames.{shown_name}
 use Rattle.lotos_warn.specs.Termination.{IsExiting, exits_by}
@@ -57,6 +57,7 @@ IsMissingOn names side gate (DeadStart dead) = ⊥
 IsMissingOn names side gate (UnusedGate other definition) = ⊥
 IsMissingOn names side gate (UnofferedGate other place) = (gate ≡ other) × (side ≡ place) × (In other.name names → ⊥)
 IsMissingOn names side gate (UnusedHidden other) = ⊥
+IsMissingOn names side gate (UnsynchronizedHidden other) = ⊥
 
 -- the names of one side
 abbrev pub names_of : Side → List Name → List Name → List Name
@@ -79,6 +80,7 @@ IsMissingGate by_left by_right seen list (UnusedGate gate definition) = ⊥
 IsMissingGate by_left by_right seen list (UnofferedGate gate side) =
     (In gate.name seen → ⊥) × IsFirstOfName gate list × (In gate.name (names_of side by_left by_right) → ⊥)
 IsMissingGate by_left by_right seen list (UnusedHidden gate) = ⊥
+IsMissingGate by_left by_right seen list (UnsynchronizedHidden gate) = ⊥
 
 -- the same of the list of a parallel composition, if it has one, of whose names none is seen before
 abbrev pub IsMissing : List Name → List Name → SyncView → Warning → Type 0
@@ -126,6 +128,7 @@ IsUnusedAmong used name formals (UnusedGate gate definition) =
     In gate formals × (definition ≡ shown_name name) × (In gate.name used → ⊥)
 IsUnusedAmong used name formals (UnofferedGate gate side) = ⊥
 IsUnusedAmong used name formals (UnusedHidden gate) = ⊥
+IsUnusedAmong used name formals (UnsynchronizedHidden gate) = ⊥
 
 -- the definition has this warning about its formal gates
 abbrev pub IsUnusedIn : DefinitionView → Warning → Type 0
@@ -137,6 +140,7 @@ IsUnusedIn d (UnusedGate gate definition) =
     In gate (formals_of d) × (definition ≡ shown_name (name_of d).name) × (UsesFree (body_of d) gate.name → ⊥)
 IsUnusedIn d (UnofferedGate gate side) = ⊥
 IsUnusedIn d (UnusedHidden gate) = ⊥
+IsUnusedIn d (UnsynchronizedHidden gate) = ⊥
 
 -- the warning says that the gate of the list of a hiding is not used, and it is not among the names
 abbrev pub IsUnusedOfHiding : List Name → List Placed → Warning → Type 0
@@ -147,6 +151,13 @@ IsUnusedOfHiding used list (DeadStart dead) = ⊥
 IsUnusedOfHiding used list (UnusedGate gate definition) = ⊥
 IsUnusedOfHiding used list (UnofferedGate gate side) = ⊥
 IsUnusedOfHiding used list (UnusedHidden gate) = In gate list × (In gate.name used → ⊥)
+IsUnusedOfHiding used list (UnsynchronizedHidden gate) = ⊥
+
+-- the warning says that both sides of a composition offer the gate of the list of a hiding without synchronization, and
+-- it is among the names
+abbrev pub IsApartOfHiding : List Name → List Placed → Warning → Type 0
+IsApartOfHiding apart list w =
+    (gate : Placed) × (w ≡ UnsynchronizedHidden gate) × In gate list × In gate.name apart
 
 -- the definition has this warning about gates that are not used: those of its hidings, and its formal ones
 abbrev pub IsUseWarning : DefinitionView → Warning → Type 0
@@ -169,6 +180,7 @@ IsUncalledAt called number d (DeadStart dead) = ⊥
 IsUncalledAt called number d (UnusedGate gate definition) = ⊥
 IsUncalledAt called number d (UnofferedGate gate side) = ⊥
 IsUncalledAt called number d (UnusedHidden gate) = ⊥
+IsUncalledAt called number d (UnsynchronizedHidden gate) = ⊥
 
 -- the warning says that the process is not reached; the number is called, and it is not reached
 abbrev pub IsUnreachedAt : List ℕ → List ℕ → ℕ → DefinitionView → Warning → Type 0
@@ -180,6 +192,7 @@ IsUnreachedAt called reached number d (DeadStart dead) = ⊥
 IsUnreachedAt called reached number d (UnusedGate gate definition) = ⊥
 IsUnreachedAt called reached number d (UnofferedGate gate side) = ⊥
 IsUnreachedAt called reached number d (UnusedHidden gate) = ⊥
+IsUnreachedAt called reached number d (UnsynchronizedHidden gate) = ⊥
 
 -- the warning says that the definition is declared exit and never terminates; the number is not one that exits
 abbrev pub IsEndlessAt : List ℕ → ℕ → DefinitionView → Warning → Type 0
@@ -191,6 +204,7 @@ IsEndlessAt exiting number d (DeadStart dead) = ⊥
 IsEndlessAt exiting number d (UnusedGate gate definition) = ⊥
 IsEndlessAt exiting number d (UnofferedGate gate side) = ⊥
 IsEndlessAt exiting number d (UnusedHidden gate) = ⊥
+IsEndlessAt exiting number d (UnsynchronizedHidden gate) = ⊥
 
 -- the same of the specification, whose behaviour exits or not
 abbrev pub IsEndlessWhole : Bool → DefinitionView → Warning → Type 0
@@ -201,6 +215,7 @@ IsEndlessWhole exits d (DeadStart dead) = ⊥
 IsEndlessWhole exits d (UnusedGate gate definition) = ⊥
 IsEndlessWhole exits d (UnofferedGate gate side) = ⊥
 IsEndlessWhole exits d (UnusedHidden gate) = ⊥
+IsEndlessWhole exits d (UnsynchronizedHidden gate) = ⊥
 
 -- the warning says that the specification can do nothing; this is its system, and its behaviour is not `stop`
 abbrev pub IsDeadIn : System → DefinitionView → Warning → Type 0
@@ -211,6 +226,7 @@ IsDeadIn system d (DeadStart name) = (name ≡ name_of d) × (body_of d ≡ t.st
 IsDeadIn system d (UnusedGate gate definition) = ⊥
 IsDeadIn system d (UnofferedGate gate side) = ⊥
 IsDeadIn system d (UnusedHidden gate) = ⊥
+IsDeadIn system d (UnsynchronizedHidden gate) = ⊥
 
 -- the process with this number and definition has this warning
 abbrev pub IsProcessWarning : List ℕ → List ℕ → List ℕ → ℕ → DefinitionView → Warning → Type 0

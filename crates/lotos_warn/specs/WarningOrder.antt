@@ -9,7 +9,7 @@ use Rattle.lotos_check.specs.NameLists.{Name}
 use Rattle.lotos_warn.specs.declared.warning.Side.{Side}
 use Rattle.lotos_warn.specs.declared.warning.Side.TheVariants.{Left, Right}
 use Rattle.lotos_warn.specs.declared.warning.Warning.{Warning}
-use Rattle.lotos_warn.specs.declared.warning.Warning.TheVariants.{UncalledProcess, UnreachedProcess, NeverExits, DeadStart, UnusedGate, UnofferedGate, UnusedHidden}
+use Rattle.lotos_warn.specs.declared.warning.Warning.TheVariants.{UncalledProcess, UnreachedProcess, NeverExits, DeadStart, UnusedGate, UnofferedGate, UnusedHidden, UnsynchronizedHidden}
 
 -- the offset of a warning: that of its process, its specification or its gate
 abbrev pub offset_of : Warning → ℕ
@@ -20,6 +20,7 @@ offset_of (DeadStart name) = name.at
 offset_of (UnusedGate gate definition) = gate.at
 offset_of (UnofferedGate gate side) = gate.at
 offset_of (UnusedHidden gate) = gate.at
+offset_of (UnsynchronizedHidden gate) = gate.at
 
 -- a number for each side: the left one is before the right one
 abbrev pub side_rank : Side → ℕ
@@ -35,6 +36,7 @@ rank_of (DeadStart name) = 3
 rank_of (UnusedGate gate definition) = 4
 rank_of (UnofferedGate gate side) = side_rank side
 rank_of (UnusedHidden gate) = 7
+rank_of (UnsynchronizedHidden gate) = 8
 
 -- the name that a warning is about: that of its process, its specification or its gate
 abbrev pub subject_of : Warning → Name
@@ -45,6 +47,7 @@ subject_of (DeadStart name) = name.name
 subject_of (UnusedGate gate definition) = gate.name
 subject_of (UnofferedGate gate side) = gate.name
 subject_of (UnusedHidden gate) = gate.name
+subject_of (UnsynchronizedHidden gate) = gate.name
 
 -- the name of a warning's definition as it is shown, or again the name that it is about
 abbrev pub context_of : Warning → Name
@@ -55,6 +58,7 @@ context_of (DeadStart name) = name.name
 context_of (UnusedGate gate definition) = definition
 context_of (UnofferedGate gate side) = gate.name
 context_of (UnusedHidden gate) = gate.name
+context_of (UnsynchronizedHidden gate) = gate.name
 
 -- the order of warnings: by their offsets, then by their kinds and sides, then by the names that they are about, then
 -- by those of their definitions

@@ -1,7 +1,8 @@
 -- What an accepted specification has a warning about.
 use Rattle.std.specs.Prelude.{◌≡◌, ◌⊎◌, ℕ, List, [], ◌∷◌, Some, slice_get}
-use Rattle.lotos_text.specs.AstView.{BehaviourView, gates, prefix, par, hide, call, DefinitionView, name_of, formals_of, declared_of, body_of}
+use Rattle.lotos_text.specs.AstView.{BehaviourView, SyncView, gates, all, prefix, choice, par, hide, enable, disable, call, DefinitionView, name_of, formals_of, declared_of, body_of}
 use Rattle.lotos_text.specs.declared.ast.Placed.{Placed}
+use Rattle.lotos_text.specs.declared.ast.Action.{Action}
 use Rattle.lotos_text.specs.declared.ast.Action.TheVariants.{Gate}
 use Rattle.lotos_text.specs.declared.ast.Functionality.TheVariants.{Exit}
 use Rattle.lotos_check.specs.NameLists.{Name, In, texts}
@@ -14,7 +15,7 @@ use Rattle.lotos_warn.specs.FirstLabels.{IsDeadStart}
 use Rattle.lotos_warn.specs.declared.warning.Side.{Side}
 use Rattle.lotos_warn.specs.declared.warning.Side.TheVariants.{Left, Right}
 use Rattle.lotos_warn.specs.declared.warning.Warning.{Warning}
-use Rattle.lotos_warn.specs.declared.warning.Warning.TheVariants.{UncalledProcess, UnreachedProcess, NeverExits, DeadStart, UnusedGate, UnofferedGate, UnusedHidden}
+use Rattle.lotos_warn.specs.declared.warning.Warning.TheVariants.{UncalledProcess, UnreachedProcess, NeverExits, DeadStart, UnusedGate, UnofferedGate, UnusedHidden, UnsynchronizedHidden}
 
 -- the behaviour itself, and not only a part of it, offers the gate: in a prefix, or to the process that it calls
 pub data OffersGate : BehaviourView → Placed → Type 0 where
@@ -39,6 +40,31 @@ UsesFree = HasFree UsesGate
 -- the behaviour offers the gate, and does not hide it there
 abbrev pub OffersFree : BehaviourView → Name → Type 0
 OffersFree = HasFree OffersGate
+
+-- a parallel composition synchronizes on the gate: `||` on each, and another on those of its list, which `|||` has
+-- none of (ISO)
+abbrev pub SynchronizesOn : SyncView → Name → Type 0
+SynchronizesOn (gates list) n = In n (texts list)
+SynchronizesOn all n = Unit {0}
+
+-- the behaviour is a parallel composition, or has one inside it, both sides of which offer the gate and which does not
+-- synchronize on it; nor does a composition around it in the behaviour, and no hiding there hides the gate
+pub data IsOfferedApart (name : Name) : BehaviourView → Type 0 where
+  on_both_sides : {l r : BehaviourView} {s : SyncView} → (SynchronizesOn s name → ⊥) → OffersFree l name →
+      OffersFree r name → IsOfferedApart name (par l s r)
+  within_prefix : {a : Action} {b : BehaviourView} → IsOfferedApart name b → IsOfferedApart name (prefix a b)
+  within_choice_left : {l r : BehaviourView} → IsOfferedApart name l → IsOfferedApart name (choice l r)
+  within_choice_right : {l r : BehaviourView} → IsOfferedApart name r → IsOfferedApart name (choice l r)
+  within_par_left : {l r : BehaviourView} {s : SyncView} → (SynchronizesOn s name → ⊥) → IsOfferedApart name l →
+      IsOfferedApart name (par l s r)
+  within_par_right : {l r : BehaviourView} {s : SyncView} → (SynchronizesOn s name → ⊥) → IsOfferedApart name r →
+      IsOfferedApart name (par l s r)
+  within_hide : {gs : List Placed} {b : BehaviourView} → (In name (texts gs) → ⊥) → IsOfferedApart name b →
+      IsOfferedApart name (hide gs b)
+  within_enable_left : {l r : BehaviourView} {at : ℕ} → IsOfferedApart name l → IsOfferedApart name (enable l at r)
+  within_enable_right : {l r : BehaviourView} {at : ℕ} → IsOfferedApart name r → IsOfferedApart name (enable l at r)
+  within_disable_left : {l r : BehaviourView} → IsOfferedApart name l → IsOfferedApart name (disable l r)
+  within_disable_right : {l r : BehaviourView} → IsOfferedApart name r → IsOfferedApart name (disable l r)
 
 -- the name is that of a process, and no call anywhere is bound to the process
 pub record IsUncalledProcess (whole : DefinitionView) (name : Placed) : Type 0 where
@@ -138,7 +164,18 @@ pub record IsUnusedHidden (whole : DefinitionView) (gate : Placed) : Type 0 wher
   pub listed : In gate list
   pub unused : UsesFree body gate.name → ⊥
 
--- the specification has this warning, which is of one of seven kinds
+-- the gate is in the list of a hiding, and both sides of a parallel composition inside offer it; neither that
+-- composition nor one around it inside the hiding synchronizes on it
+pub record IsUnsynchronizedHidden (whole : DefinitionView) (gate : Placed) : Type 0 where
+  pub scope : Scope
+  pub in_scope : List Name
+  pub list : List Placed
+  pub body : BehaviourView
+  pub occurs : Occurs whole scope in_scope (hide list body)
+  pub listed : In gate list
+  pub apart : IsOfferedApart gate.name body
+
+-- the specification has this warning, which is of one of eight kinds
 abbrev pub IsWarning : DefinitionView → Warning → Type 0
 IsWarning whole (UncalledProcess process) = IsUncalledProcess whole process
 IsWarning whole (UnreachedProcess process) = IsUnreachedProcess whole process
@@ -147,6 +184,7 @@ IsWarning whole (DeadStart name) = IsDeadStart whole name
 IsWarning whole (UnusedGate gate definition) = IsUnusedGate whole gate definition
 IsWarning whole (UnofferedGate gate side) = IsUnofferedGate whole gate side
 IsWarning whole (UnusedHidden gate) = IsUnusedHidden whole gate
+IsWarning whole (UnsynchronizedHidden gate) = IsUnsynchronizedHidden whole gate
 
 -- the gate is the first of its name in the list of a parallel composition in the behaviour, and the operand on that
 -- side does not offer it
@@ -159,7 +197,18 @@ pub record IsUnofferedIn (behaviour : BehaviourView) (gate : Placed) (side : Sid
   pub listed : IsFirstOfName gate list
   pub unoffered : OffersFree (operand side left right) gate.name → ⊥
 
--- the behaviour has this warning about a list
+-- the gate is in the list of a hiding in the behaviour, and both sides of a parallel composition inside the hiding
+-- offer it without synchronization
+pub record IsUnsynchronizedHiddenIn (behaviour : BehaviourView) (gate : Placed) : Type 0 where
+  pub hidden : List Name
+  pub list : List Placed
+  pub body : BehaviourView
+  pub inside : IsSubexpression [] behaviour hidden (hide list body)
+  pub listed : In gate list
+  pub apart : IsOfferedApart gate.name body
+
+-- the behaviour has this warning about the list of a parallel composition, or about gates of a hiding that both sides
+-- of a composition offer
 abbrev pub IsListWarning : BehaviourView → Warning → Type 0
 IsListWarning behaviour (UncalledProcess process) = ⊥
 IsListWarning behaviour (UnreachedProcess process) = ⊥
@@ -168,6 +217,7 @@ IsListWarning behaviour (DeadStart name) = ⊥
 IsListWarning behaviour (UnusedGate gate definition) = ⊥
 IsListWarning behaviour (UnofferedGate gate side) = IsUnofferedIn behaviour gate side
 IsListWarning behaviour (UnusedHidden gate) = ⊥
+IsListWarning behaviour (UnsynchronizedHidden gate) = IsUnsynchronizedHiddenIn behaviour gate
 
 -- the gate is in the list of a hiding in the behaviour, and the behaviour inside the hiding does not use it
 pub record IsUnusedHiddenIn (behaviour : BehaviourView) (gate : Placed) : Type 0 where
@@ -187,3 +237,4 @@ IsHidingWarning behaviour (DeadStart name) = ⊥
 IsHidingWarning behaviour (UnusedGate gate definition) = ⊥
 IsHidingWarning behaviour (UnofferedGate gate side) = ⊥
 IsHidingWarning behaviour (UnusedHidden gate) = IsUnusedHiddenIn behaviour gate
+IsHidingWarning behaviour (UnsynchronizedHidden gate) = ⊥

@@ -30,7 +30,8 @@ pub(crate) fn warn_of_gates(
 }
 
 /// Appends the warnings about the gates of a definition: its formal gates that its body does not use, the gates that its
-/// body hides and does not use inside, and the gates in the lists of its body that a side never offers.
+/// body hides and does not use inside, the gates in the lists of its body that a side never offers, and the hidden gates
+/// on which both sides of a composition do not synchronize.
 fn warn_of_gates_in(
     alloc: Global,
     definition: &Definition,
@@ -41,7 +42,8 @@ fn warn_of_gates_in(
 {
     warn_of_unused_gates(alloc, definition, warnings)?;
     let mut offered = IndexSet::new(alloc);
-    warn_of_lists(alloc, &definition.body, &mut offered, warnings)
+    let mut apart = IndexSet::new(alloc);
+    warn_of_lists(alloc, &definition.body, &mut offered, &mut apart, warnings)
 }
 
 /// Appends the warnings about the formal gates of a definition that its body does not use, and about the gates that the

@@ -1,5 +1,5 @@
 //! Sets of gate names.
-ghost use Rattle.std.specs.Prelude.{◌≡◌, ◌≤◌, ◌↔◌, ◌⊎◌, IfOk, MatchBool, OnOk, Some, map, zip};
+ghost use Rattle.std.specs.Prelude.{◌≡◌, ◌≤◌, ◌↔◌, ◌⊎◌, [], IfOk, MatchBool, OnOk, Some, map, zip};
 ghost use Rattle.lotos_text.specs.AstOf.{sync_view};
 ghost use Rattle.lotos_check.specs.NameLists.{In, Name as AnyName, texts};
 ghost use Rattle.lotos_warn.specs.Additions.{AddsNames, IsActionNamed, IsListed, IsVisible, KeepsShared, LacksName};
@@ -176,11 +176,55 @@ pub(crate) fn common_names<'a>(
     ensures { IfOk result (λ common. (n : AnyName) → In n (map (λ k. k.now) common.keys)
         ↔ (In n (map (λ k. k.now) first.now.keys) × In n (map (λ k. k.now) second.now.keys))) }
 {
-    let mut others = IndexSet::new(alloc);
-    insert_others(&mut others, first.as_slice(), second)?;
     let mut common = IndexSet::new(alloc);
-    insert_others(&mut common, first.as_slice(), &others)?;
+    insert_common(&mut common, first, second)?;
     Ok(common)
+}
+
+/// Adds the names that both sets have.
+pub(crate) fn insert_common<'a>(
+    into: &mut IndexSet<&'a str>,
+    first: &IndexSet<&'a str>,
+    second: &IndexSet<&'a str>,
+) -> Result<(), AllocError>
+    ensures { OnOk result (AddsNames (λ k. k.now) into.old.keys into.new.keys
+        (λ n. In n (map (λ k. k.now) first.now.keys) × In n (map (λ k. k.now) second.now.keys))) }
+{
+    if first.len() < second.len() {
+        insert_shared(into, first.as_slice(), second)
+    } else {
+        insert_shared(into, second.as_slice(), first)
+    }
+}
+
+/// Adds the names that are in a set.
+fn insert_shared<'a>(
+    into: &mut IndexSet<&'a str>,
+    from: &[&'a str],
+    others: &IndexSet<&'a str>,
+) -> Result<(), AllocError>
+    ensures { OnOk result (AddsNames (λ k. k.now) into.old.keys into.new.keys
+        (λ n. In n (map (λ k. k.now) others.now.keys) × In n (map (λ k. k.now) from.now))) }
+{
+    for name in from {
+        insert_if_shared(into, *name, others)?;
+    }
+    Ok(())
+}
+
+/// Adds the name if it is in a set.
+fn insert_if_shared<'a>(
+    into: &mut IndexSet<&'a str>,
+    name: &'a str,
+    others: &IndexSet<&'a str>,
+) -> Result<(), AllocError>
+    ensures { OnOk result (AddsNames (λ k. k.now) into.old.keys into.new.keys
+        (λ n. In n (map (λ k. k.now) others.now.keys) × (name.now ≡ n))) }
+{
+    if others.contains(name) {
+        insert_text(into, name)?;
+    }
+    Ok(())
 }
 
 /// Removes a name. Returns whether it was there.
@@ -190,6 +234,16 @@ pub(crate) fn remove_name(from: &mut IndexSet<&str>, name: &Name) -> bool
         (In name.now (map (λ k. k.now) from.old.keys) → ⊥) }
 {
     from.swap_remove(name.text())
+}
+
+/// Removes the names of a list.
+pub(crate) fn remove_names(from: &mut IndexSet<&str>, gates: &[Placed])
+    ensures { KeepsShared (map (λ k. k.now) from.old.keys) (map (λ k. k.now) from.new.keys) []
+        (λ n. In n (texts gates.now)) }
+{
+    for gate in gates {
+        remove_name(from, &gate.name);
+    }
 }
 
 /// The names of both sets, but for those of the list that are not in both.

@@ -3,8 +3,9 @@
 //! [`warnings`] takes the AST of an accepted specification and the checked one, and returns what the static rules allow
 //! and is still likely to be a mistake: a process that no call names, or that is not reached from the behaviour, a
 //! definition that is declared `exit` and never terminates, a behaviour of the specification that can do nothing, a
-//! formal gate that is not used, a gate of a `hide` that nothing inside uses, and a gate of a parallel composition that
-//! one side never offers. The definitions that the contracts cite are in `specs/`.
+//! formal gate that is not used, a gate of a `hide` that nothing inside uses, a gate of a `hide` that both sides of a
+//! parallel composition inside offer without synchronizing on it, and a gate of a parallel composition that one side never
+//! offers. The definitions that the contracts cite are in `specs/`.
 #![tactic(auto)]
 
 mod dead_start;

@@ -49,6 +49,9 @@ pub enum Warning {
     UnofferedGate { gate: Placed, side: Side },
     /// A gate in the list of a hiding that the behaviour inside does not use.
     UnusedHidden(Placed),
+    /// A gate in the list of a hiding that both sides of a parallel composition inside offer, and on which neither that
+    /// composition nor one around it inside the hiding synchronizes.
+    UnsynchronizedHidden(Placed),
 }
 
 impl Warning {
@@ -64,6 +67,7 @@ impl Warning {
             Warning::UnusedGate { gate, .. } => gate.at,
             Warning::UnofferedGate { gate, .. } => gate.at,
             Warning::UnusedHidden(gate) => gate.at,
+            Warning::UnsynchronizedHidden(gate) => gate.at,
         }
     }
 
@@ -78,6 +82,7 @@ impl Warning {
             Warning::UnusedGate { .. } => 4,
             Warning::UnofferedGate { side, .. } => side.rank(),
             Warning::UnusedHidden(_) => 7,
+            Warning::UnsynchronizedHidden(_) => 8,
         }
     }
 
@@ -93,6 +98,7 @@ impl Warning {
             Warning::UnusedGate { gate, .. } => &gate.name,
             Warning::UnofferedGate { gate, .. } => &gate.name,
             Warning::UnusedHidden(gate) => &gate.name,
+            Warning::UnsynchronizedHidden(gate) => &gate.name,
         }
     }
 
@@ -108,6 +114,7 @@ impl Warning {
             Warning::UnusedGate { definition, .. } => definition.text(),
             Warning::UnofferedGate { gate, .. } => gate.name.text(),
             Warning::UnusedHidden(gate) => gate.name.text(),
+            Warning::UnsynchronizedHidden(gate) => gate.name.text(),
         }
     }
 }
@@ -191,6 +198,11 @@ impl fmt::Display for Warning {
             Warning::UnusedHidden(gate) => write!(
                 f,
                 "gate {} of `hide` is not used",
+                Shown(&gate.name)
+            ),
+            Warning::UnsynchronizedHidden(gate) => write!(
+                f,
+                "gate {} of `hide` is offered on both sides of a parallel composition, which do not synchronize on it",
                 Shown(&gate.name)
             ),
         }

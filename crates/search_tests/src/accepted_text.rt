@@ -14,7 +14,8 @@ pub fn joined(alloc: Global, parts: &[&str]) -> Result<String, AllocError> {
     Ok(out)
 }
 
-fn checked(alloc: Global, text: &str) -> Result<Checked, Fail> {
+/// The checked specification of a text.
+pub fn checked(alloc: Global, text: &str) -> Result<Checked, Fail> {
     Ok(accept(alloc, text.as_bytes())?.system)
 }
 

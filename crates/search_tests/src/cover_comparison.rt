@@ -1,6 +1,6 @@
 //! Covers of small specifications against an oracle.
-use super::cover_oracle::{Behaviour, Limits, Observed, cover_of, is_line, observed_sequences};
-use super::cover_run::{CoverQuestion, assert_cover, run_up_to};
+use super::cover_oracle::{Behaviour, Limits, Observed, cover_of, observed_sequences};
+use super::cover_run::{CoverQuestion, assert_cover, run_cover};
 use super::graph::Graph;
 use super::listing_run::{specification, spell};
 use super::samples::{
@@ -149,7 +149,7 @@ fn compare_sample(rt: &impl Abort, alloc: Global, sample: &Sample) -> Result<(),
     compare_marks(rt, alloc, sample, whole)
 }
 
-/// Compares what comes after each line and after each short sequence.
+/// Compares what comes after each short sequence and each that is explored, among which are the lines.
 fn compare_marks(
     rt: &impl Abort,
     alloc: Global,
@@ -159,7 +159,7 @@ fn compare_marks(
     let all = sample.sequences.as_slice();
     for (index, one) in all.iter().enumerate() {
         let labels = one.labels.len();
-        if labels <= MARKED || (labels < sample.length && is_line(all, one)) {
+        if labels <= MARKED || (labels < sample.length && one.is_covered) {
             compare_mark(rt, alloc, sample, whole, index, one)?;
         }
     }
@@ -186,7 +186,8 @@ fn spelled(alloc: Global, one: &Observed) -> Result<String, AllocError> {
     Ok(line)
 }
 
-/// Compares one search after a line with the oracle's cover after the sequence with this index, which is that line.
+/// Compares one search after a line with the oracle's cover after the sequence with this index, which is that line. Where
+/// longer sequences would be explored, the oracle knows no cover.
 fn compare_after(
     rt: &impl Abort,
     alloc: Global,
@@ -200,8 +201,9 @@ fn compare_after(
         states: question.states,
         length: sample.length,
     };
-    let expected = cover_of(alloc, sample.sequences.as_slice(), limits, mark)?;
-    let found = run_up_to(alloc, question, after, sample.length)?;
-    assert_cover(rt, question, after, &found, &expected);
+    if let Some(expected) = cover_of(alloc, sample.sequences.as_slice(), limits, mark)? {
+        let found = run_cover(alloc, question, after)?;
+        assert_cover(rt, question, after, &found, &expected);
+    }
     Ok(())
 }

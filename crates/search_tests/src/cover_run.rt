@@ -2,9 +2,10 @@
 use super::accepted_text::normal_table_of_text;
 use super::listing_run::{mark_of, spell};
 use super::progress_tests::{NONE, Visits};
-use lotos_cover::{CoverHalt, CoverSearch};
+use lotos_automaton::AutomatonFault;
 use lotos_listing::{Found, Mark};
 use lotos_normal::NormalTable;
+use lotos_suite::{CoverHalt, CoverSearch};
 use lotos_terms::Label;
 use lotos_text::Name;
 use std::alloc::{AllocError, Global};
@@ -87,15 +88,15 @@ pub fn next_answer(
     match search.next_with_progress(visits) {
         Ok(Some(found)) => line_of(found),
         Ok(None) => Ok(without_labels(alloc, Kind::End)),
-        Err(CoverHalt::OverTerms(labels)) => Ok(Answer {
+        Err(CoverHalt::Fault(AutomatonFault::OverTerms(labels))) => Ok(Answer {
             kind: Kind::OverTerms,
             labels,
         }),
-        Err(CoverHalt::OverStates(labels)) => Ok(Answer {
+        Err(CoverHalt::Fault(AutomatonFault::OverStates(labels))) => Ok(Answer {
             kind: Kind::OverStates,
             labels,
         }),
-        Err(CoverHalt::Memory) => Err("memory is wanting")?,
+        Err(CoverHalt::Fault(AutomatonFault::Memory)) => Err("memory is wanting")?,
         Err(CoverHalt::Failed) => Ok(without_labels(alloc, Kind::Failed)),
     }
 }
@@ -125,30 +126,15 @@ pub fn run_cover(
     question: CoverQuestion,
     after: Option<&str>,
 ) -> Result<Cover, Fail> {
-    run_up_to(alloc, question, after, usize::MAX)
-}
-
-/// What the search returns, up to the first sequence of as many labels as `length`, or more. The text then ends with
-/// `more`, and what the observer is told is left out.
-pub fn run_up_to(
-    alloc: Global,
-    question: CoverQuestion,
-    after: Option<&str>,
-    length: usize,
-) -> Result<Cover, Fail> {
     let mut search = begin_cover(alloc, question, after)?;
-    answers_up_to(alloc, &mut search, length)
+    all_answers(alloc, &mut search)
 }
 
-fn answers_up_to(alloc: Global, search: &mut CoverSearch, length: usize) -> Result<Cover, Fail> {
+fn all_answers(alloc: Global, search: &mut CoverSearch) -> Result<Cover, Fail> {
     let mut text = String::new(alloc);
     let mut visits = NONE;
     for _ in 0..MOST_LINES {
         let answer = next_answer(alloc, search, &mut visits)?;
-        if answer.labels.len() >= length {
-            text.push_str("more")?;
-            return Ok(Cover { text, visits: NONE });
-        }
         add_answer(alloc, &mut text, search.gates(), &answer)?;
         if !matches!(answer.kind, Kind::Line) {
             return Ok(Cover { text, visits });

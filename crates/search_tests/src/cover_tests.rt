@@ -3,8 +3,11 @@ use super::cover_run::{
     Answer, CoverQuestion, Kind, add_answer, assert_cover_text, begin_cover, next_answer, run_cover,
 };
 use super::progress_tests::{NONE, Visits};
-use super::set_texts::{HIDDEN_LOOP, HIDDEN_STOP, LINK, MEETING, SAME_PREFIX, SERVER};
-use lotos_cover::CoverSearch;
+use super::set_texts::{
+    BRANCHES, HIDDEN_LOOP, HIDDEN_STOP, INACTION, INTERNAL_LOOP, LATE, LINK, MEETING, SAME_FUTURE,
+    SAME_PREFIX, SERVER, TWO_ACTIONS, TWO_WAYS,
+};
+use lotos_suite::CoverSearch;
 use std::alloc::Global;
 use std::process::Abort;
 use std::test::Fail;
@@ -12,28 +15,17 @@ use std::test::Fail;
 /// More normal forms and sets than any of these has.
 const ALL: usize = 100;
 
-const INACTION: &str = "specification S : noexit behaviour stop endspec";
-
 const INTERNAL_STEP: &str = "specification S : noexit behaviour i; stop endspec";
-
-const INTERNAL_LOOP: &str =
-    "specification S : noexit behaviour P where process P : noexit := i; P endproc endspec";
-
-const TWO_ACTIONS: &str = "specification S [a,b] : noexit behaviour a; b; stop endspec";
 
 const INTERNAL_FIRST: &str = "specification S [a] : noexit behaviour i; a; stop endspec";
 
-/// After `b` one normal form that is reached by `a` too, and one that has `a`.
-const BRANCHES: &str =
-    "specification S [a,b] : noexit behaviour a; stop [] b; stop [] b; a; stop endspec";
+/// Two sets of normal forms after which the same can be observed.
+const TWO_TURNS: &str =
+    "specification S [a] : noexit behaviour P [a] where process P [a] : noexit := a; a; P [a] endproc endspec";
 
-/// Two sequences that lead to the same, of which the first is explored alone.
-const TWO_WAYS: &str =
-    "specification S [a,b,c] : noexit behaviour b; c; a; stop [] a; c; a; stop endspec";
-
-/// A set that comes up after a longer sequence than others.
-const LATE: &str =
-    "specification S [a,b] : noexit behaviour P [a,b] where process P [a,b] : noexit := b; a; (b; P [a,b] [] a; stop) [] a; P [a,b] endproc endspec";
+/// Two futures that three labels tell apart.
+const TOLD_LATE: &str =
+    "specification S [a,b] : noexit behaviour a; a; a; stop [] b; a; a; a; stop endspec";
 
 /// A specification, whether internal steps are observed, and its cover.
 const COVERS: &[(&str, bool, &str)] = &[
@@ -54,6 +46,10 @@ const COVERS: &[(&str, bool, &str)] = &[
     (BRANCHES, false, "A; B A; end"),
     (TWO_WAYS, false, "B; A C A; end"),
     (LATE, false, "A; B A A; B A B; end"),
+    (TWO_TURNS, false, "A; end"),
+    (SAME_FUTURE, false, "A; B; end"),
+    (SAME_FUTURE, true, "A; B i; end"),
+    (TOLD_LATE, false, "B A; A A A; end"),
 ];
 
 /// Specifications of which nothing can be observed, and what can if internal steps are.
@@ -75,10 +71,10 @@ const TERMS: &[(&str, usize, Option<&str>, &str)] = &[
     (HIDDEN_LOOP, 1, None, "over terms A"),
     (HIDDEN_LOOP, 2, None, "A A; A B; end"),
     (SERVER, 1, None, "over terms REQ"),
-    (BRANCHES, 1, None, "A; over terms B"),
+    (BRANCHES, 1, None, "over terms B"),
     (BRANCHES, 2, None, "A; B A; end"),
     // The halt is at the same sequence wherever the mark is.
-    (BRANCHES, 1, Some("<empty>"), "A; over terms B"),
+    (BRANCHES, 1, Some("<empty>"), "over terms B"),
     (BRANCHES, 1, Some("A"), "over terms B"),
     (BRANCHES, 1, Some("B A"), "over terms B"),
     (BRANCHES, 1, Some("A A A"), "over terms B"),
@@ -93,9 +89,14 @@ const STATES: &[(&str, usize, Option<&str>, &str)] = &[
     (TWO_ACTIONS, 1, None, "over states A"),
     (TWO_ACTIONS, 2, None, "over states A B"),
     (TWO_ACTIONS, 3, None, "A B; end"),
-    (HIDDEN_LOOP, 2, None, "A A; over states A B"),
+    // The bound counts sets, also of one future.
+    (TWO_TURNS, 1, None, "over states A"),
+    (TWO_TURNS, 2, None, "A; end"),
+    (SAME_FUTURE, 2, None, "over states B"),
+    (SAME_FUTURE, 3, None, "A; B; end"),
+    (HIDDEN_LOOP, 2, None, "over states A B"),
     (HIDDEN_LOOP, 3, None, "A A; A B; end"),
-    (LINK, 4, None, "PUT GET PUT; over states PUT GET GET GET"),
+    (LINK, 4, None, "over states PUT GET GET GET"),
     (
         LINK,
         5,
@@ -103,7 +104,7 @@ const STATES: &[(&str, usize, Option<&str>, &str)] = &[
         "PUT GET GET GET GET; PUT GET GET GET PUT; end",
     ),
     // The halt is at the same sequence wherever the mark is.
-    (HIDDEN_LOOP, 2, Some("A"), "A A; over states A B"),
+    (HIDDEN_LOOP, 2, Some("A"), "over states A B"),
     (HIDDEN_LOOP, 2, Some("A A"), "over states A B"),
     (HIDDEN_LOOP, 2, Some("A B"), "over states A B"),
     (HIDDEN_LOOP, 2, Some("C C C"), "over states A B"),
@@ -139,25 +140,30 @@ const CALLS: &[(&str, usize, &str)] = &[
         0,
         "over states <empty> failed failed failed failed ",
     ),
-    (HIDDEN_LOOP, 2, "A A; over states A B failed failed failed "),
+    (
+        HIDDEN_LOOP,
+        2,
+        "over states A B failed failed failed failed ",
+    ),
 ];
 
 /// A specification, whether internal steps are observed, and what the observer is told after each call.
 const TOLD: &[(&str, bool, &[Visits])] = &[
     (INACTION, false, &[NONE]),
     (INTERNAL_LOOP, true, &[NONE, NONE]),
-    // A and A B are new, and A B is a line.
+    // All are explored before the first line: A and A B.
     (TWO_ACTIONS, false, &[TWO_NEW, TWO_NEW]),
-    // A is new; A A is a line and not new; A B is both.
-    (HIDDEN_LOOP, false, &[ONE_NEW, TWO_NEW, TWO_NEW]),
-    // A is new; A i is a line and not new; A B is new, before A i; A B i is a line.
+    // A and A B.
+    (HIDDEN_LOOP, false, &[TWO_NEW, TWO_NEW, TWO_NEW]),
     (HIDDEN_LOOP, true, &[TWO_NEW, TWO_NEW, TWO_NEW]),
-    // PUT, PUT GET and PUT GET GET; PUT GET GET GET, before PUT GET GET PUT; and no more.
+    // PUT, PUT GET, PUT GET GET and PUT GET GET GET.
     (
         LINK,
         false,
-        &[THREE_NEW, FOUR_NEW, FOUR_NEW, FOUR_NEW, FOUR_NEW],
+        &[FOUR_NEW, FOUR_NEW, FOUR_NEW, FOUR_NEW, FOUR_NEW],
     ),
+    // A, of which the set has the future of the first one.
+    (TWO_TURNS, false, &[ONE_NEW, ONE_NEW]),
 ];
 
 /// One new sequence of each length, up to this one.
@@ -171,12 +177,6 @@ const TWO_NEW: Visits = Visits {
     count: 2,
     lengths: 3,
     longest: 2,
-};
-
-const THREE_NEW: Visits = Visits {
-    count: 3,
-    lengths: 6,
-    longest: 3,
 };
 
 const FOUR_NEW: Visits = Visits {

@@ -4,7 +4,10 @@ use super::accepted_text::normal_table_of_text;
 use super::cover_run::{label_text, label_texts};
 use super::listing_run::spell;
 use super::progress_tests::{NONE, Visits};
-use super::set_texts::{HIDDEN_LOOP, LINK, MEETING, SERVER};
+use super::set_texts::{
+    BRANCHES, HIDDEN_LOOP, INACTION, INTERNAL_LOOP, LATE, LINK, MEETING, SAME_FUTURE, SERVER,
+    TWO_ACTIONS, TWO_WAYS,
+};
 use lotos_automaton::{AutomatonFault, Transition, explore, find_automaton};
 use lotos_normal::NormalTable;
 use lotos_sets::FormSets;
@@ -15,30 +18,7 @@ use std::process::Abort;
 use std::test::Fail;
 
 /// More normal forms and sets than any of these has.
-const ALL: usize = 100;
-
-const INACTION: &str = "specification S : noexit behaviour stop endspec";
-
-const INTERNAL_LOOP: &str =
-    "specification S : noexit behaviour P where process P : noexit := i; P endproc endspec";
-
-const TWO_ACTIONS: &str = "specification S [a,b] : noexit behaviour a; b; stop endspec";
-
-/// After `b` one normal form that is reached by `a` too, and one that has `a`.
-const BRANCHES: &str =
-    "specification S [a,b] : noexit behaviour a; stop [] b; stop [] b; a; stop endspec";
-
-/// Two labels that lead to the same set.
-const TWO_WAYS: &str =
-    "specification S [a,b,c] : noexit behaviour b; c; a; stop [] a; c; a; stop endspec";
-
-/// A set that comes up after a longer sequence than others.
-const LATE: &str =
-    "specification S [a,b] : noexit behaviour P [a,b] where process P [a,b] : noexit := b; a; (b; P [a,b] [] a; stop) [] a; P [a,b] endproc endspec";
-
-/// Two sets after which the same can be observed: of inaction, and of internal steps for ever.
-const SAME_FUTURE: &str =
-    "specification S [a,b] : noexit behaviour a; stop [] b; P where process P : noexit := i; P endproc endspec";
+pub const ALL: usize = 100;
 
 /// A specification, whether internal steps are observed, the bounds on the normal forms of a set and on the sets, the
 /// graph with its states in order, and what the observer is told.
@@ -155,7 +135,12 @@ const AUTOMATA: &[(&str, bool, &str)] = &[
 ];
 
 /// The sets of a specification, none of which is made yet.
-fn sets_of(alloc: Global, text: &str, strong: bool, terms: usize) -> Result<Box<FormSets>, Fail> {
+pub fn sets_of(
+    alloc: Global,
+    text: &str,
+    strong: bool,
+    terms: usize,
+) -> Result<Box<FormSets>, Fail> {
     let table = normal_table_of_text(alloc, text)?;
     Ok(boxed_sets(alloc, table, strong, terms)?)
 }

@@ -1,6 +1,6 @@
 //! Tests of searches through public items: tables of listings, marks, small specifications against two oracles, first
-//! matches, sets of normal forms, explorations of them, reduced graphs, covers against a third oracle, matches against a
-//! fourth, what observers are told, and the examples of `uses`.
+//! matches, sets of normal forms, explorations of them, reduced graphs, first differences of two specifications, covers
+//! against a third oracle, matches against a fourth, suites, what observers are told, and the examples of `uses`.
 //!
 //! They are a crate of their own, because a crate with tests inside is proved twice, and one crate, because each that
 //! runs tests is linked with all libraries below.
@@ -10,6 +10,8 @@
 mod accepted_text;
 #[cfg(test)]
 mod call_tests;
+#[cfg(test)]
+mod comparison_tests;
 #[cfg(test)]
 mod cover_comparison;
 #[cfg(test)]
@@ -86,5 +88,7 @@ mod set_texts;
 mod set_walk;
 #[cfg(test)]
 mod set_walk_error;
+#[cfg(test)]
+mod suite_tests;
 #[cfg(test)]
 mod term_run_tests;

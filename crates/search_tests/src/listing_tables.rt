@@ -173,7 +173,49 @@ const OBSERVED: &[(&str, &[Plain])] = &[
     ),
 ];
 
-/// Compares listings of all items, with a bound that no prefix exceeds.
+/// Listings by length, of at most so many labels: runs of the same length that differ in where their internal steps are;
+/// a first run that does not begin with that of its prefix; and ends that refuse only after a longer run.
+const FIRST_RUNS: &[(&str, &[Plain])] = &[
+    (
+        "noexit behaviour hide h in (h; a; b; stop [] a; h; b; stop)",
+        &[
+            (2, &["A", "B"], "A B : A i B; end"),
+            (2, &["<until>", "A"], "A; end"),
+        ],
+    ),
+    (
+        "noexit behaviour hide h in (h; a; h; b; stop [] a; h; h; b; stop)",
+        &[(2, &["A", "B"], "A B : A i i B; end")],
+    ),
+    (
+        "noexit behaviour hide h in (h; h; a; b; stop [] a; h; h; b; stop [] h; a; h; b; stop)",
+        &[(2, &["A", "B"], "A B : A i i B; end")],
+    ),
+    (
+        "noexit behaviour hide h in (h; a; b; stop [] a; h; h; b; stop)",
+        &[
+            (2, &["A", "B"], "A B : i A B; end"),
+            (2, &["<until>", "A"], "A; end"),
+        ],
+    ),
+    (
+        "noexit behaviour hide h in (a; b; stop [] h; h; a; stop)",
+        &[
+            (1, &["A"], "A; end"),
+            (1, &["A", "<deadlock>"], "A : i i A; end"),
+        ],
+    ),
+    (
+        "noexit behaviour hide h in (a; h; stop [] h; a; stop)",
+        &[(1, &["A", "<deadlock>"], "A : A i; end")],
+    ),
+    (
+        "noexit behaviour hide h in (h; h; a; stop [] a; h; h; h; stop)",
+        &[(1, &["A", "<deadlock>"], "A : i i A; end")],
+    ),
+];
+
+/// Compares listings by depth of all items, with a bound that no prefix exceeds.
 fn expect(
     rt: &impl Abort,
     alloc: Global,
@@ -196,6 +238,24 @@ fn expect(
     Ok(())
 }
 
+/// Compares listings by length of all items, with a bound that no prefix exceeds.
+fn expect_by_length(rt: &impl Abort, alloc: Global, rows: &[(&str, &[Plain])]) -> Result<(), Fail> {
+    for (behaviour, searches) in rows {
+        for (length, words, expected) in *searches {
+            let question = Question {
+                behaviour,
+                words,
+                strong: false,
+                extent: Extent::Length(*length),
+                mark: None,
+                terms: ALL,
+            };
+            assert_listing(rt, alloc, question, expected)?;
+        }
+    }
+    Ok(())
+}
+
 #[test]
 fn lists_sequences(rt: HostRuntime) -> Result<(), Fail> {
     expect(&rt, rt.alloc(), ACTIONS, false)?;
@@ -203,6 +263,11 @@ fn lists_sequences(rt: HostRuntime) -> Result<(), Fail> {
     expect(&rt, rt.alloc(), COMPOSITIONS, false)?;
     expect(&rt, rt.alloc(), CALLS, false)?;
     expect(&rt, rt.alloc(), REPETITION, false)
+}
+
+#[test]
+fn lists_first_runs_by_length(rt: HostRuntime) -> Result<(), Fail> {
+    expect_by_length(&rt, rt.alloc(), FIRST_RUNS)
 }
 
 #[test]

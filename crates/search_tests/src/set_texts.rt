@@ -34,6 +34,29 @@ where process Sending [put,send,ack] : noexit
 process Receiver [get,frame,reply] : noexit := frame; get; reply; Receiver [get,frame,reply] endproc
 process Medium [take,give] : noexit := take; (give; Medium [take,give] [] i; Medium [take,give]) endproc endspec";
 
+pub const INACTION: &str = "specification S : noexit behaviour stop endspec";
+
+pub const INTERNAL_LOOP: &str =
+    "specification S : noexit behaviour P where process P : noexit := i; P endproc endspec";
+
+pub const TWO_ACTIONS: &str = "specification S [a,b] : noexit behaviour a; b; stop endspec";
+
+/// After `b` one normal form that is reached by `a` too, and one that has `a`.
+pub const BRANCHES: &str =
+    "specification S [a,b] : noexit behaviour a; stop [] b; stop [] b; a; stop endspec";
+
+/// Two labels that lead to the same set.
+pub const TWO_WAYS: &str =
+    "specification S [a,b,c] : noexit behaviour b; c; a; stop [] a; c; a; stop endspec";
+
+/// A set that comes up after a longer sequence than others.
+pub const LATE: &str =
+    "specification S [a,b] : noexit behaviour P [a,b] where process P [a,b] : noexit := b; a; (b; P [a,b] [] a; stop) [] a; P [a,b] endproc endspec";
+
+/// Two sets after which the same can be observed: of inaction, and of internal steps for ever.
+pub const SAME_FUTURE: &str =
+    "specification S [a,b] : noexit behaviour a; stop [] b; P where process P : noexit := i; P endproc endspec";
+
 /// The labels that follow the set, each followed by a blank, and `<deadlock>` if it has one.
 fn describe_set(alloc: Global, walk: &mut SetWalk, set: SetNumber) -> Result<String, WalkError> {
     let mut out = String::new(alloc);

@@ -13,6 +13,8 @@ mod name_tests;
 #[cfg(test)]
 mod nesting_tests;
 #[cfg(test)]
+mod pair_tests;
+#[cfg(test)]
 mod reserved_words;
 #[cfg(test)]
 mod table_texts;

@@ -1,6 +1,7 @@
 //! ASTs and faults in a form that fits in tables.
 use lotos_text::{
     Action, Behaviour, Definition, Functionality, Placed, Specification, SyncSet, TextFault, parse,
+    parse_pair,
 };
 use std::alloc::{AllocError, Global};
 use std::process::Abort;
@@ -24,21 +25,30 @@ pub fn assert_fault(rt: &impl Abort, words: &str, found: (u8, usize), expected: 
 
 /// The number of a text's fault and its offset, 0 if it has none; two zeros if there is no fault.
 pub fn fault_of_text(alloc: Global, text: &[u8]) -> (u8, usize) {
-    let answer = parse(alloc, text);
-    fault_of(&answer)
+    match parse(alloc, text) {
+        Ok(_) => (0, 0),
+        Err(fault) => number_and_offset(&fault),
+    }
 }
 
-fn fault_of(answer: &Result<Specification, TextFault>) -> (u8, usize) {
-    match answer {
+/// As `fault_of_text`, of a text of two specifications.
+pub fn fault_of_pair(alloc: Global, text: &[u8]) -> (u8, usize) {
+    match parse_pair(alloc, text) {
         Ok(_) => (0, 0),
-        Err(TextFault::E01(at)) => (1, *at),
-        Err(TextFault::E02(at)) => (2, *at),
-        Err(TextFault::E03) => (3, 0),
-        Err(TextFault::E04(at)) => (4, *at),
-        Err(TextFault::E05(at)) => (5, *at),
-        Err(TextFault::E06(at)) => (6, *at),
-        Err(TextFault::E07(at)) => (7, *at),
-        Err(TextFault::E99(_)) => (99, 0),
+        Err(fault) => number_and_offset(&fault),
+    }
+}
+
+fn number_and_offset(fault: &TextFault) -> (u8, usize) {
+    match fault {
+        TextFault::E01(at) => (1, *at),
+        TextFault::E02(at) => (2, *at),
+        TextFault::E03 => (3, 0),
+        TextFault::E04(at) => (4, *at),
+        TextFault::E05(at) => (5, *at),
+        TextFault::E06(at) => (6, *at),
+        TextFault::E07(at) => (7, *at),
+        TextFault::E99(_) => (99, 0),
     }
 }
 
@@ -52,6 +62,15 @@ pub fn accepted(alloc: Global, text: &[u8]) -> Result<Box<Specification>, TextFa
 pub fn definition_text(alloc: Global, text: &[u8]) -> Result<String, TextFault> {
     let tree = accepted(alloc, text)?;
     Ok(written(alloc, &tree.whole)?)
+}
+
+/// The two definitions that a text spells, as `write_definition` writes them, with ` and ` between them.
+pub fn pair_text(alloc: Global, text: &[u8]) -> Result<String, TextFault> {
+    let (first, second) = parse_pair(alloc, text)?;
+    let mut out = written(alloc, &first.whole)?;
+    out.push_str(" and ")?;
+    write_definition(alloc, &mut out, &second.whole)?;
+    Ok(out)
 }
 
 fn written(alloc: Global, of: &Definition) -> Result<String, AllocError> {

@@ -110,8 +110,8 @@ const MATCHES: &[Call] = &[
         told: Told { visits: 2, searched: Some(Searched { states: 2, elements: 1, is_stuck: false }), ..ACCEPTED } },
 ];
 
-/// What can come after a sequence, and a cover: after `A` it may be silent and then take `A`, and it may take `B`, after
-/// which nothing is observed. The sets after `A` and after `A B` are new.
+/// What can come after a sequence, a cover, an automaton, and a suite: after `A` it may be silent and then take `A`, and it may
+/// take `B`, after which nothing is observed. The sets after `A` and after `A B` are new.
 #[rattlefmt::skip]
 const NEXT: &[Call] = &[
     Call { words: "after 'A A'", reporting: "after --progress 'A A'", text: VANISHING,
@@ -123,6 +123,27 @@ const NEXT: &[Call] = &[
     Call { words: "cover", reporting: "cover --progress", text: VANISHING,
         called: Called { result: "Done(Listed { lines: 2 })", output: b"A A\nA B\n", flushes: 1 },
         told: Told { visits: 2, lines: 2, ..ACCEPTED } },
+    Call { words: "graph", reporting: "graph --progress", text: VANISHING,
+        called: Called { result: "Done(AutomatonSize { states: 3, transitions: 3 })", output: b"des (0, 3, 3)\n(0, \"A\", 1)\n(1, \"A\", 1)\n(1, \"B\", 2)\n", flushes: 1 },
+        told: Told { visits: 2, lines: 1, ..ACCEPTED } },
+    Call { words: "graph --terms 1", reporting: "graph --progress --terms 1", text: VANISHING,
+        called: Called { result: "Stopped { cause: Terms, place: Some(\"A\") }", output: b"", flushes: 0 },
+        told: ACCEPTED },
+    Call { words: "graph --states 2", reporting: "graph --progress --states 2", text: VANISHING,
+        called: Called { result: "Stopped { cause: States, place: Some(\"A B\") }", output: b"", flushes: 0 },
+        told: Told { visits: 1, ..ACCEPTED } },
+    Call { words: "suite", reporting: "suite --progress", text: VANISHING,
+        called: Called { result: "Done(Listed { lines: 5 })", output: b"- B\n+ A A A\n+ A A B\n- A B A\n- A B B\n", flushes: 1 },
+        told: Told { visits: 2, lines: 1, ..ACCEPTED } },
+    Call { words: "suite --limit 1", reporting: "suite --progress --limit 1", text: VANISHING,
+        called: Called { result: "Stopped { cause: Limit, place: ListingPlace { last: Some(\"- B\"), prefix: None } }", output: b"- B\n", flushes: 1 },
+        told: Told { visits: 2, lines: 1, ..ACCEPTED } },
+    Call { words: "suite --after 'A B B'", reporting: "suite --progress --after 'A B B'", text: VANISHING,
+        called: Called { result: "Done(Listed { lines: 0 })", output: b"", flushes: 1 },
+        told: Told { visits: 2, ..ACCEPTED } },
+    Call { words: "suite --terms 1", reporting: "suite --progress --terms 1", text: VANISHING,
+        called: Called { result: "Stopped { cause: Terms, place: ListingPlace { last: None, prefix: Some(\"A\") } }", output: b"", flushes: 0 },
+        told: ACCEPTED },
 ];
 
 /// Expects that a call has come to this.
@@ -178,6 +199,8 @@ fn expect_call<P: OutputProgress>(
         Ok(Request::Ever(asked)) => expect_answer(rt, alloc, call, asked, progress),
         Ok(Request::After(asked)) => expect_answer(rt, alloc, call, asked, progress),
         Ok(Request::Cover(asked)) => expect_answer(rt, alloc, call, asked, progress),
+        Ok(Request::Graph(asked)) => expect_answer(rt, alloc, call, asked, progress),
+        Ok(Request::Suite(asked)) => expect_answer(rt, alloc, call, asked, progress),
         _ => {
             assert!(rt; false, "no command with an observer: {}", call.words);
             Ok(())
@@ -232,7 +255,7 @@ fn matches_of_any_length(rt: HostRuntime) -> Result<(), AllocError> {
 }
 
 #[test]
-fn what_comes_next_and_covers(rt: HostRuntime) -> Result<(), AllocError> {
+fn what_comes_next_covers_and_automata(rt: HostRuntime) -> Result<(), AllocError> {
     expect_each(&rt, rt.alloc(), NEXT)
 }
 

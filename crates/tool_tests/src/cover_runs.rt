@@ -13,6 +13,10 @@ use std::process::Abort;
 
 const COVER: &[&str] = &["lotosseq", "cover"];
 
+/// One label in two turns, which cannot be told apart.
+const TWO_TURNS: &[u8] =
+    b"specification S [a] : noexit behaviour P [a] where process P [a] : noexit := a; a; P [a] endproc endspec";
+
 #[rattlefmt::skip]
 const LINES: &[Row] = &[
     Row { name: "hidden steps that come back, and some without end", text: VANISHING,
@@ -29,6 +33,10 @@ const LINES: &[Row] = &[
         text: b"specification S [a,b] : noexit behaviour a; stop [] b; stop endspec",
         words: "cover", output: b"A\nB\n", ..ROW },
     Row { name: "one label again and again", text: ONE_GATE, words: "cover", output: b"A\n", ..ROW },
+    Row { name: "two sets with one future", text: TWO_TURNS, words: "cover", output: b"A\n", ..ROW },
+    Row { name: "two items, each after the other",
+        text: b"specification S [put,get] : noexit behaviour P [put,get] where process P [put,get] : noexit := put; get; P [put,get] endproc endspec",
+        words: "cover", output: b"PUT GET\n", ..ROW },
     Row { name: "termination at once", text: b"specification S : exit behaviour exit endspec",
         words: "cover", output: b"exit\n", ..ROW },
 ];
@@ -95,9 +103,10 @@ const TERMS: &[Row] = &[
         words: "cover --terms 2", output: b"A\n", ..ROW },
     Row { name: "two terms after a label, and one is allowed", text: SHORT_OR_LONGER, words: "cover --terms 1",
         message: b"lotosseq: stopped before the first line: more than 1 terms at A\n", status: 4, ..ROW },
-    Row { name: "two terms after the first line, and one is allowed", text: ONE_OR_THREE, words: "cover --terms 1",
-        output: b"B\n", message: b"lotosseq: stopped after B: more than 1 terms at A A\n", status: 4, ..ROW },
-    Row { name: "two terms after the first line, and two are allowed", text: ONE_OR_THREE,
+    Row { name: "two terms after a sequence that comes after the first line, and one is allowed", text: ONE_OR_THREE,
+        words: "cover --terms 1",
+        message: b"lotosseq: stopped before the first line: more than 1 terms at A A\n", status: 4, ..ROW },
+    Row { name: "two terms after a sequence that comes after the first line, and two are allowed", text: ONE_OR_THREE,
         words: "cover --terms 2 --states 5", output: b"B\nA A A\n", ..ROW },
     Row { name: "internal steps that are labels lead to one term each", text: ONE_OR_THREE,
         words: "cover --terms 1 --strong", output: b"B\nA A i A\n", ..ROW },
@@ -113,14 +122,22 @@ const STATES: &[Row] = &[
         status: 4, ..ROW },
     Row { name: "two sets, and two are allowed", text: SERVER,
         words: "cover --states 2", output: b"REQ NAK\nREQ RSP\n", ..ROW },
-    Row { name: "three sets, and two are allowed", text: VANISHING, words: "cover --states=2", output: b"A A\n",
-        message: b"lotosseq: stopped after A A: more than 2 sets; --states N allows more\n", status: 4, ..ROW },
+    Row { name: "three sets, and two are allowed", text: VANISHING, words: "cover --states=2",
+        message: b"lotosseq: stopped before the first line: more than 2 sets; --states N allows more\n",
+        status: 4, ..ROW },
     Row { name: "three sets, and three are allowed", text: VANISHING,
         words: "cover --states=3", output: b"A A\nA B\n", ..ROW },
-    Row { name: "five sets, and four are allowed", text: LINK, words: "cover --states 4", output: b"PUT GET PUT\n",
-        message: b"lotosseq: stopped after PUT GET PUT: more than 4 sets; --states N allows more\n", status: 4, ..ROW },
-    Row { name: "a set too many after the limit", text: VANISHING, words: "cover --states 2 --limit 1",
-        output: b"A A\n", message: b"lotosseq: stopped after A A: limit reached\n", status: 3, ..ROW },
+    Row { name: "five sets, and four are allowed", text: LINK, words: "cover --states 4",
+        message: b"lotosseq: stopped before the first line: more than 4 sets; --states N allows more\n",
+        status: 4, ..ROW },
+    Row { name: "a set too many, and a limit", text: VANISHING, words: "cover --states 2 --limit 1",
+        message: b"lotosseq: stopped before the first line: more than 2 sets; --states N allows more\n",
+        status: 4, ..ROW },
+    Row { name: "two sets with one future, and one is allowed", text: TWO_TURNS, words: "cover --states 1",
+        message: b"lotosseq: stopped before the first line: more than 1 sets; --states N allows more\n",
+        status: 4, ..ROW },
+    Row { name: "two sets with one future, and two are allowed", text: TWO_TURNS,
+        words: "cover --states 2", output: b"A\n", ..ROW },
     Row { name: "a set too many before the mark", text: VANISHING, words: "cover --states 2 --after 'A A A'",
         message: b"lotosseq: stopped before the first line: more than 2 sets; --states N allows more\n",
         status: 4, ..ROW },

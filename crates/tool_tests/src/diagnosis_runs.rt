@@ -219,6 +219,10 @@ const WARNED: &[Row] = &[
         text: b"specification S [a] : noexit behaviour stop\n |[a]| stop endspec",
         message: b"lotosseq: 1:15: warning: the behaviour of S can do nothing: no action, no internal step, no termination\nlotosseq: 2:4: warning: gate A of `|[..]|` is never offered on the left\nlotosseq: 2:4: warning: gate A of `|[..]|` is never offered on the right\n",
         ..ROW },
+    Row { name: "a hidden gate on which two sides do not synchronize",
+        text: b"specification S [a,b] : noexit behaviour\nhide c in (a; c; stop ||| c; b; stop) endspec",
+        message: b"lotosseq: 2:6: warning: gate C of `hide` is offered on both sides of a parallel composition, which do not synchronize on it\n",
+        ..ROW },
     Row { name: "nothing to warn of", text: ONE_STEP, ..ROW },
 ];
 

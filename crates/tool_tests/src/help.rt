@@ -1,10 +1,6 @@
 //! Runs that ask for help or for the version.
 
-use super::help_summaries::{
-    AFTER_SUMMARY, CHECK_SUMMARY, COVER_SUMMARY, EVER_SUMMARY, PROGRAM_SUMMARY, SEARCH_SUMMARY,
-    VERSION,
-};
-use super::help_texts::{AFTER, CHECK, COVER, EVER, PROGRAM, SEARCH};
+use super::help_texts::{after, check, compare, cover, ever, graph, program, search, suite};
 use super::memory_devices::WhenFull;
 use super::runs::{Bytes, Outcome, Parts, RUN, Run, Taken, UNREAD, WHOLE, expect, expect_parts};
 use std::alloc::Global;
@@ -14,19 +10,22 @@ use std::process::Abort;
 type Row = (&'static [&'static str], &'static str);
 
 const LONG: &[Row] = &[
-    (&["lotosseq", "--help"], PROGRAM),
-    (&["lotosseq", "check", "--help"], CHECK),
+    (&["lotosseq", "--help"], program::WHOLE),
+    (&["lotosseq", "check", "--help"], check::WHOLE),
 ];
 
 const SHORT: &[Row] = &[
-    (&["lotosseq", "-h"], PROGRAM_SUMMARY),
-    (&["lotosseq", "search", "-h"], SEARCH_SUMMARY),
-    (&["lotosseq", "ever", "-h"], EVER_SUMMARY),
-    (&["lotosseq", "after", "-h"], AFTER_SUMMARY),
-    (&["lotosseq", "cover", "-h"], COVER_SUMMARY),
-    (&["lotosseq", "check", "-h"], CHECK_SUMMARY),
-    (&["lotosseq", "--version"], VERSION),
-    (&["lotosseq", "-V"], VERSION),
+    (&["lotosseq", "-h"], program::SHORT),
+    (&["lotosseq", "search", "-h"], search::SHORT),
+    (&["lotosseq", "ever", "-h"], ever::SHORT),
+    (&["lotosseq", "after", "-h"], after::SHORT),
+    (&["lotosseq", "cover", "-h"], cover::SHORT),
+    (&["lotosseq", "graph", "-h"], graph::SHORT),
+    (&["lotosseq", "suite", "-h"], suite::SHORT),
+    (&["lotosseq", "compare", "-h"], compare::SHORT),
+    (&["lotosseq", "check", "-h"], check::SHORT),
+    (&["lotosseq", "--version"], program::VERSION),
+    (&["lotosseq", "-V"], program::VERSION),
 ];
 
 /// Runs the words, and expects this text, no message, status 0 and one flush.
@@ -54,22 +53,72 @@ fn help_of_the_program_and_of_check(rt: HostRuntime) {
 
 #[test]
 fn help_of_search(rt: HostRuntime) {
-    expect_text(&rt, rt.alloc(), &["lotosseq", "search", "--help"], SEARCH);
+    expect_text(
+        &rt,
+        rt.alloc(),
+        &["lotosseq", "search", "--help"],
+        search::WHOLE,
+    );
 }
 
 #[test]
 fn help_of_ever(rt: HostRuntime) {
-    expect_text(&rt, rt.alloc(), &["lotosseq", "ever", "--help"], EVER);
+    expect_text(
+        &rt,
+        rt.alloc(),
+        &["lotosseq", "ever", "--help"],
+        ever::WHOLE,
+    );
 }
 
 #[test]
 fn help_of_after(rt: HostRuntime) {
-    expect_text(&rt, rt.alloc(), &["lotosseq", "after", "--help"], AFTER);
+    expect_text(
+        &rt,
+        rt.alloc(),
+        &["lotosseq", "after", "--help"],
+        after::WHOLE,
+    );
 }
 
 #[test]
 fn help_of_cover(rt: HostRuntime) {
-    expect_text(&rt, rt.alloc(), &["lotosseq", "cover", "--help"], COVER);
+    expect_text(
+        &rt,
+        rt.alloc(),
+        &["lotosseq", "cover", "--help"],
+        cover::WHOLE,
+    );
+}
+
+#[test]
+fn help_of_graph(rt: HostRuntime) {
+    expect_text(
+        &rt,
+        rt.alloc(),
+        &["lotosseq", "graph", "--help"],
+        graph::WHOLE,
+    );
+}
+
+#[test]
+fn help_of_suite(rt: HostRuntime) {
+    expect_text(
+        &rt,
+        rt.alloc(),
+        &["lotosseq", "suite", "--help"],
+        suite::WHOLE,
+    );
+}
+
+#[test]
+fn help_of_compare(rt: HostRuntime) {
+    expect_text(
+        &rt,
+        rt.alloc(),
+        &["lotosseq", "compare", "--help"],
+        compare::WHOLE,
+    );
 }
 
 #[test]
@@ -102,6 +151,18 @@ const ROWS: &[(&[&str], &[u8])] = &[
     (
         &["lotosseq", "help", "cover"],
         b"Lists sequences that show all that can be observed\n",
+    ),
+    (
+        &["lotosseq", "help", "graph"],
+        b"Writes all that can be observed as an automaton\n",
+    ),
+    (
+        &["lotosseq", "help", "suite"],
+        b"Lists a test suite that misses nothing\n",
+    ),
+    (
+        &["lotosseq", "help", "compare"],
+        b"Writes where two specifications first differ\n",
     ),
     (
         &["lotosseq", "--version"],

@@ -72,7 +72,7 @@ const LISTINGS: &[Row] = &[
 #[rattlefmt::skip]
 const COVERS: &[Row] = &[
     Row { name: "two gates in turns, with hidden steps after each", text: TURNS,
-        words: "cover --only WIN,RIN", output: b"WIN RIN WIN\n", ..ROW },
+        words: "cover --only WIN,RIN", output: b"WIN RIN\n", ..ROW },
     Row { name: "a response that is hidden", text: SERVER,
         words: "cover --hide RSP", output: b"REQ NAK\nREQ REQ\n", ..ROW },
     Row { name: "all gates are hidden", text: SERVER, words: "cover --hide RSP,NAK,REQ", status: 1, ..ROW },

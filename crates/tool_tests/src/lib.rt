@@ -13,6 +13,8 @@ mod byte_output_tests;
 mod check_runs;
 #[cfg(test)]
 mod command_calls;
+mod compare_messages;
+mod compare_runs;
 #[cfg(test)]
 mod cover_runs;
 #[cfg(test)]
@@ -24,9 +26,10 @@ mod expected_output;
 #[cfg(test)]
 mod grammar_runs;
 #[cfg(test)]
+mod graph_runs;
+#[cfg(test)]
 mod help;
 #[cfg(test)]
-mod help_summaries;
 #[cfg(test)]
 mod help_texts;
 #[cfg(test)]
@@ -67,6 +70,8 @@ mod rows;
 mod runs;
 #[cfg(test)]
 mod search_runs;
+#[cfg(test)]
+mod suite_runs;
 #[cfg(test)]
 mod terminals;
 #[cfg(test)]

@@ -128,7 +128,6 @@ fn more_than_300_states(rt: HostRuntime) {
         "<until>",
         "<deadlock>",
     ];
-    let message =
-        b"lotosseq: stopped: more than 300 states; --states N allows more, and a system that grows for ever has no end\n";
+    let message = b"lotosseq: stopped: more than 300 states; --states N allows more\n";
     expect_message(&rt, rt.alloc(), words.as_slice(), TWO_ROWS, message, 4);
 }

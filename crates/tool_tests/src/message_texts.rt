@@ -9,9 +9,9 @@ use lotos_pattern::PatternFault;
 use lotos_report::report_end;
 use lotos_text::TextFault;
 use lotos_tool::{
-    AfterRequest, Command, CommandFault, Continuation, CoverRequest, Ended, EverRequest, Extent,
-    Interface, Listed, ListingPlace, Occurrence, Processes, Refusal, SearchRequest, Stop,
-    report_command_fault,
+    AfterRequest, AutomatonSize, Command, CommandFault, Continuation, CoverRequest, Ended,
+    EverRequest, Extent, GraphRequest, Interface, Listed, ListingPlace, Occurrence, Processes,
+    Refusal, SearchRequest, Stop, SuiteRequest, report_command_fault,
 };
 use std::alloc::{AllocError, Global};
 use std::fmt::Display;
@@ -30,6 +30,7 @@ pub fn search_request(alloc: Global) -> SearchRequest {
         strong: false,
         known: false,
         progress: false,
+        brief: false,
         words: Vec::new(alloc),
     }
 }
@@ -44,6 +45,34 @@ fn cover_request() -> CoverRequest {
         interface: Interface::Whole,
         strong: false,
         progress: false,
+        brief: false,
+    }
+}
+
+/// A request for an automaton with 300 as the bound on the terms and 400 as that on the sets.
+fn graph_request() -> GraphRequest {
+    GraphRequest {
+        terms: 300,
+        states: 400,
+        interface: Interface::Whole,
+        strong: false,
+        progress: false,
+        brief: false,
+    }
+}
+
+/// A request for a suite with 300 as the bound on the terms and 400 as that on the sets.
+fn suite_request() -> SuiteRequest {
+    SuiteRequest {
+        extra: 1,
+        limit: None,
+        after: None,
+        terms: 300,
+        states: 400,
+        interface: Interface::Whole,
+        strong: false,
+        progress: false,
+        brief: false,
     }
 }
 
@@ -55,6 +84,7 @@ pub fn ever_request(alloc: Global) -> EverRequest {
         interface: Interface::Whole,
         strong: false,
         progress: false,
+        brief: false,
         words: Vec::new(alloc),
     }
 }
@@ -66,6 +96,7 @@ pub fn after_request(words: Vec<String>) -> AfterRequest {
         interface: Interface::Whole,
         strong: false,
         progress: false,
+        brief: false,
         words,
     }
 }
@@ -215,6 +246,107 @@ fn a_cover_that_stopped(rt: HostRuntime) -> Result<(), AllocError> {
     Ok(())
 }
 
+/// Why no automaton is written, the sequence, its message and its status.
+const GRAPH_STOPS: &[(Stop, Option<&str>, &[u8], u8)] = &[
+    (
+        Stop::States,
+        Some("A exit"),
+        b"lotosseq: stopped: more than 400 sets; --states N allows more\n",
+        4,
+    ),
+    (
+        Stop::Terms,
+        Some("<empty>"),
+        b"lotosseq: stopped: more than 300 terms at <empty>\n",
+        4,
+    ),
+    (Stop::Memory, None, b"lotosseq: E99 out of memory\n", 5),
+    (
+        Stop::Write,
+        None,
+        b"lotosseq: output cannot be written\n",
+        6,
+    ),
+];
+
+#[test]
+fn an_automaton_that_is_not_written(rt: HostRuntime) -> Result<(), AllocError> {
+    let request = graph_request();
+    for (cause, place, message, status) in GRAPH_STOPS {
+        let text = match place {
+            Some(text) => Some(String::from_str(rt.alloc(), *text)?),
+            None => None,
+        };
+        let ended = Ended::Stopped {
+            cause: *cause,
+            place: text,
+        };
+        expect_end(&rt, &request, &ended, *message, *status);
+    }
+    let written = Ended::Done(AutomatonSize {
+        states: 1,
+        transitions: 0,
+    });
+    expect_end(&rt, &request, &written, b"", 0);
+    Ok(())
+}
+
+/// Why a suite stops, its last line and the sequence, its message and its status.
+const SUITE_STOPS: &[(Stop, Option<&str>, Option<&str>, &[u8], u8)] = &[
+    (
+        Stop::Limit,
+        Some("- A exit"),
+        None,
+        b"lotosseq: stopped after - A exit: limit reached\n",
+        3,
+    ),
+    (
+        Stop::Terms,
+        None,
+        Some("<empty>"),
+        b"lotosseq: stopped: more than 300 terms at <empty>\n",
+        4,
+    ),
+    (
+        Stop::States,
+        None,
+        Some("A exit"),
+        b"lotosseq: stopped: more than 400 sets; --states N allows more\n",
+        4,
+    ),
+    (
+        Stop::Lines,
+        None,
+        None,
+        b"lotosseq: stopped: more than 10000000 lines; a smaller --extra or fewer gates give fewer\n",
+        4,
+    ),
+    (
+        Stop::Memory,
+        None,
+        None,
+        b"lotosseq: E99 out of memory\n",
+        5,
+    ),
+    (
+        Stop::Write,
+        None,
+        None,
+        b"lotosseq: output cannot be written\n",
+        6,
+    ),
+];
+
+#[test]
+fn a_suite_that_stopped(rt: HostRuntime) -> Result<(), AllocError> {
+    let request = suite_request();
+    for (cause, last, prefix, message, status) in SUITE_STOPS {
+        let ended = stopped(rt.alloc(), *cause, *last, *prefix)?;
+        expect_end(&rt, &request, &ended, *message, *status);
+    }
+    Ok(())
+}
+
 #[test]
 fn a_search_that_did_not_stop(rt: HostRuntime) {
     let request = search_request(rt.alloc());
@@ -258,7 +390,7 @@ const EVER_STOPS: &[(Stop, Option<Occurrence>, &[u8], u8)] = &[
     (
         Stop::States,
         None,
-        b"lotosseq: stopped: more than 300 states; --states N allows more, and a system that grows for ever has no end\n",
+        b"lotosseq: stopped: more than 300 states; --states N allows more\n",
         4,
     ),
     (Stop::Memory, None, b"lotosseq: E99 out of memory\n", 5),

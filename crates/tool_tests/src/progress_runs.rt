@@ -7,8 +7,8 @@ use super::worked_texts::VANISHING;
 use lotos_check::AcceptedText;
 use lotos_device::{FromRead, FromWrite};
 use lotos_tool::{
-    AfterRequest, EverRequest, Messages, OutputProgress, Progress, Request, answer, request,
-    run_args,
+    AfterRequest, CompareRequest, EverRequest, Messages, OutputProgress, Progress, Request, answer,
+    request, run_args,
 };
 use std::alloc::{AllocError, Global};
 use std::io::{Error, ErrorKind};
@@ -18,6 +18,10 @@ use std::process::Abort;
 /// prefixes, so the lengths up to `n` have n * (n + 1) / 2 visits: 990 up to 44, and 2,016 up to 63.
 const ONE_GATE: &[u8] =
     b"specification S [a] : noexit behaviour P[a] where process P [x] : noexit := x; P[x] endproc endspec";
+
+/// A system with B after A, and one with C.
+const PARTING: &[u8] = b"specification S [a,b] : noexit behaviour a; b; stop endspec
+specification S [a,c] : noexit behaviour a; c; stop endspec";
 
 /// All sequences of at most 70 labels, the empty one first.
 const ALL: &[&str] = &["lotosseq", "search", "--depth", "70", "<while>", "A"];
@@ -92,7 +96,7 @@ fn a_listing_reports_prefixes_and_lines(rt: HostRuntime) {
         false,
         (
             b"lotosseq: length 44, 1024 prefixes, 45 lines\nlotosseq: length 63, 2048 prefixes, 64 lines\n",
-            b"\rlotosseq: length 44, 1024 prefixes, 45 lines\x1b[K\r\x1b[K\rlotosseq: length 63, 2048 prefixes, 64 lines\x1b[K\r\x1b[K",
+            b"\rlotosseq: length 44, 1024 prefixes, 45 lines\x1b[K\r\x1b[K\rlotosseq: length 63, 2048 prefixes, 64 lines\x1b[K\r\x1b[Klotosseq: at the end: length 70, 2485 prefixes, 71 lines\n",
             0,
         ),
     );
@@ -117,7 +121,7 @@ fn a_terminal_is_cleared_before_a_message(rt: HostRuntime) -> Result<(), AllocEr
         true,
         (
             b"lotosseq: length 44, 1024 prefixes, 0 lines\nlotosseq: stopped before the first line: output cannot be written\n",
-            b"\rlotosseq: length 44, 1024 prefixes, 0 lines\x1b[K\r\x1b[Klotosseq: stopped before the first line: output cannot be written\n",
+            b"\rlotosseq: length 44, 1024 prefixes, 0 lines\x1b[K\r\x1b[Klotosseq: stopped before the first line: output cannot be written\nlotosseq: at the end: length 62, 1953 prefixes, 0 lines\n",
             6,
         ),
     );
@@ -154,7 +158,7 @@ fn a_search_without_a_match_reports_states(rt: HostRuntime) -> Result<(), AllocE
         false,
         (
             b"lotosseq: 44 steps, 1024 states; 44 with 43 steps, 34 with 44 so far\nlotosseq: 68 steps, 2048 states; 34 with 67 steps, 8 with 68 so far\nlotosseq: it happens at no depth; 2601 states; word 1 cannot be matched\n",
-            b"\rlotosseq: 44 steps, 1024 states; 44 with 43 steps, 34 with 44 so far\x1b[K\rlotosseq: 68 steps, 2048 states; 34 with 67 steps, 8 with 68 so far\x1b[K\r\x1b[Klotosseq: it happens at no depth; 2601 states; word 1 cannot be matched\n",
+            b"\rlotosseq: 44 steps, 1024 states; 44 with 43 steps, 34 with 44 so far\x1b[K\rlotosseq: 68 steps, 2048 states; 34 with 67 steps, 8 with 68 so far\x1b[K\r\x1b[Klotosseq: it happens at no depth; 2601 states; word 1 cannot be matched\nlotosseq: at the end: 100 steps, 2601 states\n",
             1,
         ),
     );
@@ -175,7 +179,7 @@ fn a_terminal_is_cleared_before_a_match(rt: HostRuntime) -> Result<(), AllocErro
         false,
         (
             b"lotosseq: 44 steps, 1024 states; 44 with 43 steps, 34 with 44 so far\nlotosseq: 68 steps, 2048 states; 34 with 67 steps, 8 with 68 so far\n",
-            b"\rlotosseq: 44 steps, 1024 states; 44 with 43 steps, 34 with 44 so far\x1b[K\rlotosseq: 68 steps, 2048 states; 34 with 67 steps, 8 with 68 so far\x1b[K\r\x1b[K",
+            b"\rlotosseq: 44 steps, 1024 states; 44 with 43 steps, 34 with 44 so far\x1b[K\rlotosseq: 68 steps, 2048 states; 34 with 67 steps, 8 with 68 so far\x1b[K\r\x1b[Klotosseq: at the end: 100 steps, 2601 states\n",
             0,
         ),
     );
@@ -208,11 +212,24 @@ fn a_sequence_that_is_followed_reports_labels(rt: HostRuntime) -> Result<(), All
         &[],
         (
             b"lotosseq: 1024 labels\nlotosseq: 2048 labels\n",
-            b"\rlotosseq: 1024 labels\x1b[K\rlotosseq: 2048 labels\x1b[K\r\x1b[K",
+            b"\rlotosseq: 1024 labels\x1b[K\rlotosseq: 2048 labels\x1b[K\r\x1b[Klotosseq: at the end: 2048 labels\n",
             0,
         ),
     )?;
-    assert_labels(&rt, rt.alloc(), 1_023, &[], (b"", b"", 0))
+    assert_labels(
+        &rt,
+        rt.alloc(),
+        1_023,
+        &[],
+        (b"", b"lotosseq: at the end: 1023 labels\n", 0),
+    )?;
+    assert_labels(
+        &rt,
+        rt.alloc(),
+        1,
+        &[],
+        (b"", b"lotosseq: at the end: 1 label\n", 0),
+    )
 }
 
 #[test]
@@ -226,30 +243,30 @@ fn a_terminal_is_cleared_before_a_label_that_cannot_come(
         &["exit", "A"],
         (
             b"lotosseq: 1024 labels\nlotosseq: label 1025, exit, cannot come here; what can: A\n",
-            b"\rlotosseq: 1024 labels\x1b[K\r\x1b[Klotosseq: label 1025, exit, cannot come here; what can: A\n",
+            b"\rlotosseq: 1024 labels\x1b[K\r\x1b[Klotosseq: label 1025, exit, cannot come here; what can: A\nlotosseq: at the end: 1024 labels\n",
             1,
         ),
     )
 }
 
-/// Two sides that take 33 and 32 steps of `A` from round to round, and may end when both begin one: the states are the
-/// pairs of their numbers of steps, each of which one sequence of `A` reaches first, after up to 1,055 steps. With the
-/// end after `B`, which comes up after the first `A`, these are 1,057 sets, and the lines are `B` and 1,056 times `A`.
+/// Two sides that take 33 and 32 steps of `A` from round to round until `B` ends both: the states are the pairs of their
+/// numbers of steps, each of which one sequence of `A` reaches first, after up to 1,055 steps. With the end after `B`,
+/// which comes up after the first `A`, these are 1,057 sets. The same can come after each `A`, so the lines are `A` and `B`.
 fn two_rounds(alloc: Global) -> Result<Vec<u8>, AllocError> {
     let mut text = repeated(
         alloc,
-        b"specification S [a,b] : noexit behaviour L [a,b] |[a,b]| M [a,b]
-where process L [a,b] : noexit := b; stop [] ",
+        b"specification S [a,b] : noexit behaviour (L [a] |[a]| M [a]) [> b; stop
+where process L [a] : noexit := ",
         b"a; ",
         33,
-        b"L [a,b] endproc ",
+        b"L [a] endproc ",
     )?;
     let other = repeated(
         alloc,
-        b"process M [a,b] : noexit := b; stop [] ",
+        b"process M [a] : noexit := ",
         b"a; ",
         32,
-        b"M [a,b] endproc endspec",
+        b"M [a] endproc endspec",
     )?;
     text.extend_from_slice(other.as_slice())?;
     Ok(text)
@@ -265,8 +282,8 @@ fn a_cover_reports_sets_and_lines(rt: HostRuntime) -> Result<(), AllocError> {
         text.as_slice(),
         false,
         (
-            b"lotosseq: length 1023, 1024 sets, 1 lines\n",
-            b"\rlotosseq: length 1023, 1024 sets, 1 lines\x1b[K\r\x1b[K",
+            b"lotosseq: length 1023, 1024 sets, 0 lines\n",
+            b"\rlotosseq: length 1023, 1024 sets, 0 lines\x1b[K\r\x1b[Klotosseq: at the end: length 1055, 1057 sets, 2 lines\n",
             0,
         ),
     );
@@ -286,8 +303,29 @@ fn a_terminal_is_cleared_before_a_stop(rt: HostRuntime) -> Result<(), AllocError
         text.as_slice(),
         false,
         (
-            b"lotosseq: length 1023, 1024 sets, 1 lines\nlotosseq: stopped after B: more than 1050 sets; --states N allows more\n",
-            b"\rlotosseq: length 1023, 1024 sets, 1 lines\x1b[K\r\x1b[Klotosseq: stopped after B: more than 1050 sets; --states N allows more\n",
+            b"lotosseq: length 1023, 1024 sets, 0 lines\nlotosseq: stopped before the first line: more than 1050 sets; --states N allows more\n",
+            b"\rlotosseq: length 1023, 1024 sets, 0 lines\x1b[K\r\x1b[Klotosseq: stopped before the first line: more than 1050 sets; --states N allows more\nlotosseq: at the end: length 1048, 1050 sets, 0 lines\n",
+            4,
+        ),
+    );
+    Ok(())
+}
+
+#[test]
+fn an_automaton_reports_sets(rt: HostRuntime) -> Result<(), AllocError> {
+    let text = two_rounds(rt.alloc())?;
+    assert_reports(
+        &rt,
+        rt.alloc(),
+        (
+            &["lotosseq", "graph", "--states", "1050"],
+            &["lotosseq", "graph", "--states", "1050", "--progress"],
+        ),
+        text.as_slice(),
+        false,
+        (
+            b"lotosseq: length 1023, 1024 sets\nlotosseq: stopped: more than 1050 sets; --states N allows more\n",
+            b"\rlotosseq: length 1023, 1024 sets\x1b[K\r\x1b[Klotosseq: stopped: more than 1050 sets; --states N allows more\nlotosseq: at the end: length 1048, 1050 sets\n",
             4,
         ),
     );
@@ -314,7 +352,11 @@ fn a_short_search_reports_nothing(rt: HostRuntime) {
         ),
         ONE_GATE,
         false,
-        (b"", b"", 0),
+        (
+            b"",
+            b"lotosseq: at the end: length 44, 990 prefixes, 45 lines\n",
+            0,
+        ),
     );
 }
 
@@ -394,6 +436,13 @@ fn after_observed(alloc: Global, question: &AfterRequest, counter: &mut Counter)
     let _ = answer(alloc, question, &mut reader, &mut out, counter);
 }
 
+/// Compares the two systems that differ after A.
+fn compare_observed(alloc: Global, question: &CompareRequest, counter: &mut Counter) {
+    let mut reader = FromRead::new(SliceReader::new(PARTING, 4096));
+    let mut out = FromWrite::new(ArrayWriter::new(4096));
+    let _ = answer(alloc, question, &mut reader, &mut out, counter);
+}
+
 /// What an observer of the command is told.
 fn observe(alloc: Global, words: &[&str]) -> Result<Counter, AllocError> {
     let mut counter = Counter {
@@ -414,6 +463,17 @@ fn observe(alloc: Global, words: &[&str]) -> Result<Counter, AllocError> {
             let mut out = FromWrite::new(ArrayWriter::new(4096));
             let _ = answer(alloc, &question, &mut reader, &mut out, &mut counter);
         }
+        Ok(Request::Graph(question)) => {
+            let mut reader = FromRead::new(SliceReader::new(VANISHING, 4096));
+            let mut out = FromWrite::new(ArrayWriter::new(4096));
+            let _ = answer(alloc, &question, &mut reader, &mut out, &mut counter);
+        }
+        Ok(Request::Suite(question)) => {
+            let mut reader = FromRead::new(SliceReader::new(VANISHING, 4096));
+            let mut out = FromWrite::new(ArrayWriter::new(4096));
+            let _ = answer(alloc, &question, &mut reader, &mut out, &mut counter);
+        }
+        Ok(Request::Compare(question)) => compare_observed(alloc, &question, &mut counter),
         Ok(Request::Check) => {}
         Ok(Request::Diagnose(_asked)) => {}
         Err(_fault) => {}
@@ -421,7 +481,7 @@ fn observe(alloc: Global, words: &[&str]) -> Result<Counter, AllocError> {
     Ok(counter)
 }
 
-/// Asserts what an observer of the command is told.
+/// Asserts what an observer of a command on one specification is told.
 fn assert_told(
     rt: &impl Abort,
     alloc: Global,
@@ -429,11 +489,23 @@ fn assert_told(
     visits: usize,
     lines: usize,
 ) -> Result<(), AllocError> {
-    let told = observe(alloc, words)?;
+    let told = assert_visits(rt, alloc, words, visits, lines)?;
     assert_eq!(rt; told.accepted, 1);
+    Ok(())
+}
+
+/// Asserts of how many visits and lines an observer of the command is told.
+fn assert_visits(
+    rt: &impl Abort,
+    alloc: Global,
+    words: &[&str],
+    visits: usize,
+    lines: usize,
+) -> Result<Counter, AllocError> {
+    let told = observe(alloc, words)?;
     assert_eq!(rt; told.visits, visits);
     assert_eq!(rt; told.lines, lines);
-    Ok(())
+    Ok(told)
 }
 
 #[test]
@@ -455,15 +527,29 @@ fn an_observer_is_told_of_each_label(rt: HostRuntime) -> Result<(), AllocError> 
     assert_told(&rt, rt.alloc(), impossible.as_slice(), 2, 0)
 }
 
-/// `A` and `A B` lead to new sets, between which comes the line `A A`.
+/// `A` and `A B` lead to new sets, before the first line.
 #[test]
 fn an_observer_is_told_of_each_set(rt: HostRuntime) -> Result<(), AllocError> {
     let covered = ["lotosseq", "cover"];
     let limited = ["lotosseq", "cover", "--limit", "1"];
     let stopped = ["lotosseq", "cover", "--states", "2"];
     assert_told(&rt, rt.alloc(), covered.as_slice(), 2, 2)?;
-    assert_told(&rt, rt.alloc(), limited.as_slice(), 1, 1)?;
-    assert_told(&rt, rt.alloc(), stopped.as_slice(), 1, 1)
+    assert_told(&rt, rt.alloc(), limited.as_slice(), 2, 1)?;
+    let drawn = ["lotosseq", "graph"];
+    assert_told(&rt, rt.alloc(), stopped.as_slice(), 1, 0)?;
+    assert_told(&rt, rt.alloc(), drawn.as_slice(), 2, 1)
+}
+
+/// `A` leads to a new pair of sets, after which B comes in the first alone.
+#[test]
+fn an_observer_is_told_of_each_pair(rt: HostRuntime) -> Result<(), AllocError> {
+    let compared = ["lotosseq", "compare"];
+    let hidden = ["lotosseq", "compare", "--only", "A"];
+    let stopped = ["lotosseq", "compare", "--states", "1"];
+    assert_visits(&rt, rt.alloc(), compared.as_slice(), 1, 1)?;
+    assert_visits(&rt, rt.alloc(), hidden.as_slice(), 1, 0)?;
+    assert_visits(&rt, rt.alloc(), stopped.as_slice(), 0, 0)?;
+    Ok(())
 }
 
 /// Runs arguments that cannot be read, with an error stream that is a terminal or is none.

@@ -30,6 +30,15 @@ const ROWS: &[Row] = &[
     Row { words: "cover --states 0",
         message: b"error: invalid value '0' for '--states <N>': 0 is not in 1..=100000000\n\nFor more information, try '--help'.\n",
         ..REFUSED },
+    Row { words: "graph --terms 1000001",
+        message: b"error: invalid value '1000001' for '--terms <N>': 1000001 is not in 1..=1000000\n\nFor more information, try '--help'.\n",
+        ..REFUSED },
+    Row { words: "suite --extra 4",
+        message: b"error: invalid value '4' for '--extra <K>': 4 is not in 0..=3\n\nFor more information, try '--help'.\n",
+        ..REFUSED },
+    Row { words: "suite --extra=-1",
+        message: b"error: invalid value '-1' for '--extra <K>': -1 is not in 0..=3\n\nFor more information, try '--help'.\n",
+        ..REFUSED },
     Row { words: "cover --limit 0",
         message: b"error: invalid value '0' for '--limit <N>': 0 is not in 1..=1000000000\n\nFor more information, try '--help'.\n",
         ..REFUSED },
@@ -75,7 +84,7 @@ const OF_OTHERS: &[Row] = &[
         ..REFUSED },
 ];
 
-/// Options of other commands, given to `after` and `cover`.
+/// Options of other commands, given to `after`, `cover`, `graph`, `suite` and `compare`.
 #[rattlefmt::skip]
 const OF_LISTINGS: &[Row] = &[
     Row { words: "after --depth 3",
@@ -102,6 +111,33 @@ const OF_LISTINGS: &[Row] = &[
     Row { words: "cover --known",
         message: b"error: unexpected argument '--known' found\n\nUsage: lotosseq cover [OPTIONS]\n\nFor more information, try '--help'.\nlotosseq: cover has no --known: it has no words\n",
         ..REFUSED },
+    Row { words: "suite --length 3",
+        message: b"error: unexpected argument '--length' found\n\nUsage: lotosseq suite [OPTIONS]\n\nFor more information, try '--help'.\nlotosseq: suite has no --length: it ends when nothing is missed\n",
+        ..REFUSED },
+    Row { words: "suite --after '- A B'",
+        message: b"error: unexpected argument '- ' found\n\nUsage: lotosseq suite [OPTIONS]\n\nFor more information, try '--help'.\nlotosseq: a line that begins with - goes after an equals sign, as in --after=\"- A\"\n",
+        ..REFUSED },
+    Row { words: "suite --explain",
+        message: b"error: unexpected argument '--explain' found\n\nUsage: lotosseq suite [OPTIONS]\n\nFor more information, try '--help'.\nlotosseq: suite has no --explain: ever --explain or ever --hidden with the labels of a line shows their run\n",
+        ..REFUSED },
+    Row { words: "graph --length 3",
+        message: b"error: unexpected argument '--length' found\n\nUsage: lotosseq graph [OPTIONS]\n\nFor more information, try '--help'.\nlotosseq: graph has no --length: it has all that can be observed, of any length\n",
+        ..REFUSED },
+    Row { words: "graph --limit 3",
+        message: b"error: unexpected argument '--limit' found\n\nUsage: lotosseq graph [OPTIONS]\n\nFor more information, try '--help'.\nlotosseq: graph has no --limit: it is written as a whole\n",
+        ..REFUSED },
+    Row { words: "graph --explain",
+        message: b"error: unexpected argument '--explain' found\n\nUsage: lotosseq graph [OPTIONS]\n\nFor more information, try '--help'.\nlotosseq: graph has no --explain: it has labels, and no sequences that have runs\n",
+        ..REFUSED },
+    Row { words: "graph --known",
+        message: b"error: unexpected argument '--known' found\n\nUsage: lotosseq graph [OPTIONS]\n\nFor more information, try '--help'.\nlotosseq: graph has no --known: it has no words\n",
+        ..REFUSED },
+    Row { words: "compare --length 3",
+        message: b"error: unexpected argument '--length' found\n\nUsage: lotosseq compare [OPTIONS]\n\nFor more information, try '--help'.\nlotosseq: compare has no --length: it compares sequences of any length\n",
+        ..REFUSED },
+    Row { words: "compare --explain",
+        message: b"error: unexpected argument '--explain' found\n\nUsage: lotosseq compare [OPTIONS]\n\nFor more information, try '--help'.\nlotosseq: compare has no --explain: ever --explain or ever --hidden with the words of the line shows its run\n",
+        ..REFUSED },
 ];
 
 #[test]
@@ -110,7 +146,7 @@ fn options_that_another_command_has(rt: HostRuntime) {
 }
 
 #[test]
-fn options_that_after_and_cover_do_not_have(rt: HostRuntime) {
+fn options_that_other_commands_do_not_have(rt: HostRuntime) {
     expect_rows(&rt, rt.alloc(), OF_LISTINGS);
 }
 

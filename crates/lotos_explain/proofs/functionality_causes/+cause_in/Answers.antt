@@ -12,9 +12,11 @@ returns-in-Exit t c = λ scope h. rw c.in-Exit.is (exit_caused scope)
 
 pub returns-in-Enable : goal.returns-in-Enable
 returns-in-Enable t c = λ scope h.
-    rw c.in-Enable.is (some_weaker c.cause_in.result
-    (enable_caused scope (behaviour_view c.in-Enable.left.value) c.in-Enable.at (behaviour_view c.in-Enable.right.value))
-    (rw c.deref.ensures at (c.cause_in.ensures scope h)))
+    let right = behaviour_view c.in-Enable.right.value in
+    let found = rw c.deref-in-Enable.ensures at (c.cause_in.ensures scope h) in
+    rw c.in-Enable.is (some_weaker c.cause_after.result
+    (enable_caused scope (behaviour_view c.in-Enable.left.value) c.in-Enable.at right)
+    (rw c.deref.ensures at (c.cause_after.ensures scope right found)))
 
 pub returns-in-Prefix : goal.returns-in-Prefix
 returns-in-Prefix t c = λ scope h.

@@ -12,4 +12,4 @@ returns-in_err-read-in-Some-clause-rejected c =
     let h = subst (λ text. IsMarkFault c.args.strong text fault) c.as_str.ensures.value c.in_err-read-in-Some.ensures.fault in
     passed_on (IsRejectionBy (IsMarkRefusal c.args.strong c.args.line.now)) c.from_residual.result (mark_rejection fault) c.from_residual.ensures.1
     (subst (λ line. IsRejectionBy (IsMarkRefusal c.args.strong line) (mark_rejection fault)) (sym c.in-Some.is)
-    (mark_rejected_for c.args.strong c.in-Some.line fault h))
+    (mark_rejected_for (λ text. text) c.args.strong c.in-Some.line fault h))

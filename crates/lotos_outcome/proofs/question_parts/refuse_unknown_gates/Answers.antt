@@ -1,4 +1,4 @@
-use Rattle.std.proofs.Common.{◌≡◌, rules, true}
+use Rattle.std.proofs.Common.{rules}
 use Rattle.lotos_check.proofs.SameFault.{passed_on}
 use Rattle.lotos_check.specs.CheckedView.{system_of}
 use Rattle.lotos_outcome.specs.QuestionParts.{words_of}

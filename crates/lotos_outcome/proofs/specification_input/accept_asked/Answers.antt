@@ -1,7 +1,7 @@
 use Rattle.lotos_check.proofs.SameFault.{passed_on}
 use Rattle.lotos_check.specs.CheckedView.{system_of}
 use Rattle.lotos_outcome.specs.RefusalCauses.{IsAskedRefusal}
-use Rattle.lotos_outcome.specs.RefusalCauses.IsAskedRefusal.{of_interface}
+use Rattle.lotos_outcome.specs.RefusalCauses.IsAskedRefusalBy.{of_interface}
 use Rattle.lotos_outcome.specs.Rejections.{IsRejectionBy}
 use Rattle.lotos_outcome.proofs.Rejections.{rejects_more}
 use Rattle.lotos_outcome.proofs.specification_input.accept_asked.Goals as goal

@@ -1,5 +1,5 @@
 use Rattle.std.proofs.Common.{rules}
-use Rattle.lotos_outcome.specs.RefusalCauses.IsInputRefusal.{too_long, unreadable}
+use Rattle.lotos_outcome.specs.RefusalCauses.IsUnreadInput.{too_long, unreadable}
 use Rattle.lotos_outcome.proofs.specification_input.read_input.Goals as goal
 
 pub returns-in-Err-Device-clause-refused : goal.returns-in-Err-Device-clause-refused

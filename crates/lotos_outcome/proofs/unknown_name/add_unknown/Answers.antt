@@ -1,11 +1,11 @@
-use Rattle.std.proofs.Common.{◌≡◌, ◌≤◌, ◌+◌, Some, [], arith, get_or, length, refl, sym, subst}
+use Rattle.std.proofs.Common.{◌≡◌, ◌≤◌, ◌+◌, Some, [], arith, get_or, length, subst}
 use Rattle.std.specs.Prelude.{slice_get}
 use Rattle.std.proofs.lemmas.List.{length-map}
 use Rattle.lotos_pattern.specs.Spelling.{Text, parts_of, texts_of}
 use Rattle.lotos_pattern.proofs.Words.{word_at}
-use Rattle.lotos_outcome.specs.UnknownGates.{HasUnknownGate, IsUnknownGate, NamesUnknownGate}
+use Rattle.lotos_outcome.specs.UnknownGates.{HasUnknownGate, IsUnknownGate}
 use Rattle.lotos_outcome.specs.UnknownNames.{AddsUnknown}
-use Rattle.lotos_outcome.proofs.UnknownNames.{HasUnknownBefore, adds_alike, adds_more, adds_nothing, known_name, none_before, still_unknown, unknown_before}
+use Rattle.lotos_outcome.proofs.UnknownNames.{HasUnknownBefore, adds_alike, adds_more, known_name, still_unknown, unknown_before}
 use Rattle.lotos_outcome.proofs.UnknownNames.{unknown_in}
 use Rattle.lotos_outcome.proofs.unknown_name.add_unknown.Goals.{else-branch, then-branch+in_ok-add_name}
 use Rattle.lotos_outcome.proofs.unknown_name.add_unknown.Goals as goal

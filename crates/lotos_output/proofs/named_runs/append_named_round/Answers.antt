@@ -1,4 +1,4 @@
-use Rattle.std.proofs.Common.{◌∙◌, ◌++◌, [], ap, codes, string_bytes, subst, sym}
+use Rattle.std.proofs.Common.{◌∙◌, ◌++◌, [], ap, codes, string_bytes}
 use Rattle.lotos_output.specs.OutputLines.{row_text, sequence_text}
 use Rattle.lotos_output.proofs.NamedLines.{round_joined}
 use Rattle.lotos_output.proofs.named_runs.append_named_round.Goals as goal

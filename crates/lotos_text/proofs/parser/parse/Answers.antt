@@ -1,41 +1,43 @@
 use Rattle.std.proofs.Common.{rules, subst, [], Some}
+use Rattle.lotos_text.specs.Grammar.{SpellsSpecification}
 use Rattle.lotos_text.specs.ParserContracts.{Parses, FailsWithin}
 use Rattle.lotos_text.specs.Phrases.{SpecificationPhrase}
 use Rattle.lotos_text.specs.Limits.{max_nesting}
 use Rattle.lotos_text.specs.AstOf.{definition_view}
 use Rattle.lotos_text.proofs.ParseOutcome.{stuck_spells_nothing, found_spelled, found_only, lost_refused, lost_spells_nothing}
 use Rattle.lotos_text.proofs.OffsetsInside.{fault_inside, stuck_fault_inside, spelled_inside}
+use Rattle.lotos_text.proofs.WholeSpecification.{specification_is_phrase}
 use Rattle.lotos_text.proofs.parser.parse.Goals as goal
 
 pub returns-in_err-tokens-clause-nothing : goal.returns-in_err-tokens-clause-nothing
-returns-in_err-tokens-clause-nothing c = let h = stuck_spells_nothing c.args.text.now c.in_err-tokens.field-0.0
+returns-in_err-tokens-clause-nothing c = let h = stuck_spells_nothing SpellsSpecification c.args.text.now c.in_err-tokens.field-0.0
     c.in_err-tokens.ensures.fails in search rules
 
 pub returns-in-Ok-clause-spelled : goal.returns-in-Ok-clause-spelled
 returns-in-Ok-clause-spelled c =
-    found_spelled c.args.text.now c.in_ok-tokens.tokens.items c.in_ok-tokens.ensures.short c.in_ok-tokens.ensures.lexes
-    (definition_view c.in-Ok.whole)
-    (subst (λ ts. Parses (SpecificationPhrase c.args.text.now (Some max_nesting)) ts (definition_view c.in-Ok.whole) []) c.as_slice.ensures.value
-    c.in-Ok.ensures.parses)
+    found_spelled SpellsSpecification c.args.text.now (SpecificationPhrase c.args.text.now) (specification_is_phrase c.args.text.now)
+    c.in_ok-tokens.tokens.items c.in_ok-tokens.ensures.short c.in_ok-tokens.ensures.lexes (definition_view c.in-Ok.whole)
+    (subst (λ ts. Parses (SpecificationPhrase c.args.text.now (Some max_nesting)) ts (definition_view c.in-Ok.whole) [])
+    c.as_slice.ensures.value c.in-Ok.ensures.parses)
 
 pub returns-in-Ok-clause-only : goal.returns-in-Ok-clause-only
 returns-in-Ok-clause-only c other s =
-    found_only c.args.text.now c.in_ok-tokens.tokens.items c.in_ok-tokens.ensures.short c.in_ok-tokens.ensures.lexes
-    (definition_view c.in-Ok.whole) other
-    (subst (λ ts. Parses (SpecificationPhrase c.args.text.now (Some max_nesting)) ts (definition_view c.in-Ok.whole) []) c.as_slice.ensures.value
-    c.in-Ok.ensures.parses) s
+    found_only SpellsSpecification c.args.text.now (SpecificationPhrase c.args.text.now) (specification_is_phrase c.args.text.now)
+    c.in_ok-tokens.tokens.items c.in_ok-tokens.ensures.short c.in_ok-tokens.ensures.lexes (definition_view c.in-Ok.whole) other
+    (subst (λ ts. Parses (SpecificationPhrase c.args.text.now (Some max_nesting)) ts (definition_view c.in-Ok.whole) [])
+    c.as_slice.ensures.value c.in-Ok.ensures.parses) s
 
 pub returns-clause-fault : goal.returns-clause-fault
 returns-clause-fault c =
-    lost_refused c.args.text.now c.in_ok-tokens.tokens.items c.in_ok-tokens.ensures.short c.in_ok-tokens.ensures.lexes c.in-Err.error
-    c.fault_of_error.result
+    lost_refused SpellsSpecification c.args.text.now (SpecificationPhrase c.args.text.now) (specification_is_phrase c.args.text.now)
+    c.in_ok-tokens.tokens.items c.in_ok-tokens.ensures.short c.in_ok-tokens.ensures.lexes c.in-Err.error c.fault_of_error.result
     (subst (λ ts. FailsWithin (SpecificationPhrase c.args.text.now) max_nesting ts c.in-Err.error) c.as_slice.ensures.value c.in-Err.ensures.fails)
     c.fault_of_error.ensures
 
 pub returns-clause-nothing : goal.returns-clause-nothing
 returns-clause-nothing c =
-    lost_spells_nothing c.args.text.now c.in_ok-tokens.tokens.items c.in_ok-tokens.ensures.short c.in_ok-tokens.ensures.lexes c.in-Err.error
-    c.fault_of_error.result
+    lost_spells_nothing SpellsSpecification c.args.text.now (SpecificationPhrase c.args.text.now) (specification_is_phrase c.args.text.now)
+    c.in_ok-tokens.tokens.items c.in_ok-tokens.ensures.short c.in_ok-tokens.ensures.lexes c.in-Err.error c.fault_of_error.result
     (subst (λ ts. FailsWithin (SpecificationPhrase c.args.text.now) max_nesting ts c.in-Err.error) c.as_slice.ensures.value c.in-Err.ensures.fails)
     c.fault_of_error.ensures
 
@@ -47,4 +49,4 @@ pub returns-in-Ok-clause-ast_inside : goal.returns-in-Ok-clause-ast_inside
 returns-in-Ok-clause-ast_inside c = spelled_inside c.args.text.now (definition_view c.in-Ok.whole) (returns-in-Ok-clause-spelled c)
 
 pub returns-clause-fault_inside : goal.returns-clause-fault_inside
-returns-clause-fault_inside c = fault_inside c.args.text.now c.fault_of_error.result (returns-clause-fault c)
+returns-clause-fault_inside c = fault_inside SpellsSpecification c.args.text.now c.fault_of_error.result (returns-clause-fault c)

@@ -1,5 +1,4 @@
 use Rattle.std.proofs.Common.{refl, subst, sym}
-use Rattle.lotos_check.specs.CheckedView.{system_of}
 use Rattle.lotos_tool.specs.CheckOutcome.{check_meaning}
 use Rattle.lotos_outcome.specs.QuestionParts.{ReadsAccepted}
 use Rattle.lotos_tool.proofs.CallEnds.{call_answered, call_rejected}

@@ -1,4 +1,3 @@
-use Rattle.std.proofs.Common.{subst, sym}
 use Rattle.lotos_tool.proofs.CallEnds.{call_answered, call_rejected}
 use Rattle.lotos_tool.proofs.command.answer.Goals as goal
 

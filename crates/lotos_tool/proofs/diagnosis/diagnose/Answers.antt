@@ -1,7 +1,9 @@
 use Rattle.std.proofs.Common.{refl, subst, sym}
 use Rattle.lotos_text.specs.Limits.{max_text_length}
-use Rattle.lotos_check.specs.Flat.{System}
 use Rattle.lotos_device.specs.TextInput.{ReadsAll}
+use Rattle.lotos_outcome.specs.RefusalCauses.{IsInputRefusal, IsUnreadInput}
+use Rattle.lotos_outcome.specs.RefusalCauses.IsInputRefusalBy.{unread}
+use Rattle.lotos_outcome.proofs.Rejections.{rejects_more}
 use Rattle.lotos_tool.specs.CheckOutcome.{check_meaning}
 use Rattle.lotos_tool.proofs.CallEnds.{call_rejected}
 use Rattle.lotos_tool.proofs.Diagnoses.{text_called}
@@ -17,4 +19,5 @@ returns-in-Ok g c =
 pub returns-in-Err : goal.returns-in-Err
 returns-in-Err g c =
     call_rejected check_meaning _ _ _ c.in-Err.rejection _ c.report_rejection.result c.report_rejection.ensures refl
-    c.in-Err.ensures.refused c.in-Err.ensures.takes c.in-Err.ensures.failed c.requires.out
+    (rejects_more (IsUnreadInput _ _) (IsInputRefusal _ _) c.in-Err.rejection (λ cause. unread) c.in-Err.ensures.refused)
+    c.in-Err.ensures.takes c.in-Err.ensures.failed c.requires.out

@@ -1,7 +1,6 @@
 use Rattle.std.proofs.Common.{subst, sym}
 use Rattle.lotos_text.specs.AstOf.{definition_view}
 use Rattle.lotos_check.specs.AcceptedText.{Accepted}
-use Rattle.lotos_check.specs.CheckedView.{system_of}
 use Rattle.lotos_outcome.specs.Calls.{EndsAs}
 use Rattle.lotos_tool.specs.CheckOutcome.{check_answering}
 use Rattle.lotos_outcome.specs.RefusalCauses.{IsTextRefusal}
@@ -21,4 +20,4 @@ returns-in-Ok-clause-ends g c =
 pub returns-in-Err-clause-ends : goal.returns-in-Err-clause-ends
 returns-in-Err-clause-ends g c =
     subst (EndsAs check_answering (IsTextRefusal c.args.text.now) (Accepted c.args.text.now) _ _) (sym c.report_rejection.ensures)
-    (rejected_ends check_answering _ _ _ c.reject-rejection.result c.reject-rejection.ensures)
+    (rejected_ends check_answering _ _ _ c.reject-rejection.result (c.reject-rejection.ensures.one c.in-Err.ensures.rejected))

@@ -1,7 +1,6 @@
 use Rattle.std.proofs.Common.{◌≡◌, List, length, false}
 use Rattle.lotos_listing.specs.ListingSteps.{running}
-use Rattle.lotos_listing.specs.Remaining.{remaining}
-use Rattle.lotos_tool.specs.ListingQuestions.{most_of, names_of}
+use Rattle.lotos_tool.specs.ListingQuestions.{names_of, remaining_after}
 use Rattle.lotos_tool.specs.ListingOutcome.{IsBelowLimit}
 use Rattle.lotos_tool.specs.ListingParts.{HasLastText}
 use Rattle.lotos_tool.specs.WrittenItems.{AreRunsFor}
@@ -30,6 +29,4 @@ invariant-loop-found g l =
 
 -- how many sequences of at most as many labels as a member may have come after the last item
 abbrev pub decreases-loop-found : goal.decreases-loop-found
-decreases-loop-found g l =
-    let now = g.S.ListingSearch.state l.search in
-    remaining (names_of now.question) (most_of now.question) now.cursor
+decreases-loop-found g l = remaining_after (g.S.ListingSearch.state l.search)

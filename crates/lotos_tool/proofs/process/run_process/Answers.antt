@@ -1,6 +1,5 @@
 use Rattle.std.proofs.Common.{◌≡◌, false, map, string_bytes}
 use Rattle.std.specs.Vec.Iter.{into_iter_items}
-use Rattle.lotos_device.specs.DeviceStates.{SinkState, SourceState}
 use Rattle.lotos_device.specs.WrappedDevices.{sink_of, source_of}
 use Rattle.lotos_tool.proofs.UnreadWords.{from_the_start}
 use Rattle.lotos_tool.proofs.process.run_process.Goals as goal

@@ -1,4 +1,4 @@
-use Rattle.std.proofs.Common.{◌≡◌, ℕ, ◌+◌, Bool, List, arith, inl, inr, rules, subst}
+use Rattle.std.proofs.Common.{◌≡◌, ℕ, Bool, List, arith, inl, inr, rules, subst}
 use Rattle.lotos_command.specs.Request.{RequestOf, request_view}
 use Rattle.lotos_command.specs.declared.command.Request.{Request}
 use Rattle.lotos_command.specs.declared.command.Request.TheVariants as command
@@ -6,11 +6,14 @@ use Rattle.lotos_device.specs.DeviceStates.{SinkState, SourceState}
 use Rattle.lotos_outcome.specs.Calls.{Meaning, Ran}
 use Rattle.lotos_tool.specs.AfterOutcome.{after_meaning}
 use Rattle.lotos_tool.specs.CheckOutcome.{check_meaning}
+use Rattle.lotos_tool.specs.CompareOutcome.{compare_meaning}
 use Rattle.lotos_tool.specs.CoverOutcome.{cover_meaning}
 use Rattle.lotos_tool.specs.EverOutcome.{ever_meaning}
-use Rattle.lotos_tool.specs.Findings.{always, can_come, happens, has_lines}
-use Rattle.lotos_tool.specs.ProgramRuns.{CommandRan, ProgramRan}
+use Rattle.lotos_tool.specs.Findings.{always, are_alike, can_come, happens, has_lines}
+use Rattle.lotos_tool.specs.GraphOutcome.{graph_meaning}
+use Rattle.lotos_tool.specs.ProgramRuns.{CommandRan}
 use Rattle.lotos_tool.specs.SearchOutcome.{search_meaning}
+use Rattle.lotos_tool.specs.SuiteOutcome.{suite_meaning}
 use Rattle.lotos_tool.proofs.CallEnds.{ran_output}
 use Rattle.lotos_tool.proofs.UnreadWords.{answered}
 use Rattle.lotos_tool.proofs.program.run.Goals as goal
@@ -76,9 +79,37 @@ returns-in-Ok-Cover g c =
       output = ran_output _ _ _ _ _ _ _ ran;
     }
 
+pub returns-in-Ok-Graph : goal.returns-in-Ok-Graph
+returns-in-Ok-Graph g c =
+    let ran = c.run_command-in-Ok-Graph.ensures in record {
+      ran = inr (inr (inr (inr (inr (inl (command_ran _ _ _ _ _ _ command.Graph graph_meaning always c.in-Ok-Graph.field-0 c.in-Ok-Graph.asked ran
+          (search rules) c.in-Ok-Graph.ensures.is))))));
+      given = ran.call.takes.given;
+      output = ran_output _ _ _ _ _ _ _ ran;
+    }
+
+pub returns-in-Ok-Suite : goal.returns-in-Ok-Suite
+returns-in-Ok-Suite g c =
+    let ran = c.run_command-in-Ok-Suite.ensures in record {
+      ran = inr (inr (inr (inr (inr (inr (inl (command_ran _ _ _ _ _ _ command.Suite suite_meaning has_lines c.in-Ok-Suite.field-0 c.in-Ok-Suite.asked ran
+          (search rules) c.in-Ok-Suite.ensures.is)))))));
+      given = ran.call.takes.given;
+      output = ran_output _ _ _ _ _ _ _ ran;
+    }
+
+pub returns-in-Ok-Compare : goal.returns-in-Ok-Compare
+returns-in-Ok-Compare g c =
+    let ran = c.run_command-in-Ok-Compare.ensures in record {
+      ran = inr (inr (inr (inr (inr (inr (inr (inl (command_ran _ _ _ _ _ _ command.Compare compare_meaning are_alike c.in-Ok-Compare.field-0
+          c.in-Ok-Compare.asked ran (search rules) c.in-Ok-Compare.ensures.is))))))));
+      given = ran.call.takes.given;
+      output = ran_output _ _ _ _ _ _ _ ran;
+    }
+
 pub returns-in-Err : goal.returns-in-Err
 returns-in-Err g c = record {
-  ran = inr (inr (inr (inr (inr (answered _ c.in-Err.fault _ _ _ _ c.in-Err.ensures.fault c.in-Err.ensures.taken c.end_without_command.ensures.answer)))));
+  ran = inr (inr (inr (inr (inr (inr (inr (inr (answered _ c.in-Err.fault _ _ _ _ c.in-Err.ensures.fault c.in-Err.ensures.taken
+      c.end_without_command.ensures.answer))))))));
   given = omega arith;
   output = c.end_without_command.ensures.output;
 }

@@ -1,4 +1,3 @@
-use Rattle.std.proofs.Common.{refl, subst}
 use Rattle.lotos_check.specs.CheckedView.{system_of}
 use Rattle.lotos_outcome.specs.declared.outcome.Ended.TheVariants.{Done}
 use Rattle.lotos_tool.specs.AfterOutcome.{IsAfterQuestionOf, ReadsAfter, after_answering}

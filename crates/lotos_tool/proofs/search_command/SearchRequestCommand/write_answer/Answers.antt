@@ -1,5 +1,3 @@
-use Rattle.std.proofs.Common.{inl, refl}
-use Rattle.std.proofs.KnownBytes.{Keeps-refl}
 use Rattle.lotos_check.specs.CheckedView.{system_of}
 use Rattle.lotos_tool.specs.SearchOutcome.{search_answering}
 use Rattle.lotos_tool.proofs.CallEnds.{ends_more}

@@ -1,0 +1,12 @@
+use Rattle.std.proofs.Common.{◌≡◌, ◌≤◌, ◌+◌, ℕ, length}
+use Rattle.lotos_suite.specs.ApartSearch.{HasSearchedTo, strays}
+use Rattle.lotos_store.specs.Interning.{plain_lists}
+use Rattle.lotos_suite.specs.SuiteTables.{IsSubject, IsTableOf, Subject}
+use Rattle.lotos_suite.proofs.apart_sequences.ApartSequences.add_longer.Given as goal
+
+abbrev pub invariant-loop-label : goal.invariant-loop-label
+invariant-loop-label l = record {
+  searched : (s : Subject) (d : ℕ) → IsSubject s → IsTableOf s (plain_lists l.rows) → length s.labels ≡ l.labels →
+      HasSearchedTo s l.fn.self d l.from l.to 0 l.from → HasSearchedTo s l.self d l.from l.to l.label l.from;
+  fewer : strays 0 l.self.classes.items + length l.self.can.items ≤ strays 0 l.fn.self.classes.items + length l.fn.self.can.items;
+}
