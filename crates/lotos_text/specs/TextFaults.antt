@@ -1,7 +1,6 @@
 -- Why a text spells no specification, or not two.
 use Rattle.std.specs.Prelude.{◌≡◌, ℕ, ◌≤◌, ◌<◌, true, false, List, [], ◌∷◌, ◌++◌, length}
 use Rattle.lotos_text.specs.Limits.{max_text_length, max_nesting}
-use Rattle.lotos_text.specs.AstView.{DefinitionView}
 use Rattle.lotos_text.specs.Lexing.{Lexes, FailsAtByte, FailsAtComment}
 use Rattle.lotos_text.specs.Grammar.{IsPrefix, IsPrefixWithin, SpellsPair, SpellsSpecification, Spelling}
 use Rattle.lotos_text.specs.ConstructOpenings.{opens_construct, count_openings, is_full_lotos}
