@@ -13,7 +13,9 @@ mod byte_output_tests;
 mod check_runs;
 #[cfg(test)]
 mod command_calls;
+#[cfg(test)]
 mod compare_messages;
+#[cfg(test)]
 mod compare_runs;
 #[cfg(test)]
 mod cover_runs;
@@ -29,7 +31,6 @@ mod grammar_runs;
 mod graph_runs;
 #[cfg(test)]
 mod help;
-#[cfg(test)]
 #[cfg(test)]
 mod help_texts;
 #[cfg(test)]
