@@ -226,7 +226,7 @@ impl fmt::Display for AtTheEnd {
             }
             Visited::States => {
                 let states = Counted(counts.visits, "state");
-                write!(f, "length {length}, {states}, {steps}, {ends}")
+                write!(f, "depth {length}, {states}, {steps}, {ends}")
             }
             Visited::Labels => write!(f, "{}", Counted(counts.length, "label")),
             Visited::Sets => write!(f, "length {length}, {sets}, {steps}, {ends}, {lines}"),

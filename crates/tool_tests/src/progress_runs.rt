@@ -160,7 +160,7 @@ fn a_search_without_a_match_reports_states(rt: HostRuntime) -> Result<(), AllocE
         false,
         (
             b"lotosseq: 44 steps, 1024 states; 44 with 43 steps, 34 with 44 so far\nlotosseq: 68 steps, 2048 states; 34 with 67 steps, 8 with 68 so far\nlotosseq: it happens at no depth; 2601 states; word 1 cannot be matched\n",
-            b"\rlotosseq: 44 steps, 1024 states; 44 with 43 steps, 34 with 44 so far\x1b[K\rlotosseq: 68 steps, 2048 states; 34 with 67 steps, 8 with 68 so far\x1b[K\r\x1b[Klotosseq: it happens at no depth; 2601 states; word 1 cannot be matched\nlotosseq: at the end: length 100, 2601 states, 5100 steps, 1 dead end\n",
+            b"\rlotosseq: 44 steps, 1024 states; 44 with 43 steps, 34 with 44 so far\x1b[K\rlotosseq: 68 steps, 2048 states; 34 with 67 steps, 8 with 68 so far\x1b[K\r\x1b[Klotosseq: it happens at no depth; 2601 states; word 1 cannot be matched\nlotosseq: at the end: depth 100, 2601 states, 5100 steps, 1 dead end\n",
             1,
         ),
     );
@@ -181,7 +181,7 @@ fn a_terminal_is_cleared_before_a_match(rt: HostRuntime) -> Result<(), AllocErro
         false,
         (
             b"lotosseq: 44 steps, 1024 states; 44 with 43 steps, 34 with 44 so far\nlotosseq: 68 steps, 2048 states; 34 with 67 steps, 8 with 68 so far\n",
-            b"\rlotosseq: 44 steps, 1024 states; 44 with 43 steps, 34 with 44 so far\x1b[K\rlotosseq: 68 steps, 2048 states; 34 with 67 steps, 8 with 68 so far\x1b[K\r\x1b[Klotosseq: at the end: length 100, 2601 states, 5100 steps, 1 dead end\n",
+            b"\rlotosseq: 44 steps, 1024 states; 44 with 43 steps, 34 with 44 so far\x1b[K\rlotosseq: 68 steps, 2048 states; 34 with 67 steps, 8 with 68 so far\x1b[K\r\x1b[Klotosseq: at the end: depth 100, 2601 states, 5100 steps, 1 dead end\n",
             0,
         ),
     );
