@@ -55,6 +55,8 @@ impl<'a, E: Write> ProgressReport<'a, E> {
                 length: 0,
                 with_length: 0,
                 with_one_less: 0,
+                steps: 0,
+                dead_ends: 0,
                 lines: 0,
             },
             work: 0,
@@ -81,6 +83,14 @@ impl<'a, E: Write> ProgressReport<'a, E> {
     /// Notes a visit without a report.
     pub fn count(&mut self, length: usize) {
         self.counts.note(length);
+    }
+
+    /// Notes how many steps lead on from a prefix, a state or a set.
+    pub fn expand(&mut self, steps: usize) {
+        self.counts.steps = self.counts.steps.saturating_add(steps);
+        if steps == 0 {
+            self.counts.dead_ends = self.counts.dead_ends.saturating_add(1);
+        }
     }
 
     /// How far the search is.
@@ -134,37 +144,9 @@ fn next_report(visits: usize) -> usize {
     visits.saturating_add(visits.min(MAX_INTERVAL))
 }
 
-/// Says how far a search was when it ended. The set of the empty sequence is counted though it is not visited.
+/// Says how far a search was when it ended.
 pub fn report_counts<E: Write>(err: &mut E, counts: Counts) {
-    let length = NumberText(counts.length);
-    let visits = counts.visits;
-    let lines = Counted(counts.lines, "line");
-    let sets = Counted(visits.saturating_add(1), "set");
-    let _ = match counts.visited {
-        Visited::Prefixes => {
-            let prefixes = if visits == 1 { "prefix" } else { "prefixes" };
-            let visits = NumberText(visits);
-            writeln!(
-                err,
-                "lotosseq: at the end: length {length}, {visits} {prefixes}, {lines}"
-            )
-        }
-        Visited::States => {
-            let (steps, states) = (Counted(counts.length, "step"), Counted(visits, "state"));
-            writeln!(err, "lotosseq: at the end: {steps}, {states}")
-        }
-        Visited::Labels => {
-            let labels = Counted(counts.length, "label");
-            writeln!(err, "lotosseq: at the end: {labels}")
-        }
-        Visited::Sets => writeln!(
-            err,
-            "lotosseq: at the end: length {length}, {sets}, {lines}"
-        ),
-        Visited::AllSets => writeln!(err, "lotosseq: at the end: length {length}, {sets}"),
-        // A comparison says itself how many pairs it looked at.
-        Visited::Pairs => Ok(()),
-    };
+    let _ = writeln!(err, "lotosseq: at the end: {}", AtTheEnd(counts));
 }
 
 /// A number of things that have this name.
@@ -195,6 +177,10 @@ pub struct Counts {
     /// The number of visits of the length that was the greatest before: of states, whose lengths never fall and grow by
     /// one, the number with one step less.
     with_one_less: usize,
+    /// The number of steps that lead on.
+    steps: usize,
+    /// The number of prefixes, states or sets from which no step leads on.
+    dead_ends: usize,
     /// The number of lines.
     lines: usize,
 }
@@ -210,6 +196,42 @@ impl Counts {
         }
         if length == self.length {
             self.with_length = self.with_length.saturating_add(1);
+        }
+    }
+}
+
+/// How far a search was when it ended.
+#[derive(Clone, Copy, Debug)]
+struct AtTheEnd(Counts);
+
+impl fmt::Display for AtTheEnd {
+    /// The set of the empty sequence is counted though it is not visited. Each prefix is visited by one step, so steps are
+    /// not counted beside prefixes; and a comparison says itself how many pairs it looked at.
+    fn fmt<W: fmt::Write>(&self, f: &mut fmt::Formatter<W>) -> fmt::Result {
+        let counts = self.0;
+        let length = NumberText(counts.length);
+        let sets = Counted(counts.visits.saturating_add(1), "set");
+        let steps = Counted(counts.steps, "step");
+        let ends = Counted(counts.dead_ends, "dead end");
+        let lines = Counted(counts.lines, "line");
+        match counts.visited {
+            Visited::Prefixes => {
+                let prefixes = if counts.visits == 1 {
+                    "prefix"
+                } else {
+                    "prefixes"
+                };
+                let visits = NumberText(counts.visits);
+                write!(f, "length {length}, {visits} {prefixes}, {ends}, {lines}")
+            }
+            Visited::States => {
+                let states = Counted(counts.visits, "state");
+                write!(f, "depth {length}, {states}, {steps}, {ends}")
+            }
+            Visited::Labels => write!(f, "{}", Counted(counts.length, "label")),
+            Visited::Sets => write!(f, "length {length}, {sets}, {steps}, {ends}, {lines}"),
+            Visited::AllSets => write!(f, "length {length}, {sets}, {steps}, {ends}"),
+            Visited::Pairs => write!(f, "length {length}, {steps}, {ends}"),
         }
     }
 }

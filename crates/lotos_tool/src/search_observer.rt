@@ -107,6 +107,13 @@ impl<E: Write> Progress for SearchObserver<'_, '_, E> {
         }
     }
 
+    #[inline(always)]
+    fn expanded(&mut self, steps: usize) {
+        if self.explains {
+            self.progress.expand(steps);
+        }
+    }
+
     fn found_none(&mut self, searched: Searched) {
         self.searched = Some(searched);
     }

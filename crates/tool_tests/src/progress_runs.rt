@@ -15,7 +15,8 @@ use std::io::{Error, ErrorKind};
 use std::process::Abort;
 
 /// Every sequence of this process is a number of labels `A`. Of each length there is one, and the search visits its
-/// prefixes, so the lengths up to `n` have n * (n + 1) / 2 visits: 990 up to 44, and 2,016 up to 63.
+/// prefixes, so the lengths up to `n` have n * (n + 1) / 2 visits: 990 up to 44, and 2,016 up to 63. No prefix is a dead
+/// end.
 const ONE_GATE: &[u8] =
     b"specification S [a] : noexit behaviour P[a] where process P [x] : noexit := x; P[x] endproc endspec";
 
@@ -96,7 +97,7 @@ fn a_listing_reports_prefixes_and_lines(rt: HostRuntime) {
         false,
         (
             b"lotosseq: length 44, 1024 prefixes, 45 lines\nlotosseq: length 63, 2048 prefixes, 64 lines\n",
-            b"\rlotosseq: length 44, 1024 prefixes, 45 lines\x1b[K\r\x1b[K\rlotosseq: length 63, 2048 prefixes, 64 lines\x1b[K\r\x1b[Klotosseq: at the end: length 70, 2485 prefixes, 71 lines\n",
+            b"\rlotosseq: length 44, 1024 prefixes, 45 lines\x1b[K\r\x1b[K\rlotosseq: length 63, 2048 prefixes, 64 lines\x1b[K\r\x1b[Klotosseq: at the end: length 70, 2485 prefixes, 0 dead ends, 71 lines\n",
             0,
         ),
     );
@@ -121,7 +122,7 @@ fn a_terminal_is_cleared_before_a_message(rt: HostRuntime) -> Result<(), AllocEr
         true,
         (
             b"lotosseq: length 44, 1024 prefixes, 0 lines\nlotosseq: stopped before the first line: output cannot be written\n",
-            b"\rlotosseq: length 44, 1024 prefixes, 0 lines\x1b[K\r\x1b[Klotosseq: stopped before the first line: output cannot be written\nlotosseq: at the end: length 62, 1953 prefixes, 0 lines\n",
+            b"\rlotosseq: length 44, 1024 prefixes, 0 lines\x1b[K\r\x1b[Klotosseq: stopped before the first line: output cannot be written\nlotosseq: at the end: length 62, 1953 prefixes, 0 dead ends, 0 lines\n",
             6,
         ),
     );
@@ -130,7 +131,8 @@ fn a_terminal_is_cleared_before_a_message(rt: HostRuntime) -> Result<(), AllocEr
 
 /// Two sequences of 50 labels each, side by side: the states are the pairs of numbers up to 50. With `n` steps there are
 /// n + 1 of them for n up to 50, and then 101 - n. With at most `n` steps there are 990 for n = 43, 1,035 for 44, 2,040
-/// for 67 and 2,073 for 68, and 2,601 in all.
+/// for 67 and 2,073 for 68, and 2,601 in all. Each side has a step at 50 of its 51 places, beside each place of the other:
+/// 5,100 steps in all. The last state is the one dead end.
 fn two_sequences(alloc: Global) -> Result<Vec<u8>, AllocError> {
     let mut text = repeated(
         alloc,
@@ -158,7 +160,7 @@ fn a_search_without_a_match_reports_states(rt: HostRuntime) -> Result<(), AllocE
         false,
         (
             b"lotosseq: 44 steps, 1024 states; 44 with 43 steps, 34 with 44 so far\nlotosseq: 68 steps, 2048 states; 34 with 67 steps, 8 with 68 so far\nlotosseq: it happens at no depth; 2601 states; word 1 cannot be matched\n",
-            b"\rlotosseq: 44 steps, 1024 states; 44 with 43 steps, 34 with 44 so far\x1b[K\rlotosseq: 68 steps, 2048 states; 34 with 67 steps, 8 with 68 so far\x1b[K\r\x1b[Klotosseq: it happens at no depth; 2601 states; word 1 cannot be matched\nlotosseq: at the end: 100 steps, 2601 states\n",
+            b"\rlotosseq: 44 steps, 1024 states; 44 with 43 steps, 34 with 44 so far\x1b[K\rlotosseq: 68 steps, 2048 states; 34 with 67 steps, 8 with 68 so far\x1b[K\r\x1b[Klotosseq: it happens at no depth; 2601 states; word 1 cannot be matched\nlotosseq: at the end: depth 100, 2601 states, 5100 steps, 1 dead end\n",
             1,
         ),
     );
@@ -179,7 +181,7 @@ fn a_terminal_is_cleared_before_a_match(rt: HostRuntime) -> Result<(), AllocErro
         false,
         (
             b"lotosseq: 44 steps, 1024 states; 44 with 43 steps, 34 with 44 so far\nlotosseq: 68 steps, 2048 states; 34 with 67 steps, 8 with 68 so far\n",
-            b"\rlotosseq: 44 steps, 1024 states; 44 with 43 steps, 34 with 44 so far\x1b[K\rlotosseq: 68 steps, 2048 states; 34 with 67 steps, 8 with 68 so far\x1b[K\r\x1b[Klotosseq: at the end: 100 steps, 2601 states\n",
+            b"\rlotosseq: 44 steps, 1024 states; 44 with 43 steps, 34 with 44 so far\x1b[K\rlotosseq: 68 steps, 2048 states; 34 with 67 steps, 8 with 68 so far\x1b[K\r\x1b[Klotosseq: at the end: depth 100, 2601 states, 5100 steps, 1 dead end\n",
             0,
         ),
     );
@@ -252,6 +254,8 @@ fn a_terminal_is_cleared_before_a_label_that_cannot_come(
 /// Two sides that take 33 and 32 steps of `A` from round to round until `B` ends both: the states are the pairs of their
 /// numbers of steps, each of which one sequence of `A` reaches first, after up to 1,055 steps. With the end after `B`,
 /// which comes up after the first `A`, these are 1,057 sets. The same can come after each `A`, so the lines are `A` and `B`.
+/// Two labels lead on from each set but the one after `B`, which is a dead end. If 1,050 sets may come up, `A` 1,048 times
+/// is the last that is expanded, so two labels lead on from 1,049 of them.
 fn two_rounds(alloc: Global) -> Result<Vec<u8>, AllocError> {
     let mut text = repeated(
         alloc,
@@ -283,7 +287,7 @@ fn a_cover_reports_sets_and_lines(rt: HostRuntime) -> Result<(), AllocError> {
         false,
         (
             b"lotosseq: length 1023, 1024 sets, 0 lines\n",
-            b"\rlotosseq: length 1023, 1024 sets, 0 lines\x1b[K\r\x1b[Klotosseq: at the end: length 1055, 1057 sets, 2 lines\n",
+            b"\rlotosseq: length 1023, 1024 sets, 0 lines\x1b[K\r\x1b[Klotosseq: at the end: length 1055, 1057 sets, 2112 steps, 1 dead end, 2 lines\n",
             0,
         ),
     );
@@ -304,7 +308,7 @@ fn a_terminal_is_cleared_before_a_stop(rt: HostRuntime) -> Result<(), AllocError
         false,
         (
             b"lotosseq: length 1023, 1024 sets, 0 lines\nlotosseq: stopped before the first line: more than 1050 sets; --states N allows more\n",
-            b"\rlotosseq: length 1023, 1024 sets, 0 lines\x1b[K\r\x1b[Klotosseq: stopped before the first line: more than 1050 sets; --states N allows more\nlotosseq: at the end: length 1048, 1050 sets, 0 lines\n",
+            b"\rlotosseq: length 1023, 1024 sets, 0 lines\x1b[K\r\x1b[Klotosseq: stopped before the first line: more than 1050 sets; --states N allows more\nlotosseq: at the end: length 1048, 1050 sets, 2098 steps, 1 dead end, 0 lines\n",
             4,
         ),
     );
@@ -325,7 +329,7 @@ fn an_automaton_reports_sets(rt: HostRuntime) -> Result<(), AllocError> {
         false,
         (
             b"lotosseq: length 1023, 1024 sets\nlotosseq: stopped: more than 1050 sets; --states N allows more\n",
-            b"\rlotosseq: length 1023, 1024 sets\x1b[K\r\x1b[Klotosseq: stopped: more than 1050 sets; --states N allows more\nlotosseq: at the end: length 1048, 1050 sets\n",
+            b"\rlotosseq: length 1023, 1024 sets\x1b[K\r\x1b[Klotosseq: stopped: more than 1050 sets; --states N allows more\nlotosseq: at the end: length 1048, 1050 sets, 2098 steps, 1 dead end\n",
             4,
         ),
     );
@@ -354,7 +358,7 @@ fn a_short_search_reports_nothing(rt: HostRuntime) {
         false,
         (
             b"",
-            b"lotosseq: at the end: length 44, 990 prefixes, 45 lines\n",
+            b"lotosseq: at the end: length 44, 990 prefixes, 0 dead ends, 45 lines\n",
             0,
         ),
     );

@@ -343,12 +343,14 @@ fn a_name_that_is_no_gate(rt: HostRuntime) -> Result<(), AllocError> {
 const ROW_OF_FOUR: &[u8] = b"specification S [a,b] : noexit behaviour a; b; a; a; stop endspec";
 
 /// Answers, and what they mean. After `<until> A` the second label is `B`, so that nothing that needs an `A` next has a
-/// match: two states are looked at.
+/// match: two states are looked at. A step counts whether the pattern lets it or not, and the steps of the last state count
+/// too: after `a`, `b`, `a` and `a` it is a dead end. The prefix `A` of two labels at most is visited for the length 1, of
+/// which it is the one sequence, and for the length 2, where no label is tried after it.
 #[rattlefmt::skip]
 const ANSWERS: &[Said] = &[
     Said { text: ROW_OF_FOUR, words: "ever <until> A <while> <not> B A",
         message: b"lotosseq: it happens at no depth; 2 states; words 1 to 5 can be matched, and then nothing that word 6 wants\n",
-        more: b"lotosseq: word 1, <until>, goes to the first A alone; for any A write: <while> <any> A\nlotosseq: at the end: 1 step, 2 states\n",
+        more: b"lotosseq: word 1, <until>, goes to the first A alone; for any A write: <while> <any> A\nlotosseq: at the end: depth 1, 2 states, 2 steps, 0 dead ends\n",
         status: 1, ..REFUSED },
     Said { text: ROW_OF_FOUR, words: "search --length 4 <any> <UNTIL> <not> B,exit A A",
         more: b"lotosseq: word 2, <until>, goes to the first <not> B,exit alone; for any <not> B,exit write: <while> <any> <not> B,exit\n",
@@ -363,27 +365,75 @@ const ANSWERS: &[Said] = &[
         more: b"lotosseq: word 1, <until>, goes to the first A alone; for any A write: <while> <any> A\n",
         status: 1, ..REFUSED },
     Said { text: ROW_OF_FOUR, words: "ever",
-        more: b"lotosseq: a pattern without words matches the empty sequence alone, which can always happen\nlotosseq: at the end: 0 steps, 1 state\n",
+        more: b"lotosseq: a pattern without words matches the empty sequence alone, which can always happen\nlotosseq: at the end: depth 0, 1 state, 1 step, 0 dead ends\n",
         ..MATCH },
     Said { text: ROW_OF_FOUR, words: "search --length 3",
         more: b"lotosseq: a pattern without words matches the empty sequence alone, which can always happen\n", ..MATCH },
-    Said { text: ROW_OF_FOUR, words: "ever A B", more: b"lotosseq: at the end: 2 steps, 3 states\n", ..MATCH },
+    Said { text: ROW_OF_FOUR, words: "ever A B", more: b"lotosseq: at the end: depth 2, 3 states, 3 steps, 0 dead ends\n", ..MATCH },
+    Said { text: ROW_OF_FOUR, words: "ever <until> <deadlock>",
+        more: b"lotosseq: at the end: depth 4, 5 states, 4 steps, 1 dead end\n", ..MATCH },
     Said { text: ROW_OF_FOUR, words: "ever --states 2 A B",
         message: b"lotosseq: stopped: more than 2 states; --states N allows more\n",
-        more: b"lotosseq: at the end: 1 step, 2 states\n", status: 4, ..REFUSED },
+        more: b"lotosseq: at the end: depth 1, 2 states, 2 steps, 0 dead ends\n", status: 4, ..REFUSED },
     Said { text: ROW_OF_FOUR, words: "after A B", ..MATCH },
     Said { text: ROW_OF_FOUR, words: "cover", ..MATCH },
     Said { text: ROW_OF_FOUR, words: "graph", ..MATCH },
     Said { text: ROW_OF_FOUR, words: "check", ..MATCH },
     Said { text: ROW_OF_FOUR, words: "search --length 1 --progress A",
-        more: b"lotosseq: at the end: length 1, 1 prefix, 1 line\n", ..MATCH },
-    Said { text: ROW_OF_FOUR, words: "cover --progress", more: b"lotosseq: at the end: length 4, 5 sets, 1 line\n", ..MATCH },
+        more: b"lotosseq: at the end: length 1, 1 prefix, 0 dead ends, 1 line\n", ..MATCH },
+    Said { text: ROW_OF_FOUR, words: "search --length 2 --progress A",
+        more: b"lotosseq: at the end: length 1, 2 prefixes, 1 dead end, 1 line\n", ..MATCH },
+    Said { text: ROW_OF_FOUR, words: "cover --progress",
+        more: b"lotosseq: at the end: length 4, 5 sets, 4 steps, 1 dead end, 1 line\n", ..MATCH },
     Said { text: ROW_OF_FOUR, words: "suite", ..MATCH },
-    Said { text: ROW_OF_FOUR, words: "suite --progress", more: b"lotosseq: at the end: length 4, 5 sets\n", ..MATCH },
-    Said { text: ROW_OF_FOUR, words: "graph --progress", more: b"lotosseq: at the end: length 4, 5 sets\n", ..MATCH },
+    Said { text: ROW_OF_FOUR, words: "suite --progress",
+        more: b"lotosseq: at the end: length 4, 5 sets, 4 steps, 1 dead end\n", ..MATCH },
+    Said { text: ROW_OF_FOUR, words: "graph --progress",
+        more: b"lotosseq: at the end: length 4, 5 sets, 4 steps, 1 dead end\n", ..MATCH },
 ];
 
 #[test]
 fn what_an_answer_means(rt: HostRuntime) -> Result<(), AllocError> {
     assert_all_said(&rt, rt.alloc(), ANSWERS)
+}
+
+/// A specification in which nothing comes after `a`, and `b` after `b`.
+const TWO_ENDS: &[u8] = b"specification S [a,b] : noexit behaviour a; stop [] b; b; stop endspec";
+
+/// A specification with two states after `a`: nothing comes after one, and `b` after the other.
+const ONE_BRANCH_ENDS: &[u8] =
+    b"specification S [a,b] : noexit behaviour a; stop [] a; b; stop endspec";
+
+/// Two specifications with `b` and with `c` after `a`.
+const PARTING: &[u8] = b"specification S [a,b] : noexit behaviour a; b; stop endspec
+specification S [a,c] : noexit behaviour a; c; stop endspec";
+
+/// Searches that come to dead ends. Three labels never come. `ever` has the first state, two states after one label, one
+/// of which is a dead end, and one after two, which is another. `search` visits `A` and `B` for the length 1; for the length
+/// 2 `A`, after which nothing comes, `B` and `B B`; and for the length 3 these again, and nothing comes after `B B` either.
+/// The automaton has one state for what can come after `A` and after `B B`. Two comparisons go on with `A` alone. After it
+/// one finds a difference, and the other, for which `b` and `c` are hidden, nothing.
+#[rattlefmt::skip]
+const DEAD_ENDS: &[Said] = &[
+    Said { text: TWO_ENDS, words: "ever <any> <any> <any>",
+        message: b"lotosseq: it happens at no depth; 4 states; words 1 to 2 can be matched, and then nothing that word 3 wants\n",
+        more: b"lotosseq: at the end: depth 2, 4 states, 3 steps, 2 dead ends\n", status: 1, ..REFUSED },
+    Said { text: ONE_BRANCH_ENDS, words: "ever <any> <any> <any>",
+        message: b"lotosseq: it happens at no depth; 4 states; words 1 to 2 can be matched, and then nothing that word 3 wants\n",
+        more: b"lotosseq: at the end: depth 2, 4 states, 3 steps, 2 dead ends\n", status: 1, ..REFUSED },
+    Said { text: TWO_ENDS, words: "search --length 3 --progress <any> <any> <any>",
+        more: b"lotosseq: at the end: length 2, 8 prefixes, 3 dead ends, 0 lines\n", status: 1, ..REFUSED },
+    Said { text: TWO_ENDS, words: "search --depth 3 --progress <any> <any> <any>",
+        more: b"lotosseq: at the end: length 2, 8 prefixes, 3 dead ends, 0 lines\n", status: 1, ..REFUSED },
+    Said { text: TWO_ENDS, words: "graph --progress",
+        more: b"lotosseq: at the end: length 1, 3 sets, 3 steps, 1 dead end\n", ..MATCH },
+    Said { text: PARTING, words: "compare --progress",
+        more: b"lotosseq: at the end: length 1, 1 step, 0 dead ends\n", status: 1, ..REFUSED },
+    Said { text: PARTING, words: "compare --only A --progress", message: b"lotosseq: no difference; 2 pairs of sets\n",
+        more: b"lotosseq: at the end: length 1, 1 step, 1 dead end\n", ..MATCH },
+];
+
+#[test]
+fn dead_ends(rt: HostRuntime) -> Result<(), AllocError> {
+    assert_all_said(&rt, rt.alloc(), DEAD_ENDS)
 }
