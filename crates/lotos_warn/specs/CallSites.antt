@@ -71,7 +71,8 @@ IsApart inside zero = Unit {0}
 IsApart inside (suc k) = inside k → ⊥
 
 -- the call at the index goes to the process, and its definition is not one of those inside
-pub record IsOuterAt (sites : List Site) (numbers : List ℕ) (inside : ℕ → Type 0) (process index : ℕ) (site : Site) : Type 0 where
+pub record IsOuterAt (sites : List Site) (numbers : List ℕ) (inside : ℕ → Type 0) (process index : ℕ)
+    (site : Site) : Type 0 where
   pub located : slice_get sites index ≡ Some site
   pub numbered : slice_get numbers index ≡ Some process
   pub outside : IsApart inside site.caller
@@ -88,7 +89,8 @@ IsExchangeAt sites numbers inside process own index w =
     × (w ≡ ExchangedGates site.callee (shown_names own))
 
 -- the process with this number has the call at the index with its gates in another order
-pub record IsMovedAt (processes : List FlatProcess) (sites : List Site) (numbers : List ℕ) (index process : ℕ) : Type 0 where
+pub record IsMovedAt (processes : List FlatProcess) (sites : List Site) (numbers : List ℕ)
+    (index process : ℕ) : Type 0 where
   pub own : FlatProcess
   pub located : slice_get processes process ≡ Some own
   pub site : Site
@@ -97,12 +99,14 @@ pub record IsMovedAt (processes : List FlatProcess) (sites : List Site) (numbers
   pub exchanged : IsExchanged (texts site.actuals) own.formals
 
 -- the warning is one about the gates of a call of the process from outside
-pub record IsExchangeOf (processes : List FlatProcess) (sites : List Site) (numbers : List ℕ) (process : ℕ) (w : Warning) : Type 0 where
+pub record IsExchangeOf (processes : List FlatProcess) (sites : List Site) (numbers : List ℕ) (process : ℕ)
+    (w : Warning) : Type 0 where
   pub own : FlatProcess
   pub located : slice_get processes process ≡ Some own
   pub index : ℕ
   pub exchange : IsExchangeAt sites numbers (IsReachedIn (from_process processes process)) process own.formals index w
-  pub alone : (other : ℕ) → IsPeerAt sites numbers (IsReachedIn (from_process processes process)) process own.formals other → ⊥
+  pub alone : (other : ℕ) →
+      IsPeerAt sites numbers (IsReachedIn (from_process processes process)) process own.formals other → ⊥
 
 -- the same of some process
 abbrev pub IsExchangeOfAny : List FlatProcess → List Site → List ℕ → Warning → Type 0
@@ -110,7 +114,8 @@ IsExchangeOfAny processes sites numbers w = (process : ℕ) × IsExchangeOf proc
 
 -- the warning is one of the specification about the gates of a call
 abbrev pub IsExchangeWarning : DefinitionView → Warning → Type 0
-IsExchangeWarning whole w = (name : Placed) × (gates : Name) × (w ≡ ExchangedGates name gates) × IsExchangedCall whole name gates
+IsExchangeWarning whole w =
+    (name : Placed) × (own : Name) × (w ≡ ExchangedGates name own) × IsExchangedCall whole name own
 
 -- the specification has this warning, which is of another kind
 abbrev pub IsOtherWarning : DefinitionView → Warning → Type 0
@@ -122,4 +127,4 @@ IsOtherWarning whole (UnusedGate gate definition) = IsWarning whole (UnusedGate 
 IsOtherWarning whole (UnofferedGate gate side) = IsWarning whole (UnofferedGate gate side)
 IsOtherWarning whole (UnusedHidden gate) = IsWarning whole (UnusedHidden gate)
 IsOtherWarning whole (UnsynchronizedHidden gate) = IsWarning whole (UnsynchronizedHidden gate)
-IsOtherWarning whole (ExchangedGates process gates) = ⊥
+IsOtherWarning whole (ExchangedGates process own) = ⊥

@@ -200,7 +200,7 @@ own_gates scoped = texts (formals_of scoped.definition)
 
 -- the name is that of a call outside of its process, whose actual gates are the formal ones of the process in another
 -- order; no call outside of the process has them in their own order, in which they are shown
-pub record IsExchangedCall (whole : DefinitionView) (name : Placed) (gates : Name) : Type 0 where
+pub record IsExchangedCall (whole : DefinitionView) (name : Placed) (own : Name) : Type 0 where
   -- the number of the process
   pub process : ℕ
   pub scoped : ScopedDefinition
@@ -213,7 +213,7 @@ pub record IsExchangedCall (whole : DefinitionView) (name : Placed) (gates : Nam
   pub exchanged : IsExchanged (texts call.actuals) (own_gates scoped)
   pub alone : (other : ScopedDefinition) → IsOutside whole process other → (peer : IsCalledIn other process) →
       texts peer.actuals ≡ own_gates scoped → ⊥
-  pub shown : gates ≡ shown_names (own_gates scoped)
+  pub shown : own ≡ shown_names (own_gates scoped)
 
 -- the specification has this warning, which is of one of nine kinds
 abbrev pub IsWarning : DefinitionView → Warning → Type 0
@@ -225,7 +225,7 @@ IsWarning whole (UnusedGate gate definition) = IsUnusedGate whole gate definitio
 IsWarning whole (UnofferedGate gate side) = IsUnofferedGate whole gate side
 IsWarning whole (UnusedHidden gate) = IsUnusedHidden whole gate
 IsWarning whole (UnsynchronizedHidden gate) = IsUnsynchronizedHidden whole gate
-IsWarning whole (ExchangedGates process gates) = IsExchangedCall whole process gates
+IsWarning whole (ExchangedGates process own) = IsExchangedCall whole process own
 
 -- the gate is the first of its name in the list of a parallel composition in the behaviour, and the operand on that
 -- side does not offer it
@@ -259,7 +259,7 @@ IsListWarning behaviour (UnusedGate gate definition) = ⊥
 IsListWarning behaviour (UnofferedGate gate side) = IsUnofferedIn behaviour gate side
 IsListWarning behaviour (UnusedHidden gate) = ⊥
 IsListWarning behaviour (UnsynchronizedHidden gate) = IsUnsynchronizedHiddenIn behaviour gate
-IsListWarning behaviour (ExchangedGates process gates) = ⊥
+IsListWarning behaviour (ExchangedGates process own) = ⊥
 
 -- the gate is in the list of a hiding in the behaviour, and the behaviour inside the hiding does not use it
 pub record IsUnusedHiddenIn (behaviour : BehaviourView) (gate : Placed) : Type 0 where
@@ -280,4 +280,4 @@ IsHidingWarning behaviour (UnusedGate gate definition) = ⊥
 IsHidingWarning behaviour (UnofferedGate gate side) = ⊥
 IsHidingWarning behaviour (UnusedHidden gate) = IsUnusedHiddenIn behaviour gate
 IsHidingWarning behaviour (UnsynchronizedHidden gate) = ⊥
-IsHidingWarning behaviour (ExchangedGates process gates) = ⊥
+IsHidingWarning behaviour (ExchangedGates process own) = ⊥

@@ -6,7 +6,8 @@ use Rattle.lotos_check.specs.NameLists.{In}
 use Rattle.lotos_check.specs.Scope.{ScopedDefinition, processes_of, definitions_in, definitions_in_list}
 use Rattle.lotos_warn.specs.Termination.{MayTerminate, exits_by}
 use Rattle.lotos_text.specs.AstView.{body_of, inner_of}
-use Rattle.lotos_warn.specs.Warnings.{IsCalled, IsReached, IsWarning}
+use Rattle.lotos_warn.specs.Warnings.{IsCalled, IsReached}
+use Rattle.lotos_warn.specs.CallSites.{IsOtherWarning}
 use Rattle.lotos_warn.specs.Additions.{Adds, IsDeadIn, IsEndlessWhole, IsGateWarningOfAny, IsProcessWarningOfAny}
 use Rattle.lotos_warn.proofs.Additions.{adds_as, adds_both}
 use Rattle.lotos_warn.proofs.DeadStarts.{dead_by_name}
@@ -15,7 +16,7 @@ use Rattle.lotos_warn.proofs.ExitingNumbers.{both_ways, whole_exits}
 use Rattle.lotos_warn.proofs.TerminatingNames.{process_by_name, whole_by_name}
 use Rattle.lotos_warn.proofs.WholeWarnings.{all_warnings}
 use Rattle.lotos_warn.specs.declared.warning.Warning.{Warning}
-use Rattle.lotos_warn.proofs.specification_warnings.add_warnings.Goals as goal
+use Rattle.lotos_warn.proofs.specification_warnings.add_other_warnings.Goals as goal
 
 pub returns : goal.returns
 returns c =
@@ -41,8 +42,8 @@ returns c =
     let gates = subst (λ ds. Adds old mid (IsGateWarningOfAny ds)) c.requires.definitions c.in_ok-warn_of_gates.ensures in
     let others : Warning → Type 0 = λ w. IsProcessWarningOfAny called reached exiting 0 (definitions_in_list (inner_of whole)) w
     ⊎ (IsEndlessWhole exits whole w ⊎ IsDeadIn system whole w) in
-    OnOk-map c.warn_of_processes_and_whole.result (Adds mid new others) (Adds old new (IsWarning whole)) (λ added.
-    adds_as old new (λ w. IsGateWarningOfAny (definitions_in whole) w ⊎ others w) (IsWarning whole)
+    OnOk-map c.warn_of_processes_and_whole.result (Adds mid new others) (Adds old new (IsOtherWarning whole)) (λ added.
+    adds_as old new (λ w. IsGateWarningOfAny (definitions_in whole) w ⊎ others w) (IsOtherWarning whole)
     (all_warnings whole called reached exiting by_name by_reach by_exit exits by_start system
     (dead_by_name c.flat_system_is_unique.ensures whole system c.requires.accepted))
     (adds_both old mid new (IsGateWarningOfAny (definitions_in whole)) others gates added))
