@@ -12,6 +12,7 @@ pub mod CalledNames
 pub mod CalledSites
 pub mod ExchangedCalls
 pub mod ExchangedSites
+pub mod ShownTexts
 pub mod ReachedNumbers
 pub mod ExitingNumbers
 pub mod TerminatingNames

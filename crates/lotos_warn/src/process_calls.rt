@@ -54,10 +54,10 @@ pub(crate) fn reached_from(
 {
     let mut reached = IndexSet::new(alloc);
     add_number(number, &mut reached)?;
-    let mut index = 0;
-    while index < reached.len() {
-        add_calls_of_next(processes, index, &mut reached)?;
-        index += 1;
+    let mut passed = 0;
+    while passed < reached.len() {
+        add_calls_of_next(processes, passed, &mut reached)?;
+        passed += 1;
     }
     Ok(reached)
 }

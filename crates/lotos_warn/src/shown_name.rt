@@ -99,11 +99,11 @@ fn push_shown(index: usize, name: &Name, text: &mut String) -> Result<(), AllocE
 fn push_cut(name: &Name, text: &mut String) -> Result<(), AllocError>
     ensures { OnOk result (string_bytes text.new ≡ string_bytes text.old ++ shown_name name.now) }
 {
-    if LONGEST < name.text().len() {
+    if name.text().len() <= LONGEST {
+        text.push_str(name.text())
+    } else {
         text.push_str(front(name))?;
         text.push_str("...")
-    } else {
-        text.push_str(name.text())
     }
 }
 

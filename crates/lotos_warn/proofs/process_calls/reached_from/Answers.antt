@@ -6,22 +6,22 @@ use Rattle.lotos_warn.proofs.CallAdditions.{calls_call}
 use Rattle.lotos_warn.proofs.ReachedNumbers.{expanded_none, expanded_more, expanded_all}
 use Rattle.lotos_warn.proofs.process_calls.reached_from.Goals as goal
 
-pub loop-index-init : goal.loop-index-init
-loop-index-init c =
+pub loop-passed-init : goal.loop-passed-init
+loop-passed-init c =
     expanded_none (from_process (map process_of c.args.processes.now) c.args.number) c.new-reached.result.keys c.add_number.new.called.keys
     c.new-reached.ensures.empty
     (calls_call c.new-reached.result.keys c.add_number.new.called.keys c.args.number [] c.in_ok-add_number.ensures.adds)
 
-pub loop-index-preserved : goal.loop-index-preserved
-loop-index-preserved c =
-    let old = c.loop-index.reached.keys in
+pub loop-passed-preserved : goal.loop-passed-preserved
+loop-passed-preserved c =
+    let old = c.loop-passed.reached.keys in
     let new = c.add_calls_of_next.new.reached.keys in
-    let (caller, at) = get_some old c.loop-index.index (let below = c.loop-index-test.true in let count = c.len.ensures.len in omega arith) in
-    expanded_more (from_process (map process_of c.args.processes.now) c.args.number) old new c.loop-index.index caller c.loop-index.invariant at
+    let (caller, at) = get_some old c.loop-passed.passed (let below = c.loop-passed-test.true in let count = c.len.ensures.len in omega arith) in
+    expanded_more (from_process (map process_of c.args.processes.now) c.args.number) old new c.loop-passed.passed caller c.loop-passed.invariant at
     (c.in_ok-add_calls_of_next.ensures.adds caller at)
     c.in_ok-add_calls_of_next.ensures.keeps
 
 pub returns : goal.returns
 returns c =
-    let done : length c.loop-index.reached.keys ≤ c.loop-index.index = (let past = c.loop-index-test.false in let count = c.len.ensures.len in omega arith) in
-    expanded_all (from_process (map process_of c.args.processes.now) c.args.number) c.loop-index.reached.keys c.loop-index.index c.loop-index.invariant done
+    let done : length c.loop-passed.reached.keys ≤ c.loop-passed.passed = (let past = c.loop-passed-test.false in let count = c.len.ensures.len in omega arith) in
+    expanded_all (from_process (map process_of c.args.processes.now) c.args.number) c.loop-passed.reached.keys c.loop-passed.passed c.loop-passed.invariant done
