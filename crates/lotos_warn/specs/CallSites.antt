@@ -88,6 +88,12 @@ IsExchangeAt sites numbers inside process own index w =
     (site : Site) × IsOuterAt sites numbers inside process index site × IsExchanged (texts site.actuals) own
     × (w ≡ ExchangedGates site.callee (shown_names own))
 
+-- the warning is one about some call, and no call has the gates in their own order
+abbrev pub IsExchangeAlone : List Site → List ℕ → (ℕ → Type 0) → ℕ → List Name → Warning → Type 0
+IsExchangeAlone sites numbers inside process own w =
+    ((index : ℕ) → IsPeerAt sites numbers inside process own index → ⊥)
+    × ((index : ℕ) × IsExchangeAt sites numbers inside process own index w)
+
 -- the process with this number has the call at the index with its gates in another order
 pub record IsMovedAt (processes : List FlatProcess) (sites : List Site) (numbers : List ℕ)
     (index process : ℕ) : Type 0 where

@@ -1,6 +1,7 @@
 //! The calls of a specification in the order of the text: by name, and by the numbers of their processes.
 ghost use Rattle.std.specs.Prelude.{◌≡◌, ◌++◌, ◌∷◌, [], OnOk, map};
 ghost use Rattle.lotos_text.specs.AstOf.{behaviour_view, definition_view};
+ghost use Rattle.lotos_text.specs.AstView.{body_of};
 ghost use Rattle.lotos_check.specs.CheckedView.{flat_of, process_of};
 ghost use Rattle.lotos_warn.specs.CallSites.{numbers_in, numbers_of_all, site_of, sites_from, sites_in};
 
@@ -25,9 +26,22 @@ pub(crate) fn add_sites_of_all<'a>(
         ++ sites_from 0 (map (λ d. definition_view d.now) definitions.now)) }
 {
     for index in 0..definitions.len() {
-        add_sites(&definitions[index].body, index, into)?;
+        let definition = definitions[index];
+        add_sites_of(definition, index, into)?;
     }
     Ok(())
+}
+
+/// Appends the calls in the body of the definition with this index.
+fn add_sites_of<'a>(
+    definition: &'a Definition,
+    index: usize,
+    into: &mut Vec<CallSite<'a>>,
+) -> Result<(), AllocError>
+    ensures { OnOk result (map site_of into.new.items ≡ map site_of into.old.items
+        ++ sites_in index (body_of (definition_view definition.now))) }
+{
+    add_sites(&definition.body, index, into)
 }
 
 /// Appends the calls of a behaviour, which is part of the body of the definition with this index.

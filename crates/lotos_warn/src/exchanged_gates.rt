@@ -4,7 +4,7 @@ ghost use Rattle.lotos_text.specs.AstOf.{definition_view};
 ghost use Rattle.lotos_check.specs.CheckedView.{process_of, system_of};
 ghost use Rattle.lotos_check.specs.NameLists.{In, Name as AnyName, texts};
 ghost use Rattle.lotos_warn.specs.Additions.{Adds, AddsNames, Includes};
-ghost use Rattle.lotos_warn.specs.CallSites.{Site, IsApart, IsExchangeAt, IsExchangeOf, IsExchangeOfAny, IsMovedAt, IsOuterAt, IsPeerAt, numbers_of, site_of, sites_from};
+ghost use Rattle.lotos_warn.specs.CallSites.{Site, IsApart, IsExchangeAlone, IsExchangeAt, IsExchangeOf, IsExchangeOfAny, IsMovedAt, IsOuterAt, IsPeerAt, numbers_of, site_of, sites_from};
 ghost use Rattle.lotos_warn.specs.ShownNames.{shown_names};
 ghost use Rattle.lotos_warn.specs.Warnings.{IsExchanged};
 ghost use Rattle.lotos_warn.specs.declared.warning.Warning.TheVariants.{ExchangedGates};
@@ -132,11 +132,30 @@ fn warn_of_calls_of(
     if process < processes.len() {
         let inside = reached_from(alloc, processes, process)?;
         let own = processes[process].formals.as_slice();
-        if !has_peer(sites, numbers, process, own, &inside) {
-            warn_of_calls(alloc, sites, numbers, process, own, &inside, warnings)?;
-        }
+        warn_unless_peer(alloc, sites, numbers, process, own, &inside, warnings)?;
     }
     Ok(())
+}
+
+/// Appends the warnings about calls of the process from outside, unless one has its formal gates in their own order.
+fn warn_unless_peer(
+    alloc: Global,
+    sites: &[CallSite],
+    numbers: &[usize],
+    process: usize,
+    own: &[Name],
+    inside: &IndexSet<usize>,
+    warnings: &mut Vec<Warning>,
+) -> Result<(), AllocError>
+    ensures { OnOk result (Adds warnings.old.items warnings.new.items
+        (IsExchangeAlone (map site_of sites.now) numbers.now (λ k. In k inside.now.keys) process own.now)) }
+{
+    if has_peer(sites, numbers, process, own, inside) {
+        Ok(())
+    } else {
+        warn_of_calls(alloc, sites, numbers, process, own, inside, warnings)?;
+        Ok(())
+    }
 }
 
 /// Whether a call of the process from outside has its formal gates in their own order.
@@ -255,7 +274,8 @@ fn is_exchanged(alloc: Global, gates: &[Placed], names: &[Name]) -> Result<bool,
     if are_names(gates, names) {
         Ok(false)
     } else {
-        have_same_names(alloc, gates, names)
+        let same = have_same_names(alloc, gates, names)?;
+        Ok(same)
     }
 }
 

@@ -2,8 +2,6 @@ use Rattle.std.proofs.Common.{◌≡◌, ◌+◌, ◌++◌, ◌<◌, ◌≤◌, 
 use Rattle.std.proofs.lemmas.List.{drop_all}
 use Rattle.lotos_text.specs.AstOf.{behaviour_view, definition_view}
 use Rattle.lotos_text.specs.AstView.{body_of}
-use Rattle.lotos_text.specs.declared.ast.Definition.{out-Definition}
-use Rattle.lotos_text.proofs.DefinitionParts.{body_shown}
 use Rattle.lotos_check.proofs.Pairs.{drop_at}
 use Rattle.lotos_warn.specs.CallSites.{site_of, sites_in, sites_from}
 use Rattle.lotos_warn.proofs.CallAdditions.{appended_next, appended_end}
@@ -19,8 +17,7 @@ loop-index-preserved c =
     let all = map site_of c.args.into.now.items ++ sites_from 0 (map (λ d. definition_view d.now) c.args.definitions.now) in
     let step : suc n ≡ n + 1 = omega arith in
     let rest = map (λ d. definition_view d.now) (drop (n + 1) c.args.definitions.now) in
-    let added = subst (λ b. map site_of c.add_sites.new.into.items ≡ now ++ sites_in n b) (body_shown d) c.in_ok-add_sites.ensures in
-    appended_next now (map site_of c.add_sites.new.into.items) (sites_in n (body_of (definition_view d))) (sites_from (n + 1) rest) all added
+    appended_next now (map site_of c.add_sites_of.new.into.items) (sites_in n (body_of (definition_view d))) (sites_from (n + 1) rest) all c.in_ok-add_sites_of.ensures
     (subst (λ m. now ++ (sites_in n (body_of (definition_view d)) ++ sites_from m rest) ≡ all) step
     (subst (λ ds. now ++ sites_from n (map (λ d. definition_view d.now) ds) ≡ all) next c.loop-index.invariant))
 

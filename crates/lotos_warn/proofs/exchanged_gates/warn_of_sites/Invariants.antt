@@ -7,4 +7,4 @@ use Rattle.lotos_warn.proofs.exchanged_gates.warn_of_sites.Given as goal
 
 abbrev pub invariant-loop-index : goal.invariant-loop-index
 invariant-loop-index l =
-    AddsBelow (IsExchangeListed (map process_of l.processes) (map site_of l.sites) l.numbers l.moved.keys) l.fn.warnings.items l.warnings.items l.index
+    AddsBelow (IsExchangeListed (map process_of l.processes) (map site_of l.sites) l.numbers l.moved-inside.map.keys) l.fn.warnings.items l.warnings.items l.index
