@@ -1,10 +1,11 @@
 -- The warnings about the calls of processes, one process after the other.
-use Rattle.std.proofs.Common.{◌≡◌, ◌↔◌, ◌⊎◌, ℕ, ◌+◌, ◌<◌, ◌≤◌, zero, suc, List, [], ◌∷◌, ◌++◌, Some, slice_get, length, map, refl, sym, ap, ◌∙◌, subst, inl, inr, Bool, true, false, arith}
+use Rattle.std.proofs.Common.{◌≡◌, ◌↔◌, ◌⊎◌, ℕ, ◌+◌, ◌<◌, ◌≤◌, zero, suc, List, [], ◌∷◌, ◌++◌, Some, slice_get, get_or, length, map, refl, sym, ap, ◌∙◌, subst, inl, inr, Bool, true, false, arith}
 use Rattle.std.specs.Prelude.{MatchBool, not}
 use Rattle.std.specs.List.{list_any}
 use Rattle.std.proofs.Math.Dec.{eqb}
 use Rattle.std.proofs.lemmas.Bool.{cases_lt}
-use Rattle.std.proofs.lemmas.Option.{slice_get_within}
+use Rattle.std.specs.Option.{option_map}
+use Rattle.std.proofs.lemmas.Option.{slice_get-get_or, slice_get-map, slice_get_within}
 use Rattle.lotos_check.specs.NameLists.{Name, In, texts}
 use Rattle.lotos_check.specs.Flat.{FlatProcess}
 use Rattle.lotos_check.proofs.ListIndices.{get_in, in_get, one_item}
@@ -13,14 +14,10 @@ use Rattle.lotos_warn.specs.declared.warning.Warning.TheVariants.{ExchangedGates
 use Rattle.lotos_warn.specs.ShownNames.{shown_names}
 use Rattle.lotos_warn.specs.Warnings.{IsExchanged}
 use Rattle.lotos_warn.specs.Additions.{Adds, Includes, IsReachedIn}
-use Rattle.lotos_warn.specs.CallSites.{Site, IsApart, IsOuterAt, IsPeerAt, IsExchangeAlone, IsExchangeAt, IsMovedAt, IsExchangeOf, IsExchangeOfAny, from_process}
+use Rattle.lotos_warn.specs.CallSites.{Site, IsApart, IsOuterAt, IsPeerAt, IsExchangeAlone, IsExchangeAt, IsMovedAt, IsExchangeOf, IsExchangeOfAny, IsExchangeListed, from_process}
 use Rattle.std.specs.Str.{bytes_eq}
 use Rattle.std.proofs.lemmas.Slice.Eq.{bytes_eq-Decides}
 use Rattle.lotos_warn.proofs.NameTests.{number_found, number_missing}
-
--- the warning is one about a call of the process at the index of the list
-abbrev pub IsExchangeListed : List FlatProcess → List Site → List ℕ → List ℕ → ℕ → Warning → Type 0
-IsExchangeListed processes sites numbers moved index w = (k : ℕ) × (slice_get moved index ≡ Some k) × IsExchangeOf processes sites numbers k w
 
 -- the warnings about the process at an index are those about that process
 pub listed_as : (processes : List FlatProcess) (sites : List Site) (numbers moved : List ℕ) (index k : ℕ) → slice_get moved index ≡ Some k → (w : Warning) →
@@ -129,6 +126,10 @@ pub of_no_process : (processes : List FlatProcess) (sites : List Site) (numbers 
     IsExchangeOf processes sites numbers process w → ⊥
 of_no_process processes sites numbers process past w h = let within = slice_get_within processes process h.own h.located in omega arith
 
+-- what is read within a list is mapped there
+pub map_get : {X Y : Type 0} (f : X → Y) (xs : List X) (k : ℕ) (d : X) → k < length xs → slice_get (map f xs) k ≡ Some (f (get_or xs k d))
+map_get f xs k d h = slice_get-map f xs k ∙ ap (option_map f) (slice_get-get_or xs k d h)
+
 -- what a test says if it is true, and if it is not
 pub said : (A B : Type 0) (test : Bool) → MatchBool test A B → test ≡ true → A
 said A B true h e = h
@@ -231,8 +232,9 @@ module _ (names others given own : List Name) (is_given : (n : Name) → In n gi
   same_tested true all more = λ n. ((λ i. (is_own n).0 (all n i)), (λ i. (is_given n).0 (more n i)))
   same_tested false all lost = λ same. lost (λ n i. (is_given n).1 ((same n).1 i))
 
-  pub same_lost : (Includes own names → ⊥) → AreSame → ⊥
-  same_lost lost same = lost (λ n i. (is_own n).1 ((same n).0 i))
+  pub same_lost : (test : Bool) → test ≡ false → (Includes own names → ⊥) → MatchBool test AreSame (AreSame → ⊥)
+  same_lost true e lost = cc
+  same_lost false e lost = λ same. lost (λ n i. (is_own n).1 ((same n).0 i))
 
 -- names in another order are not the same in the same order
 module _ (actuals formals : List Name) where

@@ -118,6 +118,11 @@ pub record IsExchangeOf (processes : List FlatProcess) (sites : List Site) (numb
 abbrev pub IsExchangeOfAny : List FlatProcess → List Site → List ℕ → Warning → Type 0
 IsExchangeOfAny processes sites numbers w = (process : ℕ) × IsExchangeOf processes sites numbers process w
 
+-- the warning is one about a call of the process at the index of the list
+abbrev pub IsExchangeListed : List FlatProcess → List Site → List ℕ → List ℕ → ℕ → Warning → Type 0
+IsExchangeListed processes sites numbers moved index w =
+    (k : ℕ) × (slice_get moved index ≡ Some k) × IsExchangeOf processes sites numbers k w
+
 -- the warning is one of the specification about the gates of a call
 abbrev pub IsExchangeWarning : DefinitionView → Warning → Type 0
 IsExchangeWarning whole w =

@@ -4,7 +4,7 @@ ghost use Rattle.lotos_text.specs.AstOf.{definition_view};
 ghost use Rattle.lotos_check.specs.CheckedView.{process_of, system_of};
 ghost use Rattle.lotos_check.specs.NameLists.{In, Name as AnyName, texts};
 ghost use Rattle.lotos_warn.specs.Additions.{Adds, AddsNames, Includes};
-ghost use Rattle.lotos_warn.specs.CallSites.{Site, IsApart, IsExchangeAlone, IsExchangeAt, IsExchangeOf, IsExchangeOfAny, IsMovedAt, IsOuterAt, IsPeerAt, numbers_of, site_of, sites_from};
+ghost use Rattle.lotos_warn.specs.CallSites.{Site, IsApart, IsExchangeAlone, IsExchangeAt, IsExchangeListed, IsExchangeOf, IsExchangeOfAny, IsMovedAt, IsOuterAt, IsPeerAt, numbers_of, site_of, sites_from};
 ghost use Rattle.lotos_warn.specs.ShownNames.{shown_names};
 ghost use Rattle.lotos_warn.specs.Warnings.{IsExchanged};
 ghost use Rattle.lotos_warn.specs.declared.warning.Warning.TheVariants.{ExchangedGates};
@@ -68,8 +68,24 @@ fn warn_of_sites(
         (IsExchangeOfAny (map process_of processes.now) (map site_of sites.now) numbers.now)) }
 {
     let moved = moved_processes(alloc, processes, sites, numbers)?;
+    warn_of_listed(alloc, processes, sites, numbers, &moved, warnings)?;
+    Ok(())
+}
+
+/// Appends the warnings about the calls of the processes with these numbers.
+fn warn_of_listed(
+    alloc: Global,
+    processes: &[Process],
+    sites: &[CallSite],
+    numbers: &[usize],
+    moved: &IndexSet<usize>,
+    warnings: &mut Vec<Warning>,
+) -> Result<(), AllocError>
+    ensures { OnOk result (Adds warnings.old.items warnings.new.items (λ w. (index : ℕ)
+        × IsExchangeListed (map process_of processes.now) (map site_of sites.now) numbers.now moved.now.keys index w)) }
+{
     for index in 0..moved.len() {
-        let process = number_at(&moved, index);
+        let process = number_at(moved, index);
         warn_of_calls_of(alloc, processes, sites, numbers, process, warnings)?;
     }
     Ok(())

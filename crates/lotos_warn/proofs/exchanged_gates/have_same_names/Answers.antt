@@ -21,5 +21,5 @@ returns c =
       | then-have_names w ↦ subst (λ b. MatchBool b same (same → ⊥)) (sym w.result-is)
           (same_tested names others given own is_given is_own w.are_among.result w.if-have_names.ensures w.are_among.ensures)
       | else-have_names w ↦ subst (λ b. MatchBool b same (same → ⊥)) (sym w.result-is)
-          (same_lost names others given own is_given is_own w.if-have_names.ensures)
+          (same_lost names others given own is_given is_own c.have_names.result w.if-have_names.false w.if-have_names.ensures)
     ]

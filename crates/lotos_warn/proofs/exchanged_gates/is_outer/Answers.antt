@@ -1,9 +1,9 @@
 use Rattle.std.proofs.Common.{◌≡◌, ℕ, ◌<◌, Some, map, slice_get, get_or, length, arith}
 use Rattle.std.proofs.lemmas.Option.{slice_get-get_or, slice_get_within}
 use Rattle.lotos_check.specs.NameLists.{In}
-use Rattle.lotos_check.proofs.ListIndices.{map_read, one_item}
+use Rattle.lotos_check.proofs.ListIndices.{one_item}
 use Rattle.lotos_warn.specs.CallSites.{site_of}
-use Rattle.lotos_warn.proofs.ExchangedSites.{outer_tested}
+use Rattle.lotos_warn.proofs.ExchangedSites.{map_get, outer_tested}
 use Rattle.lotos_warn.proofs.exchanged_gates.is_outer.Goals.{else-index-numbers-via-then-index-numbers+else-numbers-index, else-index-numbers-via-else-index-numbers}
 use Rattle.lotos_warn.proofs.exchanged_gates.is_outer.Goals as goal
 
@@ -12,8 +12,8 @@ returns-then-numbers-index c =
     let read = slice_get-get_or c.args.numbers.now c.args.index 0 (omega arith) in
     let numbered : slice_get c.args.numbers.now c.args.index ≡ Some c.args.process = (let e = c.if-numbers-index.true in cc) in
     outer_tested (map site_of c.args.sites.now) c.args.numbers.now (λ k. In k c.args.inside.now.keys) c.args.process c.args.index
-    (site_of c.index-sites-index.result)
-    (map_read site_of c.args.sites.now c.args.index c.index-sites-index.result c.requires c.index-sites-index.is)
+    (site_of (get_or c.args.sites.now c.args.index c.index-sites-index.result))
+    (map_get site_of c.args.sites.now c.args.index c.index-sites-index.result c.requires)
     c.is_apart.result numbered c.is_apart.ensures
 
 pub returns-else-index-numbers : goal.returns-else-index-numbers

@@ -1,4 +1,4 @@
-use Rattle.std.proofs.Common.{◌≡◌, ◌<◌, ◌≤◌, ◌∙◌, ap, length, arith}
+use Rattle.std.proofs.Common.{◌≡◌, ◌<◌, ◌≤◌, ◌∙◌, ap, length, get_or, refl, arith}
 use Rattle.std.specs.Prelude.{string_bytes}
 use Rattle.std.proofs.lemmas.List.{take_all}
 use Rattle.lotos_warn.specs.ShownNames.{shown_names}
@@ -7,8 +7,9 @@ use Rattle.lotos_warn.proofs.shown_name.ShownNames.of.Goals as goal
 
 pub loop-index-preserved : goal.loop-index-preserved
 loop-index-preserved c =
-    shown_to c.args.names.now c.loop-index.index _ c.index-names-index.result.now (string_bytes c.loop-index.text) (string_bytes c.push_shown.new.text)
-    (omega arith) c.index-names-index.is c.loop-index.invariant c.in_ok-push_shown.ensures
+    shown_to c.args.names.now c.loop-index.index c.index-names-index.result (get_or c.args.names.now c.loop-index.index c.index-names-index.result)
+    (string_bytes c.loop-index.text) (string_bytes c.push_shown.new.text)
+    (omega arith) refl c.loop-index.invariant (let added = c.in_ok-push_shown.ensures in let item = c.index-names-index.is in cc)
 
 pub returns : goal.returns
 returns c =
