@@ -1,5 +1,6 @@
 -- The warnings about the calls of processes, one process after the other.
-use Rattle.std.proofs.Common.{◌≡◌, ◌↔◌, ◌⊎◌, ℕ, ◌+◌, ◌<◌, ◌≤◌, zero, suc, List, [], ◌∷◌, ◌++◌, Some, slice_get, get_or, length, map, refl, sym, ap, ◌∙◌, subst, inl, inr, Bool, true, false, arith}
+u
+    e Rattle.std.proofs.Common.{◌≡◌, ◌↔◌, ◌⊎◌, ℕ, ◌+◌, ◌<◌, ◌≤◌, zero, suc, List, [], ◌∷◌, ◌++◌, Some, slice_get, get_or, length, map, refl, sym, ap, ◌∙◌, subst, inl, inr, Bool, true, false, arith}
 use Rattle.std.specs.Prelude.{MatchBool, not}
 use Rattle.std.specs.List.{list_any}
 use Rattle.std.proofs.Math.Dec.{eqb}
@@ -14,7 +15,8 @@ use Rattle.lotos_warn.specs.declared.warning.Warning.TheVariants.{ExchangedGates
 use Rattle.lotos_warn.specs.ShownNames.{shown_names}
 use Rattle.lotos_warn.specs.Warnings.{IsExchanged}
 use Rattle.lotos_warn.specs.Additions.{Adds, Includes, IsReachedIn}
-use Rattle.lotos_warn.specs.CallSites.{Site, IsApart, IsOuterAt, IsPeerAt, IsExchangeAlone, IsExchangeAt, IsMovedAt, IsExchangeOf, IsExchangeOfAny, IsExchangeListed, from_process}
+u
+    e Rattle.lotos_warn.specs.CallSites.{Site, IsApart, IsOuterAt, IsPeerAt, IsExchangeAlone, IsExchangeAt, IsMovedAt, IsExchangeOf, IsExchangeOfAny, IsExchangeListed, from_process}
 use Rattle.std.specs.Str.{bytes_eq}
 use Rattle.std.proofs.lemmas.Slice.Eq.{bytes_eq-Decides}
 use Rattle.lotos_warn.proofs.NameTests.{number_found, number_missing}
@@ -94,7 +96,8 @@ of_process processes sites numbers process own inside at same none w = (
     located = at;
     index = index;
     exchange = (exchange_as (λ k. In k inside) (IsReachedIn (from_process processes process)) same sites numbers process own.formals index w).0 x;
-    alone = λ other p. none other ((peer_as (λ k. In k inside) (IsReachedIn (from_process processes process)) same sites numbers process own.formals other).1 p);
+ 
+          alone = λ other p. none other ((peer_as (λ k. In k inside) (IsReachedIn (from_process processes process)) same sites numbers process own.formals other).1 p);
   }),
   (λ h. let e : h.own ≡ own = one_item processes process h.own own h.located at in
     (h.index, (exchange_as (λ k. In k inside) (IsReachedIn (from_process processes process)) same sites numbers process own.formals h.index w).1
@@ -130,11 +133,12 @@ of_no_process processes sites numbers process past w h = let within = slice_get_
 pub map_get : {X Y : Type 0} (f : X → Y) (xs : List X) (k : ℕ) (d : X) → k < length xs → slice_get (map f xs) k ≡ Some (f (get_or xs k d))
 map_get f xs k d h = slice_get-map f xs k ∙ ap (option_map f) (slice_get-get_or xs k d h)
 
--- what a test says if it is true, and if it is not
+-- what a test says if it is true
 pub said : (A B : Type 0) (test : Bool) → MatchBool test A B → test ≡ true → A
 said A B true h e = h
 said A B false h e = cc
 
+-- what it says if it is false
 pub denied : (A B : Type 0) (test : Bool) → MatchBool test A B → test ≡ false → B
 denied A B true h e = cc
 denied A B false h e = h
@@ -153,6 +157,7 @@ apart_tested k index inside there e found =
 
 -- the call at an index, of which it was tested where it is, and whether it has the gates
 module _ (sites : List Site) (numbers : List ℕ) (inside : ℕ → Type 0) (process index : ℕ) (x : Site) (here : slice_get sites index ≡ Some x) where
+  -- whether it is outside
   pub outer_tested : (test : Bool) → slice_get numbers index ≡ Some process → MatchBool test (IsApart inside x.caller) (IsApart inside x.caller → ⊥) →
       (site : Site) → slice_get sites index ≡ Some site →
       MatchBool test (IsOuterAt sites numbers inside process index site) (IsOuterAt sites numbers inside process index site → ⊥)
@@ -161,6 +166,7 @@ module _ (sites : List Site) (numbers : List ℕ) (inside : ℕ → Type 0) (pro
   outer_tested false numbered h site at =
       λ o. h (subst (λ (y : Site). IsApart inside y.caller) (sym (one_item sites index x site here at)) o.outside)
 
+  -- whether it has the gates in their order
   pub peer_tested : (own : List Name) (test : Bool) → IsOuterAt sites numbers inside process index x →
       MatchBool test (texts x.actuals ≡ own) (texts x.actuals ≡ own → ⊥) →
       MatchBool test (IsPeerAt sites numbers inside process own index) (IsPeerAt sites numbers inside process own index → ⊥)
@@ -192,6 +198,7 @@ none_next P index before here i below p = elim (cases_lt i index) [
 
 -- the process of a call that has its gates in another order
 module _ (processes : List FlatProcess) (sites : List Site) (numbers : List ℕ) (index k : ℕ) (numbered : slice_get numbers index ≡ Some k) where
+  -- it is the process of the call
   pub moved_one : (own : FlatProcess) (x : Site) → slice_get processes k ≡ Some own → slice_get sites index ≡ Some x →
       IsExchanged (texts x.actuals) own.formals → (j : ℕ) → (k ≡ j) ↔ IsMovedAt processes sites numbers index j
   moved_one own x at here exchanged j = (
@@ -224,35 +231,41 @@ moved_past processes sites numbers index past j h = let within = slice_get_withi
 
 -- two lists have the same names if each includes the other
 module _ (names others given own : List Name) (is_given : (n : Name) → In n given ↔ In n names) (is_own : (n : Name) → In n own ↔ In n others) where
+  -- the names of both are the same
   abbrev pub AreSame : Type 0
   AreSame = (n : Name) → In n names ↔ In n others
 
+  -- each includes the other
   pub same_tested : (test : Bool) → Includes own names → MatchBool test (Includes given others) (Includes given others → ⊥) →
       MatchBool test AreSame (AreSame → ⊥)
   same_tested true all more = λ n. ((λ i. (is_own n).0 (all n i)), (λ i. (is_given n).0 (more n i)))
   same_tested false all lost = λ same. lost (λ n i. (is_given n).1 ((same n).1 i))
 
+  -- one does not include the other
   pub same_lost : (test : Bool) → test ≡ false → (Includes own names → ⊥) → MatchBool test AreSame (AreSame → ⊥)
   same_lost true e lost = cc
   same_lost false e lost = λ same. lost (λ n i. (is_own n).1 ((same n).0 i))
 
 -- names in another order are not the same in the same order
 module _ (actuals formals : List Name) where
+  -- they are the same
   pub exchanged_never : actuals ≡ formals → IsExchanged actuals formals → ⊥
   exchanged_never e h = h.moved e
 
+  -- they are not, and their names are or are not
   pub exchanged_tested : (test : Bool) → (actuals ≡ formals → ⊥) →
       MatchBool test ((n : Name) → In n actuals ↔ In n formals) (((n : Name) → In n actuals ↔ In n formals) → ⊥) →
       MatchBool test (IsExchanged actuals formals) (IsExchanged actuals formals → ⊥)
   exchanged_tested true moved same = record { same = same; moved = moved }
   exchanged_tested false moved none = λ h. none h.same
 
--- two names that a test tells apart, and two that it does not
+-- two names that a test tells apart
 pub names_differ : (m n : Name) (test : Bool) → test ≡ not (bytes_eq m n) → test ≡ true → m ≡ n → ⊥
 names_differ m n test found differ e =
     let f : test ≡ false = subst (λ b. test ≡ not b) ((bytes_eq-Decides m n).1 e) found in
     cc
 
+-- two that it does not tell apart
 pub names_same : (m n : Name) (test : Bool) → test ≡ not (bytes_eq m n) → test ≡ false → m ≡ n
 names_same m n test found same = (bytes_eq-Decides m n).0 (not_lost (bytes_eq m n) (sym found ∙ same))
   where

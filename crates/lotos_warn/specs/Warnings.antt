@@ -179,7 +179,8 @@ pub record IsUnsynchronizedHidden (whole : DefinitionView) (gate : Placed) : Typ
 pub data IsReachedFrom (whole : DefinitionView) (process : ℕ) : ℕ → Type 0 where
   itself : IsReachedFrom whole process process
   onward : {caller callee : ℕ} {scoped : ScopedDefinition} → IsReachedFrom whole process caller →
-      slice_get (processes_of whole) caller ≡ Some scoped → IsCalledIn scoped callee → IsReachedFrom whole process callee
+      slice_get (processes_of whole) caller ≡ Some scoped → IsCalledIn scoped callee →
+      IsReachedFrom whole process callee
 
 -- the definition is outside of the process: it is the specification, or a process that is neither this one nor reached
 -- from it

@@ -30,7 +30,8 @@ pub(crate) fn warn_of_exchanges(
 ) -> Result<(), AllocError>
     ensures { OnOk result (Adds warnings.old.items warnings.new.items
         (IsExchangeOfAny (system_of system.now).processes
-        (sites_from 0 (map (λ d. definition_view d.now) definitions.now)) (numbers_of (system_of system.now)))) }
+        (sites_from 0 (map (λ d. definition_view d.now) definitions.now))
+        (numbers_of (system_of system.now)))) }
 {
     let mut sites = Vec::new(alloc);
     add_sites_of_all(definitions, &mut sites)?;
@@ -82,7 +83,8 @@ fn warn_of_listed(
     warnings: &mut Vec<Warning>,
 ) -> Result<(), AllocError>
     ensures { OnOk result (Adds warnings.old.items warnings.new.items (λ w. (index : ℕ)
-        × IsExchangeListed (map process_of processes.now) (map site_of sites.now) numbers.now moved.now.keys index w)) }
+        × IsExchangeListed (map process_of processes.now) (map site_of sites.now) numbers.now
+        moved.now.keys index w)) }
 {
     for index in 0..moved.len() {
         let process = number_at(moved, index);
@@ -183,8 +185,10 @@ fn has_peer(
     inside: &IndexSet<usize>,
 ) -> bool
     ensures { MatchBool result
-        ((index : ℕ) × IsPeerAt (map site_of sites.now) numbers.now (λ k. In k inside.now.keys) process own.now index)
-        ((index : ℕ) → IsPeerAt (map site_of sites.now) numbers.now (λ k. In k inside.now.keys) process own.now index → ⊥) }
+        ((index : ℕ) × IsPeerAt (map site_of sites.now) numbers.now (λ k. In k inside.now.keys)
+        process own.now index)
+        ((index : ℕ) → IsPeerAt (map site_of sites.now) numbers.now (λ k. In k inside.now.keys)
+        process own.now index → ⊥) }
 {
     for index in 0..sites.len() {
         if is_peer(sites, numbers, process, own, inside, index) {
@@ -254,7 +258,8 @@ fn warn_of_calls(
     warnings: &mut Vec<Warning>,
 ) -> Result<(), AllocError>
     ensures { OnOk result (Adds warnings.old.items warnings.new.items (λ w. (index : ℕ)
-        × IsExchangeAt (map site_of sites.now) numbers.now (λ k. In k inside.now.keys) process own.now index w)) }
+        × IsExchangeAt (map site_of sites.now) numbers.now (λ k. In k inside.now.keys)
+        process own.now index w)) }
 {
     for index in 0..sites.len() {
         if is_outer(sites, numbers, process, inside, index) {
@@ -272,7 +277,8 @@ fn warn_if_exchanged(
     warnings: &mut Vec<Warning>,
 ) -> Result<(), AllocError>
     ensures { OnOk result (Adds warnings.old.items warnings.new.items (λ w.
-        IsExchanged (texts site.now.actuals.now) own.now × (w ≡ ExchangedGates site.now.callee.now (shown_names own.now)))) }
+        IsExchanged (texts site.now.actuals.now) own.now
+        × (w ≡ ExchangedGates site.now.callee.now (shown_names own.now)))) }
 {
     if is_exchanged(alloc, site.actuals, own)? {
         let process = site.callee.copy(alloc)?;

@@ -17,7 +17,8 @@ loop-index-preserved c =
     let all = map site_of c.args.into.now.items ++ sites_from 0 (map (λ d. definition_view d.now) c.args.definitions.now) in
     let step : suc n ≡ n + 1 = omega arith in
     let rest = map (λ d. definition_view d.now) (drop (n + 1) c.args.definitions.now) in
-    appended_next now (map site_of c.add_sites_of.new.into.items) (sites_in n (body_of (definition_view d))) (sites_from (n + 1) rest) all c.in_ok-add_sites_of.ensures
+    appended_next now (map site_of c.add_sites_of.new.into.items) (sites_in n (body_of (definition_view d))) (sites_from (n + 1) rest) all
+    c.in_ok-add_sites_of.ensures
     (subst (λ m. now ++ (sites_in n (body_of (definition_view d)) ++ sites_from m rest) ≡ all) step
     (subst (λ ds. now ++ sites_from n (map (λ d. definition_view d.now) ds) ≡ all) next c.loop-index.invariant))
 

@@ -11,7 +11,8 @@ returns-then-ne c =
     let within : i < length c.args.gates.now = omega arith in
     let there : i < length c.args.names.now = omega arith in
     agrees_lost _ _ _ _ (texts c.args.gates.now) c.args.names.now (get_or c.args.gates.now i c.index-gates-index.result).name c.index-names-index.result
-    (ap texts (drop_at c.args.gates.now i c.index-gates-index.result (get_or c.args.gates.now i c.index-gates-index.result) within refl))
+    (ap texts (drop_at c.args.gates.now i c.index-gates-index.result
+    (get_or c.args.gates.now i c.index-gates-index.result) within refl))
     (drop_at c.args.names.now i _ c.index-names-index.result there c.index-names-index.is)
     (names_differ (get_or c.args.gates.now i c.index-gates-index.result).name c.index-names-index.result c.ne.result c.ne.ensures c.if-ne.true) c.loop-index.invariant
 
@@ -21,6 +22,7 @@ loop-index-preserved c =
     let within : i < length c.args.gates.now = omega arith in
     let there : i < length c.args.names.now = omega arith in
     agrees_next _ _ _ _ (texts c.args.gates.now) c.args.names.now (get_or c.args.gates.now i c.index-gates-index.result).name c.index-names-index.result
-    (ap texts (drop_at c.args.gates.now i c.index-gates-index.result (get_or c.args.gates.now i c.index-gates-index.result) within refl))
+    (ap texts (drop_at c.args.gates.now i c.index-gates-index.result
+    (get_or c.args.gates.now i c.index-gates-index.result) within refl))
     (drop_at c.args.names.now i _ c.index-names-index.result there c.index-names-index.is)
     (names_same (get_or c.args.gates.now i c.index-gates-index.result).name c.index-names-index.result c.ne.result c.ne.ensures c.if-ne.false) c.loop-index.invariant

@@ -27,4 +27,5 @@ returns-then-not-contains c =
 pub returns : goal.returns
 returns c =
     let done : length c.args.gates.now ≤ c.loop-gate.gate-index = omega arith in
-    includes_end (map (λ k. k.now) c.args.set.now.keys) _ (texts c.args.gates.now) (ap texts (drop_all c.loop-gate.gate-index c.args.gates.now done)) c.loop-gate.invariant
+    includes_end (map (λ k. k.now) c.args.set.now.keys) _ (texts c.args.gates.now) (ap texts (drop_all c.loop-gate.gate-index c.args.gates.now done))
+    c.loop-gate.invariant

@@ -1,14 +1,14 @@
-use Rattle.std.proofs.Common.{◌≡◌, ℕ, ◌+◌, ◌<◌, ◌≤◌, length, get_or, map, sym, subst, arith}
+use Rattle.std.proofs.Common.{◌≡◌, ℕ, ◌+◌, ◌<◌, ◌≤◌, length, map, sym, subst, arith}
 use Rattle.std.proofs.lemmas.List.{length-map}
 use Rattle.std.proofs.lemmas.Option.{slice_get_within}
 use Rattle.lotos_check.specs.NameLists.{In, texts}
-use Rattle.lotos_check.proofs.ListIndices.{get_some}
+use Rattle.lotos_check.proofs.ListIndices.{get_some, map_read}
 use Rattle.lotos_warn.specs.Warnings.{IsExchanged}
 use Rattle.lotos_warn.specs.ShownNames.{shown_names}
 use Rattle.lotos_warn.specs.declared.warning.Warning.TheVariants.{ExchangedGates}
 use Rattle.lotos_warn.specs.CallSites.{IsExchangeAt, IsOuterAt, site_of}
 use Rattle.lotos_warn.proofs.Additions.{AddsBelow, adds_as, adds_nothing, below_start, below_next, below_end}
-use Rattle.lotos_warn.proofs.ExchangedSites.{map_get, said, denied, exchange_here, exchange_nowhere}
+use Rattle.lotos_warn.proofs.ExchangedSites.{said, denied, exchange_here, exchange_nowhere}
 use Rattle.lotos_warn.proofs.exchanged_gates.warn_of_calls.Goals.{then-is_outer+in_ok-warn_if_exchanged, else-is_outer}
 use Rattle.lotos_warn.proofs.exchanged_gates.warn_of_calls.Goals as goal
 
@@ -30,8 +30,8 @@ loop-index-preserved c =
     let within : i < length c.args.sites.now = omega arith in
     elim c.if-is_outer.branch [
       | then-is_outer+in_ok-warn_if_exchanged w ↦ (
-          let x = site_of (get_or c.args.sites.now i w.index-sites-index.result) in
-          let here = map_get site_of c.args.sites.now i w.index-sites-index.result within in
+          let x = site_of w.index-sites-index.result in
+          let here = map_read site_of c.args.sites.now i w.index-sites-index.result within w.index-sites-index.is in
           let outer = IsOuterAt sites numbers (λ j. In j c.args.inside.now.keys) k i x in
           let is_outer = said outer (outer → ⊥) c.is_outer.result (c.is_outer.ensures x here) w.if-is_outer.true in
           let new = w.warn_if_exchanged.new.warnings.items in

@@ -5,8 +5,8 @@ use Rattle.lotos_warn.proofs.Additions.{adds_as}
 use Rattle.lotos_warn.proofs.ExchangedSites.{listed_all}
 use Rattle.lotos_warn.proofs.exchanged_gates.warn_of_sites.Goals as goal
 
-pub returns-in_ok-warn_of_listed : goal.returns-in_ok-warn_of_listed
-returns-in_ok-warn_of_listed c =
+pub returns : goal.returns
+returns c =
     let processes = map process_of c.args.processes.now in
     let sites = map site_of c.args.sites.now in
     let numbers = c.args.numbers.now in

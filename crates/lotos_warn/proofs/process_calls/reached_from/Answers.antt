@@ -23,5 +23,6 @@ loop-passed-preserved c =
 
 pub returns : goal.returns
 returns c =
-    let done : length c.loop-passed.reached.keys ≤ c.loop-passed.passed = (let past = c.loop-passed-test.false in let count = c.len.ensures.len in omega arith) in
+    let done : length c.loop-passed.reached.keys ≤ c.loop-passed.passed =
+    (let past = c.loop-passed-test.false in let count = c.len.ensures.len in omega arith) in
     expanded_all (from_process (map process_of c.args.processes.now) c.args.number) c.loop-passed.reached.keys c.loop-passed.passed c.loop-passed.invariant done
