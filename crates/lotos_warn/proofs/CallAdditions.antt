@@ -46,7 +46,7 @@ disable_parts (left_disable h) = inl h
 disable_parts (right_disable h) = inr h
 
 -- a call contains a call of no process but its own
-called_number : {j k : ℕ} {gs names : List Name} → ContainsCall (call j gs) k names → j ≡ k
+pub called_number : {j k : ℕ} {gs names : List Name} → ContainsCall (call j gs) k names → j ≡ k
 called_number itself = refl
 
 -- a form with two operands

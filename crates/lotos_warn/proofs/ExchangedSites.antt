@@ -1,6 +1,5 @@
 -- The warnings about the calls of processes, one process after the other.
-u
-    e Rattle.std.proofs.Common.{◌≡◌, ◌↔◌, ◌⊎◌, ℕ, ◌+◌, ◌<◌, ◌≤◌, zero, suc, List, [], ◌∷◌, ◌++◌, Some, slice_get, get_or, length, map, refl, sym, ap, ◌∙◌, subst, inl, inr, Bool, true, false, arith}
+use Rattle.std.proofs.Common.{◌≡◌, ◌↔◌, ◌⊎◌, ℕ, ◌+◌, ◌<◌, ◌≤◌, zero, suc, List, [], ◌∷◌, ◌++◌, Some, slice_get, get_or, length, map, refl, sym, ap, ◌∙◌, subst, inl, inr, Bool, true, false, arith}
 use Rattle.std.specs.Prelude.{MatchBool, not}
 use Rattle.std.specs.List.{list_any}
 use Rattle.std.proofs.Math.Dec.{eqb}
@@ -15,8 +14,7 @@ use Rattle.lotos_warn.specs.declared.warning.Warning.TheVariants.{ExchangedGates
 use Rattle.lotos_warn.specs.ShownNames.{shown_names}
 use Rattle.lotos_warn.specs.Warnings.{IsExchanged}
 use Rattle.lotos_warn.specs.Additions.{Adds, Includes, IsReachedIn}
-u
-    e Rattle.lotos_warn.specs.CallSites.{Site, IsApart, IsOuterAt, IsPeerAt, IsExchangeAlone, IsExchangeAt, IsMovedAt, IsExchangeOf, IsExchangeOfAny, IsExchangeListed, from_process}
+use Rattle.lotos_warn.specs.CallSites.{Site, IsApart, IsOuterAt, IsPeerAt, IsExchangeAlone, IsExchangeAt, IsMovedAt, IsExchangeOf, IsExchangeOfAny, IsExchangeListed, from_process}
 use Rattle.std.specs.Str.{bytes_eq}
 use Rattle.std.proofs.lemmas.Slice.Eq.{bytes_eq-Decides}
 use Rattle.lotos_warn.proofs.NameTests.{number_found, number_missing}
@@ -96,8 +94,8 @@ of_process processes sites numbers process own inside at same none w = (
     located = at;
     index = index;
     exchange = (exchange_as (λ k. In k inside) (IsReachedIn (from_process processes process)) same sites numbers process own.formals index w).0 x;
- 
-          alone = λ other p. none other ((peer_as (λ k. In k inside) (IsReachedIn (from_process processes process)) same sites numbers process own.formals other).1 p);
+    alone = λ other p. none other
+        ((peer_as (λ k. In k inside) (IsReachedIn (from_process processes process)) same sites numbers process own.formals other).1 p);
   }),
   (λ h. let e : h.own ≡ own = one_item processes process h.own own h.located at in
     (h.index, (exchange_as (λ k. In k inside) (IsReachedIn (from_process processes process)) same sites numbers process own.formals h.index w).1
