@@ -76,7 +76,7 @@ module _ (one : (scope : Scope) → IsDistinctScope scope → BindsOnce scope)
     outside_numbered v (another {number = k} at apart) = (suc k, at, (λ r. apart (from_number k r)))
 
   -- a call at an index is one by name in its definition
-  called_at : (site : Site) (k : ℕ) (h : IsSiteIn spec site k) → IsCalledIn h.scoped k
+  abbrev called_at : (site : Site) (k : ℕ) (h : IsSiteIn spec site k) → IsCalledIn h.scoped k
   called_at site k h = record {
     in_scope = h.there;
     callee = site.callee;
