@@ -1,7 +1,7 @@
 """Mistakes of people who are new to the language or to the patterns, and what a terminal is told of them.
 
 A row has a grade, what is mistaken, the mistake, and words of the answer: with A those that say what is wrong and what to write, with B those
-that say where. Gates of a call that have changed places are answered by nothing, and have no row. A text without `specification` is a behaviour, perhaps with a `where`, of FRAME.
+that say where. A text without `specification` is a behaviour, perhaps with a `where`, of FRAME.
 """
 FRAME = "specification S [a, b] : noexit\nbehaviour {}\nendspec\n"
 WHERE = "P[a] where process P [x] : noexit := "
@@ -55,6 +55,8 @@ IN_TEXTS = [
     ("A", "an end before enabling", "a; stop >> b; stop", "End the behaviour to the left of `>>` with `exit`."),
     ("A", "a call of itself at once", WHERE + "P[x] [] x; stop endproc", "P calls itself at 2:48", "Put an action before one of the calls"),
     ("A", "a hidden gate that is in no list", "hide c in (a; c; stop ||| c; b; stop)", "warning: gate C of `hide` is offered on both sides"),
+    ("A", "gates of a call that have changed places", "P[b, a] where process P [a, b] : noexit := a; b; stop endproc",
+     "2:11: warning: the gates of P have changed places: its own are A, B"),
     ("A", "a process that nothing calls", "a; b; stop where process P : noexit := stop endproc", "warning: process P is never called"),
     ("B", "a word of full LOTOS", "par g in [a, b] || g; stop", "2:11: E07", FULL),
     ("B", "a value of full LOTOS", "let x: nat = 1 in a; stop", "2:22: E01", "values and guards of full LOTOS are not read here"),

@@ -132,7 +132,7 @@ const DEAD_STARTS_OF_PARTS: &[Row] = &[
     (
         "gates with the names of formal ones",
         "specification S [x, y] : noexit behaviour P[y, x] || x; stop where process P [x, y] : noexit := x; y; stop endproc endspec",
-        "14 the behaviour of S can do nothing: no action, no internal step, no termination\n",
+        "14 the behaviour of S can do nothing: no action, no internal step, no termination\n42 the gates of P have changed places: its own are X, Y\n",
     ),
     (
         "calls after an action",

@@ -606,6 +606,124 @@ const TERMINATION_OF_PARTS: &[Row] = &[
     ),
 ];
 
+/// Calls whose gates have changed places.
+const EXCHANGED_GATES: &[Row] = &[
+    (
+        "a call from outside",
+        "specification S [a, b] : noexit behaviour P [b, a] where process P [a, b] : noexit := a; b; P [a, b] endproc endspec",
+        "42 the gates of P have changed places: its own are A, B\n",
+    ),
+    (
+        "the same list",
+        "specification S [a, b] : noexit behaviour P [a, b] where process P [a, b] : noexit := a; b; P [a, b] endproc endspec",
+        "",
+    ),
+    (
+        "other names",
+        "specification S [x, y] : noexit behaviour P [y, x] where process P [a, b] : noexit := a; b; P [a, b] endproc endspec",
+        "",
+    ),
+    (
+        "one name of two",
+        "specification S [a, b] : noexit behaviour P [a, a] ||| P [b, b] where process P [a, b] : noexit := a; b; P [a, b] endproc endspec",
+        "",
+    ),
+    (
+        "one formal gate and another one",
+        "specification S [b, c] : noexit behaviour P [b, c] where process P [a, b] : noexit := a; b; P [a, b] endproc endspec",
+        "",
+    ),
+    (
+        "formal gates that are written in another case",
+        "specification S [A, b] : noexit behaviour P [B, A] where process p [a, B] : noexit := a; b; p [A, b] endproc endspec",
+        "42 the gates of P have changed places: its own are A, B\n",
+    ),
+    (
+        "three gates",
+        "specification S [a, b, c] : noexit behaviour P [b, c, a] where process P [a, b, c] : noexit := a; b; c; stop endproc endspec",
+        "45 the gates of P have changed places: its own are A, B, C\n",
+    ),
+    (
+        "two of three gates",
+        "specification S [a, b, c] : noexit behaviour P [a, c, b] where process P [a, b, c] : noexit := a; b; c; stop endproc endspec",
+        "45 the gates of P have changed places: its own are A, B, C\n",
+    ),
+    (
+        "each of two calls",
+        "specification S [a, b] : noexit behaviour P [b, a] ||| P [b, a] where process P [a, b] : noexit := a; b; P [a, b] endproc endspec",
+        "42 the gates of P have changed places: its own are A, B\n55 the gates of P have changed places: its own are A, B\n",
+    ),
+    (
+        "peers",
+        "specification S [a, b] : noexit behaviour P [a, b] ||| P [b, a] where process P [a, b] : noexit := a; b; P [a, b] endproc endspec",
+        "",
+    ),
+    (
+        "a peer in another process",
+        "specification S [a, b] : noexit behaviour P [b, a] ||| Q [a, b] where process P [a, b] : noexit := a; b; P [a, b] endproc process Q [a, b] : noexit := P [a, b] endproc endspec",
+        "",
+    ),
+    (
+        "the gates of a call that are those of a process around it",
+        "specification S [a, b] : noexit behaviour Q [a, b] where process P [a, b] : noexit := a; b; P [a, b] endproc process Q [a, b] : noexit := P [b, a] endproc endspec",
+        "138 the gates of P have changed places: its own are A, B\n",
+    ),
+    (
+        "under each operator",
+        "specification S [a, b] : exit behaviour a; P [b, a] [] (P [b, a] |[a]| P [b, a]) [] ((hide c in c; P [b, a]) >> (P [b, a] [> P [b, a])) where process P [a, b] : exit := a; b; exit endproc endspec",
+        "43 the gates of P have changed places: its own are A, B\n56 the gates of P have changed places: its own are A, B\n71 the gates of P have changed places: its own are A, B\n99 the gates of P have changed places: its own are A, B\n113 the gates of P have changed places: its own are A, B\n125 the gates of P have changed places: its own are A, B\n",
+    ),
+];
+
+/// The same among processes that call one another, and inside others.
+const EXCHANGED_GATES_OF_PROCESSES: &[Row] = &[
+    (
+        "inside the process itself",
+        "specification S [x, y] : noexit behaviour P [x, y] where process P [a, b] : noexit := a; P [b, a] endproc endspec",
+        "",
+    ),
+    (
+        "a call from outside, and one inside",
+        "specification S [a, b] : noexit behaviour P [b, a] where process P [a, b] : noexit := a; P [b, a] endproc endspec",
+        "42 the gates of P have changed places: its own are A, B\n",
+    ),
+    (
+        "in its own order only inside",
+        "specification S [a, b] : noexit behaviour P [b, a] where process P [a, b] : noexit := a; P [a, b] endproc endspec",
+        "42 the gates of P have changed places: its own are A, B\n",
+    ),
+    (
+        "in a process that it calls, and that calls it",
+        "specification S [x, y] : noexit behaviour P [x, y] where process P [a, b] : noexit := a; Q [a, b] endproc process Q [a, b] : noexit := b; P [b, a] endproc endspec",
+        "",
+    ),
+    (
+        "in a process that one that it calls calls",
+        "specification S [x, y] : noexit behaviour P [x, y] where process P [a, b] : noexit := a; Q [a, b] endproc process Q [a, b] : noexit := b; R [a, b] endproc process R [a, b] : noexit := a; P [b, a] endproc endspec",
+        "",
+    ),
+    (
+        "in its own order only in a process that it calls",
+        "specification S [a, b] : noexit behaviour P [b, a] where process P [a, b] : noexit := a; Q [a, b] endproc process Q [a, b] : noexit := b; P [a, b] endproc endspec",
+        "42 the gates of P have changed places: its own are A, B\n",
+    ),
+    (
+        "in a process that calls it, and that it does not call",
+        "specification S [a, b] : noexit behaviour Q [a, b] where process P [a, b] : noexit := a; b; stop endproc process Q [a, b] : noexit := a; P [b, a] [] b; Q [b, a] endproc endspec",
+        "137 the gates of P have changed places: its own are A, B\n",
+    ),
+    (
+        "a process inside another",
+        "specification S [a, b] : noexit behaviour Q [a, b] where process Q [a, b] : noexit := P [b, a] where process P [a, b] : noexit := a; b; stop endproc endproc endspec",
+        "86 the gates of P have changed places: its own are A, B\n",
+    ),
+    (
+        "in a process inside its own",
+        "specification S [a, b] : noexit behaviour P [a, b] where process P [a, b] : noexit := Q [a, b] where process Q [a, b] : noexit := a; b; P [b, a] endproc endproc endspec",
+        "",
+    ),
+];
+
 #[test]
 fn warns_about_gates_that_are_not_used(rt: HostRuntime) -> Result<(), Fail> {
     Ok(assert_rows(&rt, rt.alloc(), USED_GATES)?)
@@ -659,4 +777,14 @@ fn warns_about_definitions_that_never_terminate(rt: HostRuntime) -> Result<(), F
 #[test]
 fn warns_about_parts_that_never_terminate(rt: HostRuntime) -> Result<(), Fail> {
     Ok(assert_rows(&rt, rt.alloc(), TERMINATION_OF_PARTS)?)
+}
+
+#[test]
+fn warns_about_gates_that_have_changed_places(rt: HostRuntime) -> Result<(), Fail> {
+    Ok(assert_rows(&rt, rt.alloc(), EXCHANGED_GATES)?)
+}
+
+#[test]
+fn warns_about_gates_that_have_changed_places_in_processes(rt: HostRuntime) -> Result<(), Fail> {
+    Ok(assert_rows(&rt, rt.alloc(), EXCHANGED_GATES_OF_PROCESSES)?)
 }

@@ -1,5 +1,6 @@
 -- What is added step by step.
-use Rattle.std.proofs.Common.{◌≡◌, ◌↔◌, ◌⊎◌, List, [], ◌∷◌, sym, subst, inl, inr}
+use Rattle.std.proofs.Common.{◌≡◌, ◌↔◌, ◌⊎◌, ℕ, ◌+◌, ◌<◌, ◌≤◌, List, [], ◌∷◌, sym, subst, inl, inr, arith}
+use Rattle.std.proofs.lemmas.Bool.{cases_lt}
 use Rattle.lotos_check.specs.NameLists.{In}
 use Rattle.lotos_warn.specs.Additions.{Adds}
 
@@ -93,3 +94,32 @@ module _ {X Y : Type 0} (adds : List Y → X → Type 0) (one : Y → X → Type
   pub loop_end : (old new : List X) (all : X → Type 0) (rest : List Y) → rest ≡ [] → AddsRest old new (adds rest) all → Adds old new all
   loop_end old new all rest none before =
       adds_end old new (adds rest) all before (λ x r. nothing x (subst (λ ys. adds ys x) none r))
+
+-- the same in a loop over indices: `P` says what is to be added at an index
+module _ {X : Type 0} (P : ℕ → X → Type 0) where
+  -- what is to be added at the indices below this one is added
+  abbrev pub AddsBelow : List X → List X → ℕ → Type 0
+  AddsBelow old new index = Adds old new (λ x. (i : ℕ) × (i < index) × P i x)
+
+  -- at the start there is none
+  pub below_start : (old : List X) → AddsBelow old old 0
+  below_start old = adds_nothing old (λ x. (i : ℕ) × (i < 0) × P i x) (λ x h. let below = h.1 in omega arith)
+
+  -- an index is passed
+  pub below_next : (old now new : List X) (index : ℕ) → AddsBelow old now index → Adds now new (P index) → AddsBelow old new (index + 1)
+  below_next old now new index before added =
+      adds_as old new (λ x. ((i : ℕ) × (i < index) × P i x) ⊎ P index x) (λ x. (i : ℕ) × (i < index + 1) × P i x)
+      (λ x. (
+        (λ h. elim h [ inl (i, below, p) ↦ (i, omega arith, p) | inr p ↦ (index, omega arith, p) ]),
+        (λ (i, below, p). elim (cases_lt i index) [
+          | inl less ↦ inl (i, less, p)
+          | inr past ↦ (let last : i ≡ index = omega arith in inr (subst (λ j. P j x) last p))
+        ]),
+      ))
+      (adds_both old now new (λ x. (i : ℕ) × (i < index) × P i x) (P index) before added)
+
+  -- all are passed
+  pub below_end : (old new : List X) (index : ℕ) → AddsBelow old new index → ((i : ℕ) (x : X) → P i x → i < index) → Adds old new (λ x. (i : ℕ) × P i x)
+  below_end old new index before within =
+      adds_as old new (λ x. (i : ℕ) × (i < index) × P i x) (λ x. (i : ℕ) × P i x)
+      (λ x. ((λ (i, below, p). (i, p)), (λ (i, p). (i, within i x p, p)))) before

@@ -1,5 +1,6 @@
 -- The calls of a behaviour, from those of its parts.
-use Rattle.std.proofs.Common.{◌≡◌, ◌↔◌, ◌⊎◌, ◌≤◌, ℕ, List, ◌∷◌, Option, Some, slice_get, length, arith, refl, sym, subst, inl, inr}
+use Rattle.std.proofs.Common.{◌≡◌, ◌↔◌, ◌⊎◌, ◌≤◌, ℕ, List, [], ◌∷◌, ◌++◌, Option, Some, slice_get, length, arith, refl, sym, ◌∙◌, subst, inl, inr, append_assoc}
+use Rattle.std.proofs.lemmas.List.{append-nil}
 use Rattle.std.proofs.lemmas.Option.{slice_get_within}
 use Rattle.lotos_check.specs.NameLists.{Name}
 use Rattle.lotos_check.specs.Flat.{Flat, stop, exit, prefix, choice, par, hide, enable, disable, call, FlatProcess}
@@ -45,7 +46,7 @@ disable_parts (left_disable h) = inl h
 disable_parts (right_disable h) = inr h
 
 -- a call contains a call of no process but its own
-called_number : {j k : ℕ} {gs names : List Name} → ContainsCall (call j gs) k names → j ≡ k
+pub called_number : {j k : ℕ} {gs names : List Name} → ContainsCall (call j gs) k names → j ≡ k
 called_number itself = refl
 
 -- a form with two operands
@@ -127,3 +128,11 @@ number_calls processes caller p at k = (
 -- a number without a process calls none
 pub number_calls_none : (processes : List FlatProcess) (caller : ℕ) → length processes ≤ caller → (k : ℕ) → IsCalledByNumber processes caller k → ⊥
 number_calls_none processes caller past k h = let within = slice_get_within processes caller h.process h.located in omega arith
+
+-- what is appended is what was left first
+pub appended_next : {X : Type 0} (now new more rest all : List X) → new ≡ now ++ more → now ++ (more ++ rest) ≡ all → new ++ rest ≡ all
+appended_next now new more rest all grown before = subst (λ xs. xs ++ rest ≡ all) (sym grown) (append_assoc now more rest ∙ before)
+
+-- nothing is left
+pub appended_end : {X : Type 0} (now all : List X) → now ++ [] ≡ all → now ≡ all
+appended_end now all before = sym (append-nil now) ∙ before

@@ -86,7 +86,7 @@ module _ (one : (scope : Scope) → IsDistinctScope scope → BindsOnce scope)
     (b : Flat) → Resolves v.scope (body_of v.definition) b → (k : ℕ) (gates : List Name) → ContainsCall b k gates → GoesToNamed s v k gates)
     (spec : DefinitionView) (s : System) (a : IsAccepted spec s) where
   -- a call by number in the body of a definition comes from one by name
-  named_call : (k : ℕ) (v : ScopedDefinition) → In v (all_definitions spec) → (b : Flat) → Resolves v.scope (body_of v.definition) b →
+  pub named_call : (k : ℕ) (v : ScopedDefinition) → In v (all_definitions spec) → (b : Flat) → Resolves v.scope (body_of v.definition) b →
       ContainsCallOf b k → IsCalledIn v k
   named_call k v i b r c =
       let n = (named spec s a v i b r k c.0 c.1).named in
@@ -100,7 +100,7 @@ module _ (one : (scope : Scope) → IsDistinctScope scope → BindsOnce scope)
       }
 
   -- and a call by name is one by number
-  numbered_call : (k : ℕ) (v : ScopedDefinition) → In v (all_definitions spec) → (b : Flat) → Resolves v.scope (body_of v.definition) b →
+  pub numbered_call : (k : ℕ) (v : ScopedDefinition) → In v (all_definitions spec) → (b : Flat) → Resolves v.scope (body_of v.definition) b →
       IsCalledIn v k → ContainsCallOf b k
   numbered_call k v i b r h =
       number_called v.scope (one v.scope (visible_distinct spec a.typed.distinct v i)) (texts (formals_of v.definition)) (body_of v.definition) b

@@ -7,7 +7,7 @@ use Rattle.lotos_check.specs.NameLists.{Name, In}
 use Rattle.lotos_check.specs.Flat.{System}
 use Rattle.lotos_check.proofs.Pairs.{drop_at}
 use Rattle.lotos_warn.specs.declared.warning.Warning.{Warning}
-use Rattle.lotos_warn.specs.declared.warning.Warning.TheVariants.{UncalledProcess, UnreachedProcess, NeverExits, DeadStart, UnusedGate, UnofferedGate, UnusedHidden, UnsynchronizedHidden}
+use Rattle.lotos_warn.specs.declared.warning.Warning.TheVariants.{UncalledProcess, UnreachedProcess, NeverExits, DeadStart, UnusedGate, UnofferedGate, UnusedHidden, UnsynchronizedHidden, ExchangedGates}
 use Rattle.lotos_warn.specs.ShownNames.{shown_name}
 use Rattle.lotos_warn.specs.LabelSets.{IsAlive, IsDead}
 use Rattle.lotos_warn.specs.Warnings.{UsesFree}
@@ -30,6 +30,7 @@ unused_split used name g gs (UnusedGate gate d) = (
   ]),
 )
 unused_split used name g gs (UnsynchronizedHidden p) = ((λ h. absurd h), (λ h. elim h [ inl i ↦ i | inr i ↦ i ]))
+unused_split used name g gs (ExchangedGates p o) = ((λ h. absurd h), (λ h. elim h [ inl i ↦ i | inr i ↦ i ]))
 
 -- there is no warning about an unused gate of an empty list
 pub unused_none : (used : List Name) (name : Name) (w : Warning) → IsUnusedAmong used name [] w → ⊥
@@ -41,6 +42,7 @@ unused_none used name (UnofferedGate p s) h = h
 unused_none used name (UnusedHidden p) h = h
 unused_none used name (UnusedGate gate d) h = h.0
 unused_none used name (UnsynchronizedHidden p) h = h
+unused_none used name (ExchangedGates p o) h = h
 
 -- the warning about a gate that is not used
 pub unused_one : (used : List Name) (name : Name) (gate : Placed) → (In gate.name used → ⊥) → (w : Warning) →
@@ -56,6 +58,7 @@ unused_one used name gate none (UnusedGate other d) = (
   (λ h. elim h.0 [ inl same ↦ (let named = h.1 in cc) | inr i ↦ absurd i ]),
 )
 unused_one used name gate none (UnsynchronizedHidden p) = ((λ e. cc), (λ h. absurd h))
+unused_one used name gate none (ExchangedGates p o) = ((λ e. cc), (λ h. absurd h))
 
 -- none about a gate that is
 pub unused_never : (used : List Name) (name : Name) (gate : Placed) → In gate.name used → (w : Warning) → IsUnusedAmong used name (gate ∷ []) w → ⊥
@@ -67,6 +70,7 @@ unused_never used name gate some (UnofferedGate p s) h = h
 unused_never used name gate some (UnusedHidden p) h = h
 unused_never used name gate some (UnusedGate other d) h = elim h.0 [ inl same ↦ h.2 (subst (λ g. In g.name used) same some) | inr i ↦ i ]
 unused_never used name gate some (UnsynchronizedHidden p) h = h
+unused_never used name gate some (ExchangedGates p o) h = h
 
 -- the names that are used are those that the body uses
 pub unused_in : (d : DefinitionView) (used : List Name) → ((n : Name) → In n used ↔ UsesFree (body_of d) n) → (w : Warning) →
@@ -82,6 +86,7 @@ unused_in d used same (UnusedGate gate name) = (
   (λ h. (h.0, h.1, (λ i. h.2 ((same gate.name).0 i)))),
 )
 unused_in d used same (UnsynchronizedHidden p) = ((λ h. h), (λ h. h))
+unused_in d used same (ExchangedGates p o) = ((λ h. h), (λ h. h))
 
 -- a warning about the gates of some definition is one about the first, or about one of the others
 pub gates_split : (d : DefinitionView) (ds : List DefinitionView) (w : Warning) → IsGateWarningOfAny (d ∷ ds) w ↔ (IsGateWarning d w ⊎ IsGateWarningOfAny ds w)
@@ -101,6 +106,7 @@ uncalled_one called number d none (UnusedGate gate name) = ((λ e. cc), (λ h. a
 uncalled_one called number d none (UnofferedGate gate side) = ((λ e. cc), (λ h. absurd h))
 uncalled_one called number d none (UnusedHidden gate) = ((λ e. cc), (λ h. absurd h))
 uncalled_one called number d none (UnsynchronizedHidden p) = ((λ e. cc), (λ h. absurd h))
+uncalled_one called number d none (ExchangedGates p o) = ((λ e. cc), (λ h. absurd h))
 
 -- none about a process that is
 pub uncalled_never : (called : List ℕ) (number : ℕ) (d : DefinitionView) → In number called → (w : Warning) → IsUncalledAt called number d w → ⊥
@@ -112,6 +118,7 @@ uncalled_never called number d some (UnusedGate gate name) h = h
 uncalled_never called number d some (UnofferedGate gate side) h = h
 uncalled_never called number d some (UnusedHidden gate) h = h
 uncalled_never called number d some (UnsynchronizedHidden p) h = h
+uncalled_never called number d some (ExchangedGates p o) h = h
 
 -- the warning about a process that is called and not reached
 pub unreached_one : (called reached : List ℕ) (number : ℕ) (d : DefinitionView) → In number called × (In number reached → ⊥) → (w : Warning) →
@@ -127,6 +134,7 @@ unreached_one called reached number d here (UnusedGate gate name) = ((λ e. cc),
 unreached_one called reached number d here (UnofferedGate gate side) = ((λ e. cc), (λ h. absurd h))
 unreached_one called reached number d here (UnusedHidden gate) = ((λ e. cc), (λ h. absurd h))
 unreached_one called reached number d here (UnsynchronizedHidden p) = ((λ e. cc), (λ h. absurd h))
+unreached_one called reached number d here (ExchangedGates p o) = ((λ e. cc), (λ h. absurd h))
 
 -- none about one that is not called, or that is reached
 pub unreached_never : (called reached : List ℕ) (number : ℕ) (d : DefinitionView) → (In number called → ⊥) ⊎ In number reached → (w : Warning) →
@@ -139,6 +147,7 @@ unreached_never called reached number d other (UnusedGate gate name) h = h
 unreached_never called reached number d other (UnofferedGate gate side) h = h
 unreached_never called reached number d other (UnusedHidden gate) h = h
 unreached_never called reached number d other (UnsynchronizedHidden p) h = h
+unreached_never called reached number d other (ExchangedGates p o) h = h
 
 -- the warning about a process that is declared exit and not one that exits
 pub endless_one : (exiting : List ℕ) (number : ℕ) (d : DefinitionView) → declared_of d ≡ Exit → (In number exiting → ⊥) → (w : Warning) →
@@ -154,6 +163,7 @@ endless_one exiting number d declared none (UnusedGate gate name) = ((λ e. cc),
 endless_one exiting number d declared none (UnofferedGate gate side) = ((λ e. cc), (λ h. absurd h))
 endless_one exiting number d declared none (UnusedHidden gate) = ((λ e. cc), (λ h. absurd h))
 endless_one exiting number d declared none (UnsynchronizedHidden p) = ((λ e. cc), (λ h. absurd h))
+endless_one exiting number d declared none (ExchangedGates p o) = ((λ e. cc), (λ h. absurd h))
 
 -- none about one that is declared otherwise, or that exits
 pub endless_never : (exiting : List ℕ) (number : ℕ) (d : DefinitionView) → (declared_of d ≡ NoExit) ⊎ In number exiting → (w : Warning) →
@@ -169,6 +179,7 @@ endless_never exiting number d other (UnusedGate gate name) h = h
 endless_never exiting number d other (UnofferedGate gate side) h = h
 endless_never exiting number d other (UnusedHidden gate) h = h
 endless_never exiting number d other (UnsynchronizedHidden p) h = h
+endless_never exiting number d other (ExchangedGates p o) h = h
 
 -- the same of the specification
 pub endless_whole : (exits : Bool) (d : DefinitionView) → declared_of d ≡ Exit → exits ≡ false → (w : Warning) →
@@ -184,6 +195,7 @@ endless_whole exits d declared none (UnusedGate gate name) = ((λ e. cc), (λ h.
 endless_whole exits d declared none (UnofferedGate gate side) = ((λ e. cc), (λ h. absurd h))
 endless_whole exits d declared none (UnusedHidden gate) = ((λ e. cc), (λ h. absurd h))
 endless_whole exits d declared none (UnsynchronizedHidden p) = ((λ e. cc), (λ h. absurd h))
+endless_whole exits d declared none (ExchangedGates p o) = ((λ e. cc), (λ h. absurd h))
 
 -- no warning says that a specification never terminates if it is declared noexit, or if its behaviour exits
 pub endless_whole_never : (exits : Bool) (d : DefinitionView) → (declared_of d ≡ NoExit) ⊎ (exits ≡ true) → (w : Warning) → IsEndlessWhole exits d w → ⊥
@@ -198,6 +210,7 @@ endless_whole_never exits d other (UnusedGate gate name) h = h
 endless_whole_never exits d other (UnofferedGate gate side) h = h
 endless_whole_never exits d other (UnusedHidden gate) h = h
 endless_whole_never exits d other (UnsynchronizedHidden p) h = h
+endless_whole_never exits d other (ExchangedGates p o) h = h
 
 -- the warning about a behaviour that can do nothing
 pub dead_one : (system : System) (d : DefinitionView) → (body_of d ≡ stop → ⊥) → IsDead system → (w : Warning) →
@@ -213,6 +226,7 @@ dead_one system d other dead (UnusedGate gate name) = ((λ e. cc), (λ h. absurd
 dead_one system d other dead (UnofferedGate gate side) = ((λ e. cc), (λ h. absurd h))
 dead_one system d other dead (UnusedHidden gate) = ((λ e. cc), (λ h. absurd h))
 dead_one system d other dead (UnsynchronizedHidden p) = ((λ e. cc), (λ h. absurd h))
+dead_one system d other dead (ExchangedGates p o) = ((λ e. cc), (λ h. absurd h))
 
 -- none about one that is `stop` itself, or can do something
 pub dead_never : (system : System) (d : DefinitionView) → (body_of d ≡ stop) ⊎ IsAlive system → (w : Warning) → IsDeadIn system d w → ⊥
@@ -224,6 +238,7 @@ dead_never system d other (UnusedGate gate name) h = h
 dead_never system d other (UnofferedGate gate side) h = h
 dead_never system d other (UnusedHidden gate) h = h
 dead_never system d other (UnsynchronizedHidden p) h = h
+dead_never system d other (ExchangedGates p o) h = h
 
 -- of the processes from a number on, one that has a warning is the first, or one of the others
 pub process_next : {K : Type 0} (view : K → DefinitionView) (called reached exiting : List ℕ) (ps : List K) (n : ℕ) (d y : K) →

@@ -6,7 +6,7 @@ use Rattle.lotos_text.specs.declared.ast.Action.{Action}
 use Rattle.lotos_check.specs.NameLists.{Name, In}
 use Rattle.lotos_check.specs.Subexpressions.{IsSubexpression}
 use Rattle.lotos_warn.specs.declared.warning.Warning.{Warning}
-use Rattle.lotos_warn.specs.declared.warning.Warning.TheVariants.{UncalledProcess, UnreachedProcess, NeverExits, DeadStart, UnusedGate, UnofferedGate, UnusedHidden, UnsynchronizedHidden}
+use Rattle.lotos_warn.specs.declared.warning.Warning.TheVariants.{UncalledProcess, UnreachedProcess, NeverExits, DeadStart, UnusedGate, UnofferedGate, UnusedHidden, UnsynchronizedHidden, ExchangedGates}
 use Rattle.lotos_warn.specs.Warnings.{UsesFree, IsHidingWarning}
 use Rattle.lotos_warn.specs.Additions.{Adds, IsUnusedOfHiding}
 use Rattle.lotos_warn.proofs.Additions.{adds_as, adds_nothing, adds_alone}
@@ -32,6 +32,7 @@ hidden_from b (UnusedGate g d) h = absurd h
 hidden_from b (UnofferedGate g s) h = absurd h
 hidden_from b (UnusedHidden g) h = record { hidden = h.hidden; part = hide h.list h.body; inside = h.inside; own = unused_inside h.listed h.unused }
 hidden_from b (UnsynchronizedHidden p) h = absurd h
+hidden_from b (ExchangedGates p o) h = absurd h
 
 -- a behaviour has a warning about a hiding exactly if a part of it has it itself
 pub hidings_by_part : (b : BehaviourView) (w : Warning) → IsHidingWarning b w ↔ WarnsFrom HidesUnused [] b w
@@ -90,6 +91,7 @@ unused_own used b gs same (UnusedHidden g) = (
   (λ o. elim o [ unused_inside i none ↦ (i, (λ j. none ((same g.name).0 j))) ]),
 )
 unused_own used b gs same (UnsynchronizedHidden p) = ((λ h. absurd h), (λ o. elim o [ ]))
+unused_own used b gs same (ExchangedGates p o) = ((λ h. absurd h), (λ o. elim o [ ]))
 
 -- a hiding has the warnings of the behaviour inside it, whose gates were found apart, and those about its own list
 pub hidings_hide : (old mid new : List Warning) (empty used : List Name) (gs : List Placed) (b : BehaviourView) → empty ≡ [] →
@@ -116,6 +118,7 @@ hidden_split used g gs (UnusedHidden other) = (
   ]),
 )
 hidden_split used g gs (UnsynchronizedHidden p) = ((λ h. absurd h), (λ h. elim h [ inl i ↦ i | inr i ↦ i ]))
+hidden_split used g gs (ExchangedGates p o) = ((λ h. absurd h), (λ h. elim h [ inl i ↦ i | inr i ↦ i ]))
 
 -- there is no warning about an unused gate of an empty list of a hiding
 pub hidden_none : (used : List Name) (w : Warning) → IsUnusedOfHiding used [] w → ⊥
@@ -127,6 +130,7 @@ hidden_none used (UnusedGate g d) h = h
 hidden_none used (UnofferedGate g s) h = h
 hidden_none used (UnusedHidden g) h = h.0
 hidden_none used (UnsynchronizedHidden p) h = h
+hidden_none used (ExchangedGates p o) h = h
 
 -- the warning about a gate of a hiding that is not used inside
 pub hidden_one : (used : List Name) (gate : Placed) → (In gate.name used → ⊥) → (w : Warning) →
@@ -142,6 +146,7 @@ hidden_one used gate none (UnusedHidden other) = (
   (λ h. elim h.0 [ inl same ↦ cc | inr i ↦ absurd i ]),
 )
 hidden_one used gate none (UnsynchronizedHidden p) = ((λ e. cc), (λ h. absurd h))
+hidden_one used gate none (ExchangedGates p o) = ((λ e. cc), (λ h. absurd h))
 
 -- none about a gate that is
 pub hidden_never : (used : List Name) (gate : Placed) → In gate.name used → (w : Warning) → IsUnusedOfHiding used (gate ∷ []) w → ⊥
@@ -153,3 +158,4 @@ hidden_never used gate some (UnusedGate g d) h = h
 hidden_never used gate some (UnofferedGate g s) h = h
 hidden_never used gate some (UnusedHidden other) h = elim h.0 [ inl same ↦ h.1 (subst (λ g. In g.name used) same some) | inr i ↦ i ]
 hidden_never used gate some (UnsynchronizedHidden p) h = h
+hidden_never used gate some (ExchangedGates p o) h = h

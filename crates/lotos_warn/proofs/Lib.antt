@@ -9,6 +9,10 @@ pub mod ListWarnings
 pub mod HidingWarnings
 pub mod SortedWarnings
 pub mod CalledNames
+pub mod CalledSites
+pub mod ExchangedCalls
+pub mod ExchangedSites
+pub mod ShownTexts
 pub mod ReachedNumbers
 pub mod ExitingNumbers
 pub mod TerminatingNames

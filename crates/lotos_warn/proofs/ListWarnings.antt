@@ -8,7 +8,7 @@ use Rattle.lotos_check.specs.Subexpressions.{IsSubexpression}
 use Rattle.lotos_warn.specs.declared.warning.Side.{Side}
 use Rattle.lotos_warn.specs.declared.warning.Side.TheVariants.{Left, Right}
 use Rattle.lotos_warn.specs.declared.warning.Warning.{Warning}
-use Rattle.lotos_warn.specs.declared.warning.Warning.TheVariants.{UncalledProcess, UnreachedProcess, NeverExits, DeadStart, UnusedGate, UnofferedGate, UnusedHidden, UnsynchronizedHidden}
+use Rattle.lotos_warn.specs.declared.warning.Warning.TheVariants.{UncalledProcess, UnreachedProcess, NeverExits, DeadStart, UnusedGate, UnofferedGate, UnusedHidden, UnsynchronizedHidden, ExchangedGates}
 use Rattle.lotos_warn.specs.Warnings.{OffersFree, IsOfferedApart, operand, IsFirstOfName, IsListWarning}
 use Rattle.lotos_warn.specs.Additions.{Adds, IsApartOfHiding, IsMissingOn, IsMissingUnseen, IsMissingGate, IsMissing, names_of}
 use Rattle.lotos_warn.proofs.Additions.{adds_as, adds_both, adds_nothing, adds_alone}
@@ -43,6 +43,7 @@ listed_from b (UnofferedGate g s) h =
 listed_from b (UnusedHidden g) h = absurd h
 listed_from b (UnsynchronizedHidden g) h =
     record { hidden = h.hidden; part = hide h.list h.body; inside = h.inside; own = apart_inside h.listed h.apart }
+listed_from b (ExchangedGates p o) h = absurd h
 
 -- a behaviour has a warning about a list exactly if a part of it has it itself
 pub lists_by_part : (b : BehaviourView) (w : Warning) → IsListWarning b w ↔ WarnsFrom IsOwnListWarning [] b w
@@ -155,6 +156,7 @@ module _ (l r : BehaviourView) (by_left by_right : List Name) (left : (n : Name)
   )
   missing_own (gates gs) (UnusedHidden g) = ((λ h. absurd h), (λ o. elim o [ ]))
   missing_own (gates gs) (UnsynchronizedHidden p) = ((λ h. absurd h), (λ o. elim o [ ]))
+  missing_own (gates gs) (ExchangedGates p o) = ((λ h. absurd h), (λ o. elim o [ ]))
 
 -- a parallel composition has the warnings of its sides and those about its list
 pub lists_par : (old mid more new : List Warning) (by_left by_right : List Name) (l : BehaviourView) (sync : SyncView) (r : BehaviourView) →
@@ -225,6 +227,7 @@ module _ (by_left by_right seen more : List Name) (g : Placed) (gs : List Placed
   missing_split (UnofferedGate other place) = missing_side other place
   missing_split (UnusedHidden other) = ((λ h. absurd h), (λ h. elim h [ inl m ↦ no_missing (UnusedHidden other) (λ i. i) (λ i. i) m | inr m ↦ m ]))
   missing_split (UnsynchronizedHidden p) = ((λ h. absurd h), (λ h. elim h [ inl m ↦ no_missing (UnsynchronizedHidden p) (λ i. i) (λ i. i) m | inr m ↦ m ]))
+  missing_split (ExchangedGates p o) = ((λ h. absurd h), (λ h. elim h [ inl m ↦ no_missing (ExchangedGates p o) (λ i. i) (λ i. i) m | inr m ↦ m ]))
 
 -- the warnings about a gate whose name is not seen are those of either side
 pub missing_sides : (by_left by_right seen : List Name) (g : Placed) (old mid new : List Warning) → (In g.name seen → ⊥) →
@@ -244,6 +247,7 @@ missing_none by_left by_right seen (UnusedGate other d) h = h
 missing_none by_left by_right seen (UnofferedGate other place) h = h.1
 missing_none by_left by_right seen (UnusedHidden other) h = h
 missing_none by_left by_right seen (UnsynchronizedHidden p) h = h
+missing_none by_left by_right seen (ExchangedGates p o) h = h
 
 -- the warning about a gate that is not among the names of a side
 pub missing_one : (names : List Name) (side : Side) (gate : Placed) → (In gate.name names → ⊥) → (w : Warning) →
@@ -259,6 +263,7 @@ missing_one names side gate none (UnofferedGate other place) = (
   (λ h. let same = h.0 in let there = h.1 in cc),
 )
 missing_one names side gate none (UnsynchronizedHidden p) = ((λ e. cc), (λ h. absurd h))
+missing_one names side gate none (ExchangedGates p o) = ((λ e. cc), (λ h. absurd h))
 
 -- none about a gate that is
 pub missing_never : (names : List Name) (side : Side) (gate : Placed) → In gate.name names → (w : Warning) → IsMissingOn names side gate w → ⊥
@@ -270,3 +275,4 @@ missing_never names side gate some (UnusedGate other d) h = h
 missing_never names side gate some (UnusedHidden other) h = h
 missing_never names side gate some (UnofferedGate other place) h = h.2 (subst (λ g. In g.name names) h.0 some)
 missing_never names side gate some (UnsynchronizedHidden p) h = h
+missing_never names side gate some (ExchangedGates p o) h = h

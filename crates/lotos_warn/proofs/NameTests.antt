@@ -11,7 +11,7 @@ use Rattle.lotos_check.specs.NameLists.{Name, In}
 use Rattle.lotos_check.proofs.ListIndices.{get_front}
 use Rattle.lotos_check.proofs.JoinedLists.{in_added, in_back, in_front}
 use Rattle.lotos_check.proofs.NameTests.{in_if_any, name_found, name_missing, out_if_none}
-use Rattle.lotos_warn.specs.Additions.{Adds, AddsNames, IsVisible, KeepsIndices}
+use Rattle.lotos_warn.specs.Additions.{Adds, AddsNames, Includes, IsVisible, KeepsIndices}
 
 -- a list with one more at its end has that, too
 pub adds_end : {X : Type 0} (xs : List X) (y : X) → Adds xs (xs ++ y ∷ []) (λ x. y ≡ x)
@@ -104,3 +104,51 @@ visible_as hidden others names same n = (
   (λ h. ((λ i. h.0 ((same n).1 i)), h.1)),
   (λ h. ((λ i. h.0 ((same n).0 i)), h.1)),
 )
+
+-- if the names include the rest, they include all
+abbrev pub IncludesAgain : List Name → List Name → List Name → Type 0
+IncludesAgain names rest all = Includes names rest ↔ Includes names all
+
+-- at the start the rest is all
+pub includes_start : (names all : List Name) → IncludesAgain names all all
+includes_start names all = ((λ h. h), (λ h. h))
+
+-- a name that is among them is passed
+pub includes_next : (names rest left all : List Name) (n : Name) → rest ≡ n ∷ left → In n names → IncludesAgain names rest all → IncludesAgain names left all
+includes_next names rest left all n next there before = (
+  (λ h. before.0 (subst (Includes names) (sym next) (λ m i. elim i [ inl e ↦ subst (λ x. In x names) e there | inr j ↦ h m j ]))),
+  (λ h. λ m i. subst (Includes names) next (before.1 h) m (inr i)),
+)
+
+-- one that is not among them ends it
+pub includes_lost : (names rest left all : List Name) (n : Name) → rest ≡ n ∷ left → (In n names → ⊥) → IncludesAgain names rest all → Includes names all → ⊥
+includes_lost names rest left all n next lost before h = lost (subst (Includes names) next (before.1 h) n (inl refl))
+
+-- nothing is left
+pub includes_end : (names rest all : List Name) → rest ≡ [] → IncludesAgain names rest all → Includes names all
+includes_end names rest all none before = before.0 (subst (Includes names) (sym none) (λ m i. absurd i))
+
+-- the lists agree if what is left of them does
+abbrev pub AgreesAgain : List Name → List Name → List Name → List Name → Type 0
+AgreesAgain rest others all whole = (rest ≡ others) ↔ (all ≡ whole)
+
+-- at the start all is left
+pub agrees_start : (all whole : List Name) → AgreesAgain all whole all whole
+agrees_start all whole = ((λ h. h), (λ h. h))
+
+-- two names that are the same are passed
+pub agrees_next : (rest others left right all whole : List Name) (m n : Name) → rest ≡ m ∷ left → others ≡ n ∷ right → m ≡ n →
+    AgreesAgain rest others all whole → AgreesAgain left right all whole
+agrees_next rest others left right all whole m n e f same before = (
+  (λ h. before.0 cc),
+  (λ h. let g = before.1 h in cc),
+)
+
+-- two that are not the same end it
+pub agrees_lost : (rest others left right all whole : List Name) (m n : Name) → rest ≡ m ∷ left → others ≡ n ∷ right → (m ≡ n → ⊥) →
+    AgreesAgain rest others all whole → all ≡ whole → ⊥
+agrees_lost rest others left right all whole m n e f apart before h = let g = before.1 h in apart cc
+
+-- nothing is left
+pub agrees_end : (rest others all whole : List Name) → rest ≡ [] → others ≡ [] → AgreesAgain rest others all whole → all ≡ whole
+agrees_end rest others all whole e f before = before.0 (e ∙ sym f)

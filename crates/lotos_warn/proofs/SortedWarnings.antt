@@ -18,7 +18,7 @@ use Rattle.lotos_check.proofs.NameOrder.{same_from_equal}
 use Rattle.lotos_warn.specs.declared.warning.Side.{Side}
 use Rattle.lotos_warn.specs.declared.warning.Side.TheVariants.{Left, Right}
 use Rattle.lotos_warn.specs.declared.warning.Warning.{Warning}
-use Rattle.lotos_warn.specs.declared.warning.Warning.TheVariants.{UncalledProcess, UnreachedProcess, NeverExits, DeadStart, UnusedGate, UnofferedGate, UnusedHidden, UnsynchronizedHidden}
+use Rattle.lotos_warn.specs.declared.warning.Warning.TheVariants.{UncalledProcess, UnreachedProcess, NeverExits, DeadStart, UnusedGate, UnofferedGate, UnusedHidden, UnsynchronizedHidden, ExchangedGates}
 use Rattle.lotos_warn.specs.WarningOrder.{warning_cmp, offset_of, rank_of, side_rank, subject_of, context_of}
 
 -- the parts of an order one after the other are equal where the whole is
@@ -80,6 +80,7 @@ same_warning (UncalledProcess p) (UnusedGate h e) a r s c = absurd (omega arith)
 same_warning (UncalledProcess p) (UnofferedGate h u) a r s c = absurd (not_side u 0 (omega arith) r)
 same_warning (UncalledProcess p) (UnusedHidden h) a r s c = absurd (omega arith)
 same_warning (UncalledProcess p) (UnsynchronizedHidden h) a r s c = absurd (omega arith)
+same_warning (UncalledProcess p) (ExchangedGates q o) a r s c = absurd (omega arith)
 same_warning (UnreachedProcess p) (UncalledProcess q) a r s c = absurd (omega arith)
 same_warning (UnreachedProcess p) (UnreachedProcess q) a r s c = ap UnreachedProcess (placed_same p q a s)
 same_warning (UnreachedProcess p) (NeverExits q) a r s c = absurd (omega arith)
@@ -88,6 +89,7 @@ same_warning (UnreachedProcess p) (UnusedGate h e) a r s c = absurd (omega arith
 same_warning (UnreachedProcess p) (UnofferedGate h u) a r s c = absurd (not_side u 1 (omega arith) r)
 same_warning (UnreachedProcess p) (UnusedHidden h) a r s c = absurd (omega arith)
 same_warning (UnreachedProcess p) (UnsynchronizedHidden h) a r s c = absurd (omega arith)
+same_warning (UnreachedProcess p) (ExchangedGates q o) a r s c = absurd (omega arith)
 same_warning (NeverExits p) (UncalledProcess q) a r s c = absurd (omega arith)
 same_warning (NeverExits p) (UnreachedProcess q) a r s c = absurd (omega arith)
 same_warning (NeverExits p) (NeverExits q) a r s c = ap NeverExits (placed_same p q a s)
@@ -96,6 +98,7 @@ same_warning (NeverExits p) (UnusedGate h e) a r s c = absurd (omega arith)
 same_warning (NeverExits p) (UnofferedGate h u) a r s c = absurd (not_side u 2 (omega arith) r)
 same_warning (NeverExits p) (UnusedHidden h) a r s c = absurd (omega arith)
 same_warning (NeverExits p) (UnsynchronizedHidden h) a r s c = absurd (omega arith)
+same_warning (NeverExits p) (ExchangedGates q o) a r s c = absurd (omega arith)
 same_warning (DeadStart p) (UncalledProcess q) a r s c = absurd (omega arith)
 same_warning (DeadStart p) (UnreachedProcess q) a r s c = absurd (omega arith)
 same_warning (DeadStart p) (NeverExits q) a r s c = absurd (omega arith)
@@ -104,6 +107,7 @@ same_warning (DeadStart p) (UnusedGate h e) a r s c = absurd (omega arith)
 same_warning (DeadStart p) (UnofferedGate h u) a r s c = absurd (not_side u 3 (omega arith) r)
 same_warning (DeadStart p) (UnusedHidden h) a r s c = absurd (omega arith)
 same_warning (DeadStart p) (UnsynchronizedHidden h) a r s c = absurd (omega arith)
+same_warning (DeadStart p) (ExchangedGates q o) a r s c = absurd (omega arith)
 same_warning (UnusedGate g d) (UncalledProcess q) a r s c = absurd (omega arith)
 same_warning (UnusedGate g d) (UnreachedProcess q) a r s c = absurd (omega arith)
 same_warning (UnusedGate g d) (NeverExits q) a r s c = absurd (omega arith)
@@ -112,6 +116,7 @@ same_warning (UnusedGate g d) (UnusedGate h e) a r s c = let same = placed_same 
 same_warning (UnusedGate g d) (UnofferedGate h u) a r s c = absurd (not_side u 4 (omega arith) r)
 same_warning (UnusedGate g d) (UnusedHidden h) a r s c = absurd (omega arith)
 same_warning (UnusedGate g d) (UnsynchronizedHidden h) a r s c = absurd (omega arith)
+same_warning (UnusedGate g d) (ExchangedGates q o) a r s c = absurd (omega arith)
 same_warning (UnofferedGate g t) (UncalledProcess q) a r s c = absurd (not_side t 0 (omega arith) (sym r))
 same_warning (UnofferedGate g t) (UnreachedProcess q) a r s c = absurd (not_side t 1 (omega arith) (sym r))
 same_warning (UnofferedGate g t) (NeverExits q) a r s c = absurd (not_side t 2 (omega arith) (sym r))
@@ -120,6 +125,7 @@ same_warning (UnofferedGate g t) (UnusedGate h e) a r s c = absurd (not_side t 4
 same_warning (UnofferedGate g t) (UnofferedGate h u) a r s c = let same = placed_same g h a s in let there = side_same t u r in cc
 same_warning (UnofferedGate g t) (UnusedHidden h) a r s c = absurd (not_above t 7 (omega arith) (sym r))
 same_warning (UnofferedGate g t) (UnsynchronizedHidden h) a r s c = absurd (not_above t 8 (omega arith) (sym r))
+same_warning (UnofferedGate g t) (ExchangedGates q o) a r s c = absurd (not_above t 9 (omega arith) (sym r))
 same_warning (UnusedHidden g) (UncalledProcess q) a r s c = absurd (omega arith)
 same_warning (UnusedHidden g) (UnreachedProcess q) a r s c = absurd (omega arith)
 same_warning (UnusedHidden g) (NeverExits q) a r s c = absurd (omega arith)
@@ -128,6 +134,7 @@ same_warning (UnusedHidden g) (UnusedGate h e) a r s c = absurd (omega arith)
 same_warning (UnusedHidden g) (UnofferedGate h u) a r s c = absurd (not_above u 7 (omega arith) r)
 same_warning (UnusedHidden g) (UnusedHidden h) a r s c = ap UnusedHidden (placed_same g h a s)
 same_warning (UnusedHidden g) (UnsynchronizedHidden h) a r s c = absurd (omega arith)
+same_warning (UnusedHidden g) (ExchangedGates q o) a r s c = absurd (omega arith)
 same_warning (UnsynchronizedHidden g) (UncalledProcess q) a r s c = absurd (omega arith)
 same_warning (UnsynchronizedHidden g) (UnreachedProcess q) a r s c = absurd (omega arith)
 same_warning (UnsynchronizedHidden g) (NeverExits q) a r s c = absurd (omega arith)
@@ -136,6 +143,16 @@ same_warning (UnsynchronizedHidden g) (UnusedGate h e) a r s c = absurd (omega a
 same_warning (UnsynchronizedHidden g) (UnofferedGate h u) a r s c = absurd (not_above u 8 (omega arith) r)
 same_warning (UnsynchronizedHidden g) (UnusedHidden h) a r s c = absurd (omega arith)
 same_warning (UnsynchronizedHidden g) (UnsynchronizedHidden h) a r s c = ap UnsynchronizedHidden (placed_same g h a s)
+same_warning (UnsynchronizedHidden g) (ExchangedGates q o) a r s c = absurd (omega arith)
+same_warning (ExchangedGates p o) (UncalledProcess q) a r s c = absurd (omega arith)
+same_warning (ExchangedGates p o) (UnreachedProcess q) a r s c = absurd (omega arith)
+same_warning (ExchangedGates p o) (NeverExits q) a r s c = absurd (omega arith)
+same_warning (ExchangedGates p o) (DeadStart q) a r s c = absurd (omega arith)
+same_warning (ExchangedGates p o) (UnusedGate h e) a r s c = absurd (omega arith)
+same_warning (ExchangedGates p o) (UnofferedGate h u) a r s c = absurd (not_above u 9 (omega arith) r)
+same_warning (ExchangedGates p o) (UnusedHidden h) a r s c = absurd (omega arith)
+same_warning (ExchangedGates p o) (UnsynchronizedHidden h) a r s c = absurd (omega arith)
+same_warning (ExchangedGates p o) (ExchangedGates q n) a r s c = let same = placed_same p q a s in cc
 
 -- warnings that compare as equal are the same
 equal_warnings : (v w : Warning) → eq_by_cmp warning_cmp v w ≡ true → v ≡ w

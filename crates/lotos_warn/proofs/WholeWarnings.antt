@@ -11,12 +11,13 @@ use Rattle.lotos_check.proofs.DefinitionOrder.{in_order}
 use Rattle.lotos_check.proofs.ScopedDefinitions.{everywhere_in_order, listed_row, scope_of, without_scope}
 use Rattle.lotos_warn.specs.declared.warning.Side.{Side}
 use Rattle.lotos_warn.specs.declared.warning.Warning.{Warning}
-use Rattle.lotos_warn.specs.declared.warning.Warning.TheVariants.{UncalledProcess, UnreachedProcess, NeverExits, DeadStart, UnusedGate, UnofferedGate, UnusedHidden, UnsynchronizedHidden}
-use Rattle.lotos_warn.specs.Warnings.{IsUnusedGate, IsUnofferedGate, IsUnusedHidden, IsUnsynchronizedHidden, IsUncalledProcess, IsUnreachedProcess, IsNeverExit, IsCalled, IsReached, IsWarning}
+use Rattle.lotos_warn.specs.declared.warning.Warning.TheVariants.{UncalledProcess, UnreachedProcess, NeverExits, DeadStart, UnusedGate, UnofferedGate, UnusedHidden, UnsynchronizedHidden, ExchangedGates}
+use Rattle.lotos_warn.specs.Warnings.{IsUnusedGate, IsUnofferedGate, IsUnusedHidden, IsUnsynchronizedHidden, IsUncalledProcess, IsUnreachedProcess, IsNeverExit, IsCalled, IsReached}
 use Rattle.lotos_text.specs.declared.ast.Functionality.TheVariants.{Exit}
 use Rattle.lotos_check.proofs.ListIndices.{get_in, in_get}
 use Rattle.lotos_warn.specs.Termination.{MayTerminate}
 use Rattle.lotos_warn.specs.FirstLabels.{IsDeadStart}
+use Rattle.lotos_warn.specs.CallSites.{IsOtherWarning}
 use Rattle.lotos_warn.specs.Additions.{IsDeadIn, IsEndlessWhole, IsGateWarningOfAny, IsProcessWarning, IsProcessWarningOfAny}
 use Rattle.lotos_warn.proofs.PartWarnings.{WarnsFrom, elsewhere}
 use Rattle.lotos_warn.proofs.ListWarnings.{IsOwnListWarning, lacking, apart_inside, lists_by_part}
@@ -350,11 +351,16 @@ module _ (whole : DefinitionView) (called reached exiting : List ℕ) (by_name :
   not_apart : (gate : Placed) → IsProcessWarningOfAny called reached exiting 0 (definitions_in_list (inner_of whole)) (UnsynchronizedHidden gate) → ⊥
   not_apart gate h = elim (found (UnsynchronizedHidden gate) h).warned [ inl none ↦ none | inr (inl none) ↦ none | inr (inr none) ↦ none ]
 
+  -- no process has a warning about a call
+  not_call : (name : Placed) (own : Name) → IsProcessWarningOfAny called reached exiting 0 (definitions_in_list (inner_of whole)) (ExchangedGates name own) → ⊥
+  not_call name own h = elim (found (ExchangedGates name own) h).warned [ inl none ↦ none | inr (inl none) ↦ none | inr (inr none) ↦ none ]
+
   -- the warnings about the gates of all definitions, those about the processes, and those about the specification are all
+  -- but those about calls
   pub all_warnings : (system : System) → ((name : Placed) → IsDeadIn system whole (DeadStart name) ↔ IsDeadStart whole name) → (w : Warning) →
       (IsGateWarningOfAny (definitions_in whole) w
       ⊎ (IsProcessWarningOfAny called reached exiting 0 (definitions_in_list (inner_of whole)) w ⊎ (IsEndlessWhole exits whole w ⊎ IsDeadIn system whole w)))
-      ↔ IsWarning whole w
+      ↔ IsOtherWarning whole w
   all_warnings system dead (UncalledProcess name) = (
     (λ h. elim h [
       | inl (d, i, g) ↦ elim g [ inl (inl none) ↦ absurd none | inl (inr none) ↦ absurd none | inr none ↦ absurd none ]
@@ -426,4 +432,13 @@ module _ (whole : DefinitionView) (called reached exiting : List ℕ) (by_name :
       | inr (inr (inr none)) ↦ absurd none
     ]),
     (λ h. inl ((unsynchronized whole gate).1 h)),
+  )
+  all_warnings system dead (ExchangedGates name own) = (
+    (λ h. elim h [
+      | inl (d, i, g) ↦ elim g [ inl (inl none) ↦ none | inl (inr none) ↦ none | inr none ↦ none ]
+      | inr (inl u) ↦ not_call name own u
+      | inr (inr (inl none)) ↦ none
+      | inr (inr (inr none)) ↦ none
+    ]),
+    (λ h. absurd h),
   )

@@ -11,7 +11,7 @@ use Rattle.lotos_check.specs.Bodies.{ContainsCall, IsBodyOf}
 use Rattle.lotos_warn.specs.declared.warning.Side.{Side}
 use Rattle.lotos_warn.specs.declared.warning.Side.TheVariants.{Left, Right}
 use Rattle.lotos_warn.specs.declared.warning.Warning.{Warning}
-use Rattle.lotos_warn.specs.declared.warning.Warning.TheVariants.{UncalledProcess, UnreachedProcess, NeverExits, DeadStart, UnusedGate, UnofferedGate, UnusedHidden, UnsynchronizedHidden}
+use Rattle.lotos_warn.specs.declared.warning.Warning.TheVariants.{UncalledProcess, UnreachedProcess, NeverExits, DeadStart, UnusedGate, UnofferedGate, UnusedHidden, UnsynchronizedHidden, ExchangedGates}
 use Rattle.lotos_text.specs.declared.ast.Functionality.TheVariants.{Exit}
 use Rattle.lotos_warn.specs.ShownNames.{shown_name}
 use Rattle.lotos_warn.specs.Termination.{IsExiting, exits_by}
@@ -33,6 +33,10 @@ LacksName now old new name = (n : Name) → In n (map now new) ↔ (In n (map no
 -- the second names are the first without those of the listed ones that the others lack
 abbrev pub KeepsShared : List Name → List Name → List Name → (Name → Type 0) → Type 0
 KeepsShared old new others listed = (n : Name) → In n new ↔ (In n old × (listed n → In n others))
+
+-- each of the second names is one of the first
+abbrev pub Includes : List Name → List Name → Type 0
+Includes names others = (n : Name) → In n others → In n names
 
 -- the action is by a gate of this name
 abbrev pub IsActionNamed : Action → Name → Type 0
@@ -58,6 +62,7 @@ IsMissingOn names side gate (UnusedGate other definition) = ⊥
 IsMissingOn names side gate (UnofferedGate other place) = (gate ≡ other) × (side ≡ place) × (In other.name names → ⊥)
 IsMissingOn names side gate (UnusedHidden other) = ⊥
 IsMissingOn names side gate (UnsynchronizedHidden other) = ⊥
+IsMissingOn names side gate (ExchangedGates process own) = ⊥
 
 -- the names of one side
 abbrev pub names_of : Side → List Name → List Name → List Name
@@ -81,6 +86,7 @@ IsMissingGate by_left by_right seen list (UnofferedGate gate side) =
     (In gate.name seen → ⊥) × IsFirstOfName gate list × (In gate.name (names_of side by_left by_right) → ⊥)
 IsMissingGate by_left by_right seen list (UnusedHidden gate) = ⊥
 IsMissingGate by_left by_right seen list (UnsynchronizedHidden gate) = ⊥
+IsMissingGate by_left by_right seen list (ExchangedGates process own) = ⊥
 
 -- the same of the list of a parallel composition, if it has one, of whose names none is seen before
 abbrev pub IsMissing : List Name → List Name → SyncView → Warning → Type 0
@@ -129,6 +135,7 @@ IsUnusedAmong used name formals (UnusedGate gate definition) =
 IsUnusedAmong used name formals (UnofferedGate gate side) = ⊥
 IsUnusedAmong used name formals (UnusedHidden gate) = ⊥
 IsUnusedAmong used name formals (UnsynchronizedHidden gate) = ⊥
+IsUnusedAmong used name formals (ExchangedGates process own) = ⊥
 
 -- the definition has this warning about its formal gates
 abbrev pub IsUnusedIn : DefinitionView → Warning → Type 0
@@ -141,6 +148,7 @@ IsUnusedIn d (UnusedGate gate definition) =
 IsUnusedIn d (UnofferedGate gate side) = ⊥
 IsUnusedIn d (UnusedHidden gate) = ⊥
 IsUnusedIn d (UnsynchronizedHidden gate) = ⊥
+IsUnusedIn d (ExchangedGates process own) = ⊥
 
 -- the warning says that the gate of the list of a hiding is not used, and it is not among the names
 abbrev pub IsUnusedOfHiding : List Name → List Placed → Warning → Type 0
@@ -152,6 +160,7 @@ IsUnusedOfHiding used list (UnusedGate gate definition) = ⊥
 IsUnusedOfHiding used list (UnofferedGate gate side) = ⊥
 IsUnusedOfHiding used list (UnusedHidden gate) = In gate list × (In gate.name used → ⊥)
 IsUnusedOfHiding used list (UnsynchronizedHidden gate) = ⊥
+IsUnusedOfHiding used list (ExchangedGates process own) = ⊥
 
 -- the warning says that both sides of a composition offer the gate of the list of a hiding without synchronization, and
 -- it is among the names
@@ -181,6 +190,7 @@ IsUncalledAt called number d (UnusedGate gate definition) = ⊥
 IsUncalledAt called number d (UnofferedGate gate side) = ⊥
 IsUncalledAt called number d (UnusedHidden gate) = ⊥
 IsUncalledAt called number d (UnsynchronizedHidden gate) = ⊥
+IsUncalledAt called number d (ExchangedGates process own) = ⊥
 
 -- the warning says that the process is not reached; the number is called, and it is not reached
 abbrev pub IsUnreachedAt : List ℕ → List ℕ → ℕ → DefinitionView → Warning → Type 0
@@ -193,6 +203,7 @@ IsUnreachedAt called reached number d (UnusedGate gate definition) = ⊥
 IsUnreachedAt called reached number d (UnofferedGate gate side) = ⊥
 IsUnreachedAt called reached number d (UnusedHidden gate) = ⊥
 IsUnreachedAt called reached number d (UnsynchronizedHidden gate) = ⊥
+IsUnreachedAt called reached number d (ExchangedGates process own) = ⊥
 
 -- the warning says that the definition is declared exit and never terminates; the number is not one that exits
 abbrev pub IsEndlessAt : List ℕ → ℕ → DefinitionView → Warning → Type 0
@@ -205,6 +216,7 @@ IsEndlessAt exiting number d (UnusedGate gate definition) = ⊥
 IsEndlessAt exiting number d (UnofferedGate gate side) = ⊥
 IsEndlessAt exiting number d (UnusedHidden gate) = ⊥
 IsEndlessAt exiting number d (UnsynchronizedHidden gate) = ⊥
+IsEndlessAt exiting number d (ExchangedGates process own) = ⊥
 
 -- the same of the specification, whose behaviour exits or not
 abbrev pub IsEndlessWhole : Bool → DefinitionView → Warning → Type 0
@@ -216,6 +228,7 @@ IsEndlessWhole exits d (UnusedGate gate definition) = ⊥
 IsEndlessWhole exits d (UnofferedGate gate side) = ⊥
 IsEndlessWhole exits d (UnusedHidden gate) = ⊥
 IsEndlessWhole exits d (UnsynchronizedHidden gate) = ⊥
+IsEndlessWhole exits d (ExchangedGates process own) = ⊥
 
 -- the warning says that the specification can do nothing; this is its system, and its behaviour is not `stop`
 abbrev pub IsDeadIn : System → DefinitionView → Warning → Type 0
@@ -227,6 +240,7 @@ IsDeadIn system d (UnusedGate gate definition) = ⊥
 IsDeadIn system d (UnofferedGate gate side) = ⊥
 IsDeadIn system d (UnusedHidden gate) = ⊥
 IsDeadIn system d (UnsynchronizedHidden gate) = ⊥
+IsDeadIn system d (ExchangedGates process own) = ⊥
 
 -- the process with this number and definition has this warning
 abbrev pub IsProcessWarning : List ℕ → List ℕ → List ℕ → ℕ → DefinitionView → Warning → Type 0

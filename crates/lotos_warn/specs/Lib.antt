@@ -5,4 +5,5 @@ pub mod LabelSets
 pub mod Warnings
 pub mod WarningOrder
 pub mod Additions
+pub mod CallSites
 pub mod Derivations

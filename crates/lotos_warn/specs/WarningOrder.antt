@@ -9,7 +9,7 @@ use Rattle.lotos_check.specs.NameLists.{Name}
 use Rattle.lotos_warn.specs.declared.warning.Side.{Side}
 use Rattle.lotos_warn.specs.declared.warning.Side.TheVariants.{Left, Right}
 use Rattle.lotos_warn.specs.declared.warning.Warning.{Warning}
-use Rattle.lotos_warn.specs.declared.warning.Warning.TheVariants.{UncalledProcess, UnreachedProcess, NeverExits, DeadStart, UnusedGate, UnofferedGate, UnusedHidden, UnsynchronizedHidden}
+use Rattle.lotos_warn.specs.declared.warning.Warning.TheVariants.{UncalledProcess, UnreachedProcess, NeverExits, DeadStart, UnusedGate, UnofferedGate, UnusedHidden, UnsynchronizedHidden, ExchangedGates}
 
 -- the offset of a warning: that of its process, its specification or its gate
 abbrev pub offset_of : Warning → ℕ
@@ -21,6 +21,7 @@ offset_of (UnusedGate gate definition) = gate.at
 offset_of (UnofferedGate gate side) = gate.at
 offset_of (UnusedHidden gate) = gate.at
 offset_of (UnsynchronizedHidden gate) = gate.at
+offset_of (ExchangedGates process own) = process.at
 
 -- a number for each side: the left one is before the right one
 abbrev pub side_rank : Side → ℕ
@@ -37,6 +38,7 @@ rank_of (UnusedGate gate definition) = 4
 rank_of (UnofferedGate gate side) = side_rank side
 rank_of (UnusedHidden gate) = 7
 rank_of (UnsynchronizedHidden gate) = 8
+rank_of (ExchangedGates process own) = 9
 
 -- the name that a warning is about: that of its process, its specification or its gate
 abbrev pub subject_of : Warning → Name
@@ -48,8 +50,10 @@ subject_of (UnusedGate gate definition) = gate.name
 subject_of (UnofferedGate gate side) = gate.name
 subject_of (UnusedHidden gate) = gate.name
 subject_of (UnsynchronizedHidden gate) = gate.name
+subject_of (ExchangedGates process own) = process.name
 
--- the name of a warning's definition as it is shown, or again the name that it is about
+-- the name of a warning's definition or the formal gates of its process as they are shown, or again the name that it is
+-- about
 abbrev pub context_of : Warning → Name
 context_of (UncalledProcess process) = process.name
 context_of (UnreachedProcess process) = process.name
@@ -59,6 +63,7 @@ context_of (UnusedGate gate definition) = definition
 context_of (UnofferedGate gate side) = gate.name
 context_of (UnusedHidden gate) = gate.name
 context_of (UnsynchronizedHidden gate) = gate.name
+context_of (ExchangedGates process own) = own
 
 -- the order of warnings: by their offsets, then by their kinds and sides, then by the names that they are about, then
 -- by those of their definitions

@@ -1,5 +1,5 @@
 -- What an accepted specification has a warning about.
-use Rattle.std.specs.Prelude.{◌≡◌, ◌⊎◌, ℕ, List, [], ◌∷◌, Some, slice_get}
+use Rattle.std.specs.Prelude.{◌≡◌, ◌↔◌, ◌⊎◌, ℕ, List, [], ◌∷◌, Some, slice_get}
 use Rattle.lotos_text.specs.AstView.{BehaviourView, SyncView, gates, all, prefix, choice, par, hide, enable, disable, call, DefinitionView, name_of, formals_of, declared_of, body_of}
 use Rattle.lotos_text.specs.declared.ast.Placed.{Placed}
 use Rattle.lotos_text.specs.declared.ast.Action.{Action}
@@ -9,13 +9,13 @@ use Rattle.lotos_check.specs.NameLists.{Name, In, texts}
 use Rattle.lotos_check.specs.Scope.{Scope, ScopedDefinition, Binds, IsDefinition, within, processes_of}
 use Rattle.lotos_check.specs.Subexpressions.{IsSubexpression, UsesGate}
 use Rattle.lotos_check.specs.StaticFaults.{Occurs}
-use Rattle.lotos_warn.specs.ShownNames.{shown_name}
+use Rattle.lotos_warn.specs.ShownNames.{shown_name, shown_names}
 use Rattle.lotos_warn.specs.Termination.{MayTerminate}
 use Rattle.lotos_warn.specs.FirstLabels.{IsDeadStart}
 use Rattle.lotos_warn.specs.declared.warning.Side.{Side}
 use Rattle.lotos_warn.specs.declared.warning.Side.TheVariants.{Left, Right}
 use Rattle.lotos_warn.specs.declared.warning.Warning.{Warning}
-use Rattle.lotos_warn.specs.declared.warning.Warning.TheVariants.{UncalledProcess, UnreachedProcess, NeverExits, DeadStart, UnusedGate, UnofferedGate, UnusedHidden, UnsynchronizedHidden}
+use Rattle.lotos_warn.specs.declared.warning.Warning.TheVariants.{UncalledProcess, UnreachedProcess, NeverExits, DeadStart, UnusedGate, UnofferedGate, UnusedHidden, UnsynchronizedHidden, ExchangedGates}
 
 -- the behaviour itself, and not only a part of it, offers the gate: in a prefix, or to the process that it calls
 pub data OffersGate : BehaviourView → Placed → Type 0 where
@@ -175,7 +175,48 @@ pub record IsUnsynchronizedHidden (whole : DefinitionView) (gate : Placed) : Typ
   pub listed : In gate list
   pub apart : IsOfferedApart gate.name body
 
--- the specification has this warning, which is of one of eight kinds
+-- the process itself, and the processes that one of these calls: by number, those that the process reaches
+pub data IsReachedFrom (whole : DefinitionView) (process : ℕ) : ℕ → Type 0 where
+  itself : IsReachedFrom whole process process
+  onward : {caller callee : ℕ} {scoped : ScopedDefinition} → IsReachedFrom whole process caller →
+      slice_get (processes_of whole) caller ≡ Some scoped → IsCalledIn scoped callee →
+      IsReachedFrom whole process callee
+
+-- the definition is outside of the process: it is the specification, or a process that is neither this one nor reached
+-- from it
+pub data IsOutside (whole : DefinitionView) (process : ℕ) : ScopedDefinition → Type 0 where
+  the_whole : IsOutside whole process (scoped_whole whole)
+  another : {number : ℕ} {scoped : ScopedDefinition} → slice_get (processes_of whole) number ≡ Some scoped →
+      (IsReachedFrom whole process number → ⊥) → IsOutside whole process scoped
+
+-- the first names are the second ones in another order, if both lists are equally long and no name is in one twice, as
+-- the actual and the formal gates of calls in an accepted specification are if they have the same names
+pub record IsExchanged (actuals formals : List Name) : Type 0 where
+  pub same : (n : Name) → In n actuals ↔ In n formals
+  pub moved : actuals ≡ formals → ⊥
+
+-- the names of the formal gates of a definition, in their order
+abbrev pub own_gates : ScopedDefinition → List Name
+own_gates scoped = texts (formals_of scoped.definition)
+
+-- the name is that of a call outside of its process, whose actual gates are the formal ones of the process in another
+-- order; no call outside of the process has them in their own order, in which they are shown
+pub record IsExchangedCall (whole : DefinitionView) (name : Placed) (own : Name) : Type 0 where
+  -- the number of the process
+  pub process : ℕ
+  pub scoped : ScopedDefinition
+  pub located : slice_get (processes_of whole) process ≡ Some scoped
+  -- the definition that the call is in
+  pub caller : ScopedDefinition
+  pub outside : IsOutside whole process caller
+  pub call : IsCalledIn caller process
+  pub named : name ≡ call.callee
+  pub exchanged : IsExchanged (texts call.actuals) (own_gates scoped)
+  pub alone : (other : ScopedDefinition) → IsOutside whole process other → (peer : IsCalledIn other process) →
+      texts peer.actuals ≡ own_gates scoped → ⊥
+  pub shown : own ≡ shown_names (own_gates scoped)
+
+-- the specification has this warning, which is of one of nine kinds
 abbrev pub IsWarning : DefinitionView → Warning → Type 0
 IsWarning whole (UncalledProcess process) = IsUncalledProcess whole process
 IsWarning whole (UnreachedProcess process) = IsUnreachedProcess whole process
@@ -185,6 +226,7 @@ IsWarning whole (UnusedGate gate definition) = IsUnusedGate whole gate definitio
 IsWarning whole (UnofferedGate gate side) = IsUnofferedGate whole gate side
 IsWarning whole (UnusedHidden gate) = IsUnusedHidden whole gate
 IsWarning whole (UnsynchronizedHidden gate) = IsUnsynchronizedHidden whole gate
+IsWarning whole (ExchangedGates process own) = IsExchangedCall whole process own
 
 -- the gate is the first of its name in the list of a parallel composition in the behaviour, and the operand on that
 -- side does not offer it
@@ -218,6 +260,7 @@ IsListWarning behaviour (UnusedGate gate definition) = ⊥
 IsListWarning behaviour (UnofferedGate gate side) = IsUnofferedIn behaviour gate side
 IsListWarning behaviour (UnusedHidden gate) = ⊥
 IsListWarning behaviour (UnsynchronizedHidden gate) = IsUnsynchronizedHiddenIn behaviour gate
+IsListWarning behaviour (ExchangedGates process own) = ⊥
 
 -- the gate is in the list of a hiding in the behaviour, and the behaviour inside the hiding does not use it
 pub record IsUnusedHiddenIn (behaviour : BehaviourView) (gate : Placed) : Type 0 where
@@ -238,3 +281,4 @@ IsHidingWarning behaviour (UnusedGate gate definition) = ⊥
 IsHidingWarning behaviour (UnofferedGate gate side) = ⊥
 IsHidingWarning behaviour (UnusedHidden gate) = IsUnusedHiddenIn behaviour gate
 IsHidingWarning behaviour (UnsynchronizedHidden gate) = ⊥
+IsHidingWarning behaviour (ExchangedGates process own) = ⊥

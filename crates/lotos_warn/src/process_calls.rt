@@ -2,6 +2,7 @@
 ghost use Rattle.std.specs.Prelude.{◌≡◌, ◌↔◌, ◌<◌, ℕ, IfOk, OnOk, Some, length, map, slice_get};
 ghost use Rattle.lotos_check.specs.NameLists.{In};
 ghost use Rattle.lotos_check.specs.CheckedView.{flat_of, process_of, system_of};
+ghost use Rattle.lotos_warn.specs.CallSites.{from_process};
 ghost use Rattle.lotos_warn.specs.Additions.{Adds, ContainsCallOf, IsCalledByAny, IsCalledByBody, IsCalledByNumber, IsReachedIn, KeepsIndices};
 
 use indexmap::IndexSet;
@@ -41,6 +42,26 @@ pub(crate) fn reached_processes(
     Ok(reached)
 }
 
+/// The processes that are reached from the one with this number, by number: itself, and those that a process that is
+/// reached calls.
+pub(crate) fn reached_from(
+    alloc: Global,
+    processes: &[Process],
+    number: usize,
+) -> Result<IndexSet<usize>, AllocError>
+    ensures { IfOk result (λ reached. (k : ℕ) →
+        In k reached.keys ↔ IsReachedIn (from_process (map process_of processes.now) number) k) }
+{
+    let mut reached = IndexSet::new(alloc);
+    add_number(number, &mut reached)?;
+    let mut passed = 0;
+    while passed < reached.len() {
+        add_calls_of_next(processes, passed, &mut reached)?;
+        passed += 1;
+    }
+    Ok(reached)
+}
+
 /// Adds the processes that the process at this index of the set calls.
 fn add_calls_of_next(
     processes: &[Process],
@@ -57,7 +78,7 @@ fn add_calls_of_next(
 }
 
 /// The number at an index of the set.
-fn number_at(numbers: &IndexSet<usize>, index: usize) -> usize
+pub(crate) fn number_at(numbers: &IndexSet<usize>, index: usize) -> usize
     requires { index < length numbers.now.keys }
     ensures { slice_get numbers.now.keys index ≡ Some result }
 {

@@ -1,6 +1,6 @@
 //! Names as warnings show them.
-ghost use Rattle.std.specs.Prelude.{◌≡◌, ◌<◌, IfOk, length, string_bytes, take};
-ghost use Rattle.lotos_warn.specs.ShownNames.{shown_name};
+ghost use Rattle.std.specs.Prelude.{◌≡◌, ◌<◌, ◌++◌, IfOk, OnOk, length, string_bytes, take};
+ghost use Rattle.lotos_warn.specs.ShownNames.{shown_name, shown_names, with_shown};
 
 use lotos_text::Name;
 use std::alloc::{AllocError, Global};
@@ -44,6 +44,66 @@ impl ShownName {
         ensures { result.now ≡ self.now }
     {
         self.text.as_str()
+    }
+}
+
+/// Names as a warning shows them: each as [`ShownName`] shows one, with a comma and a blank between two. Contracts see
+/// them as their bytes.
+#[derive(Debug, Drop)]
+pub struct ShownNames {
+    text: String,
+}
+
+impl Model for ShownNames {
+    ghost use Rattle.std.specs.Prelude.{List, ℕ, string_bytes};
+    ghost use Rattle.std.specs.Coded.{coded_list, coded_ℕ};
+
+    ghost Value = { List ℕ };
+
+    ghost coded = { coded_list coded_ℕ };
+
+    ghost view = { λ n. string_bytes n.text };
+}
+
+impl ShownNames {
+    /// Names as they are shown. Fails if an allocation fails.
+    pub(crate) fn of(alloc: Global, names: &[Name]) -> Result<ShownNames, AllocError>
+        ensures { IfOk result (λ n. n ≡ shown_names names.now) }
+    {
+        let mut text = String::new(alloc);
+        for index in 0..names.len() {
+            push_shown(index, &names[index], &mut text)?;
+        }
+        Ok(ShownNames { text })
+    }
+
+    /// What is shown.
+    pub fn text(&self) -> &str
+        ensures { result.now ≡ self.now }
+    {
+        self.text.as_str()
+    }
+}
+
+/// Appends a name as it is shown, and what separates it from the one before it, if it is not the first.
+fn push_shown(index: usize, name: &Name, text: &mut String) -> Result<(), AllocError>
+    ensures { OnOk result (string_bytes text.new ≡ with_shown index (string_bytes text.old) name.now) }
+{
+    if 0 < index {
+        text.push_str(", ")?;
+    }
+    push_cut(name, text)
+}
+
+/// Appends a name as it is shown.
+fn push_cut(name: &Name, text: &mut String) -> Result<(), AllocError>
+    ensures { OnOk result (string_bytes text.new ≡ string_bytes text.old ++ shown_name name.now) }
+{
+    if name.text().len() <= LONGEST {
+        text.push_str(name.text())
+    } else {
+        text.push_str(front(name))?;
+        text.push_str("...")
     }
 }
 

@@ -8,6 +8,7 @@ ghost use Rattle.lotos_check.specs.CheckedView.{system_of};
 ghost use Rattle.lotos_check.specs.NameLists.{In};
 ghost use Rattle.lotos_check.specs.Scope.{definitions_in, definitions_in_list};
 ghost use Rattle.lotos_warn.specs.Additions.{Adds, IsDeadIn, IsEndlessWhole, IsProcessWarningOfAny};
+ghost use Rattle.lotos_warn.specs.CallSites.{IsOtherWarning};
 ghost use Rattle.lotos_warn.specs.Termination.{exits_by};
 ghost use Rattle.lotos_warn.specs.Warnings.{IsWarning};
 ghost use Rattle.lotos_warn.specs.WarningOrder.{warning_cmp};
@@ -15,6 +16,7 @@ ghost use Rattle.lotos_warn.specs.declared.warning.Warning.{Warning as AnyWarnin
 
 use crate::dead_start::warn_if_dead;
 use crate::definition_warnings::{warn_if_endless_whole, warn_of_gates, warn_of_processes};
+use crate::exchanged_gates::warn_of_exchanges;
 use crate::process_sets::ProcessSets;
 use crate::termination::may_exit;
 use crate::warning::Warning;
@@ -74,6 +76,26 @@ fn add_warnings(
         definitions_in (definition_view whole.now) }
     ensures { OnOk result (Adds warnings.old.items warnings.new.items
         (IsWarning (definition_view whole.now))) }
+{
+    binding_is_unique();
+    calls_fit();
+    add_other_warnings(alloc, whole, definitions, system, warnings)?;
+    warn_of_exchanges(alloc, definitions, system, warnings)
+}
+
+/// Appends all warnings but those about gates of calls that have changed places.
+fn add_other_warnings(
+    alloc: Global,
+    whole: &Definition,
+    definitions: &[&Definition],
+    system: &Checked,
+    warnings: &mut Vec<Warning>,
+) -> Result<(), AllocError>
+    requires accepted { IsAccepted (definition_view whole.now) (system_of system.now) }
+    requires definitions { map (λ d. definition_view d.now) definitions.now ≡
+        definitions_in (definition_view whole.now) }
+    ensures { OnOk result (Adds warnings.old.items warnings.new.items
+        (IsOtherWarning (definition_view whole.now))) }
 {
     binding_is_unique();
     calls_fit();

@@ -5,7 +5,7 @@ ghost use Rattle.std.specs.Cmp.{partial_equiv_from_equiv, partial_order_from_own
 ghost use Rattle.std.specs.Ordering.{as_partial_cmp, eq_by_cmp};
 ghost use Rattle.lotos_warn.specs.WarningOrder.{context_of, offset_of, rank_of, side_rank, subject_of, warning_cmp, warning_total};
 
-use crate::shown_name::{Shown, ShownName};
+use crate::shown_name::{Shown, ShownName, ShownNames};
 use lotos_text::{Name, Placed};
 use std::cmp::Ordering;
 use std::fmt;
@@ -52,10 +52,14 @@ pub enum Warning {
     /// A gate in the list of a hiding that both sides of a parallel composition inside offer, and on which neither that
     /// composition nor one around it inside the hiding synchronizes.
     UnsynchronizedHidden(Placed),
+    /// A call outside of its process, by the name of the process, whose actual gates are the formal ones of the process in
+    /// another order, and the formal ones. No other call from outside has these in their own order.
+    ExchangedGates { process: Placed, gates: ShownNames },
 }
 
 impl Warning {
-    /// The offset of the process in its definition, or of the gate in its list: bytes from the start of the text.
+    /// The offset of the process in its definition or in a call, or of the gate in its list: bytes from the start of the
+    /// text.
     pub fn at(&self) -> usize
         ensures { result ≡ offset_of self.now }
     {
@@ -68,6 +72,7 @@ impl Warning {
             Warning::UnofferedGate { gate, .. } => gate.at,
             Warning::UnusedHidden(gate) => gate.at,
             Warning::UnsynchronizedHidden(gate) => gate.at,
+            Warning::ExchangedGates { process, .. } => process.at,
         }
     }
 
@@ -83,6 +88,7 @@ impl Warning {
             Warning::UnofferedGate { side, .. } => side.rank(),
             Warning::UnusedHidden(_) => 7,
             Warning::UnsynchronizedHidden(_) => 8,
+            Warning::ExchangedGates { .. } => 9,
         }
     }
 
@@ -99,10 +105,12 @@ impl Warning {
             Warning::UnofferedGate { gate, .. } => &gate.name,
             Warning::UnusedHidden(gate) => &gate.name,
             Warning::UnsynchronizedHidden(gate) => &gate.name,
+            Warning::ExchangedGates { process, .. } => &process.name,
         }
     }
 
-    /// The definition of an unused gate, as it is shown; of another warning its process or its gate.
+    /// The definition of an unused gate or the formal gates of a call's process, as they are shown; of another warning its
+    /// process or its gate.
     fn context(&self) -> &str
         ensures { result.now ≡ context_of self.now }
     {
@@ -115,6 +123,7 @@ impl Warning {
             Warning::UnofferedGate { gate, .. } => gate.name.text(),
             Warning::UnusedHidden(gate) => gate.name.text(),
             Warning::UnsynchronizedHidden(gate) => gate.name.text(),
+            Warning::ExchangedGates { gates, .. } => gates.text(),
         }
     }
 }
@@ -204,6 +213,12 @@ impl fmt::Display for Warning {
                 f,
                 "gate {} of `hide` is offered on both sides of a parallel composition, which do not synchronize on it",
                 Shown(&gate.name)
+            ),
+            Warning::ExchangedGates { process, gates } => write!(
+                f,
+                "the gates of {} have changed places: its own are {}",
+                Shown(&process.name),
+                gates.text()
             ),
         }
     }
