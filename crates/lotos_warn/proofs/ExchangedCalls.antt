@@ -92,22 +92,26 @@ module _ (one : (scope : Scope) → IsDistinctScope scope → BindsOnce scope)
       let (site, outer, exchanged, shown) = h.exchange in
       let at = pair_of_second (processes_of spec) s.processes a.flat.processes k h.own h.located in
       let own : h.own.formals ≡ own_gates at.0 = at.2.formals in
-      let site_in = site_named one spec s a h.index k site outer.located outer.numbered in
-      (site.callee, shown_names h.own.formals, shown, record {
-        process = k;
-        scoped = at.0;
-        located = at.1;
-        caller = site_in.scoped;
-        outside = outside_named k site.caller site_in.scoped site_in.located outer.outside;
-        call = called_at site k site_in;
-        named = refl;
-        exchanged = subst (IsExchanged (texts site.actuals)) own exchanged;
-        alone = λ other apart peer same. (
-            let (index, there, out) = outside_numbered k other apart in
-            let (i, called, number) = site_numbered one spec s a index k other there peer in
-            h.alone i (the_site index peer.callee peer.actuals, record { located = called; numbered = number; outside = out }, same ∙ sym own));
-        shown = ap shown_names own;
-      })
+      let site_in = site_named one spec s a h.index k site outer.located outer.numbered in (
+        site.callee,
+        shown_names h.own.formals,
+        shown,
+        record {
+          process = k;
+          scoped = at.0;
+          located = at.1;
+          caller = site_in.scoped;
+          outside = outside_named k site.caller site_in.scoped site_in.located outer.outside;
+          call = called_at site k site_in;
+          named = refl;
+          exchanged = subst (IsExchanged (texts site.actuals)) own exchanged;
+          alone = λ other apart peer same. (
+              let (index, there, out) = outside_numbered k other apart in
+              let (i, called, number) = site_numbered one spec s a index k other there peer in
+              h.alone i (the_site index peer.callee peer.actuals, record { located = called; numbered = number; outside = out }, same ∙ sym own));
+          shown = ap shown_names own;
+        },
+      )
 
   -- a warning by name is one by number
   by_number : (w : Warning) → IsExchangeWarning spec w → IsExchangeOfAny s.processes (all_sites one spec s a) (numbers_of s) w
@@ -115,22 +119,24 @@ module _ (one : (scope : Scope) → IsDistinctScope scope → BindsOnce scope)
       let at = pair_of_first (processes_of spec) s.processes a.flat.processes h.process h.scoped h.located in
       let formals : at.0.formals ≡ own_gates h.scoped = at.2.formals in
       let (index, there, out) = outside_numbered h.process h.caller h.outside in
-      let (i, called, number) = site_numbered one spec s a index h.process h.caller there h.call in
-      (h.process, record {
-        own = at.0;
-        located = at.1;
-        index = i;
-        exchange = (
-          the_site index h.call.callee h.call.actuals,
-          record { located = called; numbered = number; outside = out },
-          subst (IsExchanged (texts h.call.actuals)) (sym formals) h.exchanged,
-          (let all = h.shown ∙ ap shown_names (sym formals) in let callee = h.named in cc),
-        );
-        alone = λ other (site, outer, same). (
-            let site_in = site_named one spec s a other h.process site outer.located outer.numbered in
-            h.alone site_in.scoped (outside_named h.process site.caller site_in.scoped site_in.located outer.outside)
-            (called_at site h.process site_in) (same ∙ formals));
-      })
+      let (i, called, number) = site_numbered one spec s a index h.process h.caller there h.call in (
+        h.process,
+        record {
+          own = at.0;
+          located = at.1;
+          index = i;
+          exchange = (
+            the_site index h.call.callee h.call.actuals,
+            record { located = called; numbered = number; outside = out },
+            subst (IsExchanged (texts h.call.actuals)) (sym formals) h.exchanged,
+            (let all = h.shown ∙ ap shown_names (sym formals) in let callee = h.named in cc),
+          );
+          alone = λ other (site, outer, same). (
+              let site_in = site_named one spec s a other h.process site outer.located outer.numbered in
+              h.alone site_in.scoped (outside_named h.process site.caller site_in.scoped site_in.located outer.outside)
+              (called_at site h.process site_in) (same ∙ formals));
+        },
+      )
 
   -- the warnings about calls in the system are those of the specification
   pub exchanges : (w : Warning) → IsExchangeOfAny s.processes (all_sites one spec s a) (numbers_of s) w ↔ IsExchangeWarning spec w

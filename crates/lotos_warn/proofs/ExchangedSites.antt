@@ -35,17 +35,20 @@ pub listed_all : (processes : List FlatProcess) (sites : List Site) (numbers mov
 listed_all processes sites numbers moved all w = (
   (λ (index, (k, at, h)). (k, h)),
   (λ (k, h). (
-    let (site, outer, exchanged, shown) = h.exchange in
-    let there = (all k).1 (h.index, record {
-      own = h.own;
-      located = h.located;
-      site = site;
-      called = outer.located;
-      numbered = outer.numbered;
-      exchanged = exchanged;
-    }) in
-    let at = in_get moved k there in
-    (at.0, (k, at.1, h)))),
+      let (site, outer, exchanged, shown) = h.exchange in
+      let there = (all k).1 (
+        h.index,
+        record {
+          own = h.own;
+          located = h.located;
+          site = site;
+          called = outer.located;
+          numbered = outer.numbered;
+          exchanged = exchanged;
+        },
+      ) in
+      let at = in_get moved k there in
+      (at.0, (k, at.1, h)))),
 )
 
 -- an index of the list is below its length
@@ -97,9 +100,11 @@ of_process processes sites numbers process own inside at same none w = (
     alone = λ other p. none other
         ((peer_as (λ k. In k inside) (IsReachedIn (from_process processes process)) same sites numbers process own.formals other).1 p);
   }),
-  (λ h. let e : h.own ≡ own = one_item processes process h.own own h.located at in
-    (h.index, (exchange_as (λ k. In k inside) (IsReachedIn (from_process processes process)) same sites numbers process own.formals h.index w).1
-    (subst (λ (p : FlatProcess). IsExchangeAt sites numbers (IsReachedIn (from_process processes process)) process p.formals h.index w) e h.exchange))),
+  (λ h. let e : h.own ≡ own = one_item processes process h.own own h.located at in (
+    h.index,
+    (exchange_as (λ k. In k inside) (IsReachedIn (from_process processes process)) same sites numbers process own.formals h.index w).1
+        (subst (λ (p : FlatProcess). IsExchangeAt sites numbers (IsReachedIn (from_process processes process)) process p.formals h.index w) e h.exchange),
+  )),
 )
 
 -- there are none if some call has them in their order

@@ -14,7 +14,8 @@ returns-then-ne c =
     (ap texts (drop_at c.args.gates.now i c.index-gates-index.result
     (get_or c.args.gates.now i c.index-gates-index.result) within refl))
     (drop_at c.args.names.now i _ c.index-names-index.result there c.index-names-index.is)
-    (names_differ (get_or c.args.gates.now i c.index-gates-index.result).name c.index-names-index.result c.ne.result c.ne.ensures c.if-ne.true) c.loop-index.invariant
+    (names_differ (get_or c.args.gates.now i c.index-gates-index.result).name c.index-names-index.result
+    c.ne.result c.ne.ensures c.if-ne.true) c.loop-index.invariant
 
 pub loop-index-preserved : goal.loop-index-preserved
 loop-index-preserved c =
@@ -25,4 +26,5 @@ loop-index-preserved c =
     (ap texts (drop_at c.args.gates.now i c.index-gates-index.result
     (get_or c.args.gates.now i c.index-gates-index.result) within refl))
     (drop_at c.args.names.now i _ c.index-names-index.result there c.index-names-index.is)
-    (names_same (get_or c.args.gates.now i c.index-gates-index.result).name c.index-names-index.result c.ne.result c.ne.ensures c.if-ne.false) c.loop-index.invariant
+    (names_same (get_or c.args.gates.now i c.index-gates-index.result).name c.index-names-index.result
+    c.ne.result c.ne.ensures c.if-ne.false) c.loop-index.invariant
