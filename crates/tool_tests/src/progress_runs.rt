@@ -1,5 +1,7 @@
 //! Long searches that report their progress.
 
+ghost use Rattle.lotos_command.specs.Request.{HasCompareBounds};
+
 use super::expected_output::{repeated, repeated_words};
 use super::memory_devices::{ArrayWriter, SliceReader};
 use super::runs::{RUN, Ran, Run, Taken, WHOLE};
@@ -441,7 +443,9 @@ fn after_observed(alloc: Global, question: &AfterRequest, counter: &mut Counter)
 }
 
 /// Compares the two systems that differ after A.
-fn compare_observed(alloc: Global, question: &CompareRequest, counter: &mut Counter) {
+fn compare_observed(alloc: Global, question: &CompareRequest, counter: &mut Counter)
+    requires { HasCompareBounds question.now }
+{
     let mut reader = FromRead::new(SliceReader::new(PARTING, 4096));
     let mut out = FromWrite::new(ArrayWriter::new(4096));
     let _ = answer(alloc, question, &mut reader, &mut out, counter);
