@@ -14,8 +14,10 @@ import os
 import random
 import select
 import signal
+import sys
 import time
 
+sys.dont_write_bytecode = True
 from link_under_test import LINKS, steps
 
 # How long a step takes.
