@@ -118,9 +118,10 @@ def main():
     return 0
 
 
-try:
-    sys.exit(main())
-except KeyboardInterrupt:
-    # Ends as a program does that this signal ends.
-    signal.signal(signal.SIGINT, signal.SIG_DFL)
-    os.kill(os.getpid(), signal.SIGINT)
+if __name__ == "__main__":
+    try:
+        sys.exit(main())
+    except KeyboardInterrupt:
+        # Ends as a program does that this signal ends.
+        signal.signal(signal.SIGINT, signal.SIG_DFL)
+        os.kill(os.getpid(), signal.SIGINT)
