@@ -31,6 +31,7 @@ install: build ## installs programs, manual page, completion and syntax files be
 	install -D -m 755 share/lotosseq-ask '$(BIN)/lotosseq-ask'
 	install -D -m 755 share/lotosseq-draw '$(BIN)/lotosseq-draw'
 	install -D -m 755 share/lotosseq-test '$(BIN)/lotosseq-test'
+	install -D -m 755 share/lotosseq-walk '$(BIN)/lotosseq-walk'
 	install -D -m 644 docs/lotosseq.1 '$(MAN)/lotosseq.1'
 	install -D -m 644 share/bash-completion/completions/lotosseq '$(COMPLETIONS)/lotosseq'
 	install -D -m 644 share/vim/vimfiles/ftdetect/lotos.vim '$(VIMFILES)/ftdetect/lotos.vim'
@@ -40,7 +41,7 @@ install: build ## installs programs, manual page, completion and syntax files be
 	install -D -m 644 share/vscode/syntaxes/lotos.tmLanguage.json '$(VSCODE)/syntaxes/lotos.tmLanguage.json'
 
 uninstall: ## removes what install has put there
-	rm -f '$(BIN)/lotosseq' '$(BIN)/lotosseq-chart' '$(BIN)/lotosseq-ask' '$(BIN)/lotosseq-draw' '$(BIN)/lotosseq-test'
+	rm -f '$(BIN)/lotosseq' '$(BIN)/lotosseq-chart' '$(BIN)/lotosseq-ask' '$(BIN)/lotosseq-draw' '$(BIN)/lotosseq-test' '$(BIN)/lotosseq-walk'
 	rm -f '$(MAN)/lotosseq.1' '$(COMPLETIONS)/lotosseq'
 	rm -f '$(VIMFILES)/ftdetect/lotos.vim' '$(VIMFILES)/syntax/lotos.vim'
 	rm -rf '$(BELOW)/share/lotosseq'
